@@ -1,0 +1,120 @@
+-- Laws of look-ups and of the tests for doubles, one turn of a loop each.
+use Prim.Native.Nat.{ℕ, zero, suc, _+_, _-_, _*_, _≤_, _<_}
+use mathlib.Core.Path.{_≡_, refl, ap, _∙_}
+use mathlib.Core.List.{List, [], _∷_, map}
+use mathlib.Core.Bool.{Bool, true, false, _||_}
+use mathlib.Core.Option.{some}
+use lib.ListN.{length, drop, take, getD, length-take, drop-of-length-le}
+use lib.Seq.{drop-cons, drop-drop, getD-take}
+use native.Mathlib.Numerals.{add-one}
+use native.Mathlib.Omega.{arith}
+use borrow.Author.Tests.{eq-eqb, ne-eqb}
+use Rattle.data.specs.declared.Zone.{Zone}
+use Rattle.wire.specs.Numbers.{number}
+use Rattle.book.specs.Book.{BookPoint, lookup, isSome, lookupPoint}
+use Rattle.book.specs.Answers.{items, pointOf, zoneOf, entrySegment, isNamed, indexFrom, pointSeen}
+use Rattle.book.specs.declared.Entry.{Entry}
+use Rattle.book.specs.declared.Found.{Found}
+use Rattle.book.specs.declared.PointFound.{PointFound}
+use Rattle.data.specs.Engine.{filled}
+
+pub or-true-left : (a b : Bool) → a ≡ true → (a || b) ≡ true
+or-true-left a b e = rw e
+
+pub or-false-left : (a b : Bool) → a ≡ false → (a || b) ≡ b
+or-false-left a b e = rw e
+
+-- the first n of the entries es, i of them behind
+module _ (n : ℕ) (es : List Entry) (d : Entry) where
+  pub entry-step : (i : ℕ) → i < n → n ≤ length es → drop i (take n es) ≡ getD es i d ∷ drop (i + 1) (take n es)
+  entry-step i h k =
+      let m : i < length (take n es) = rw length-take (omega arith) in
+      rw (add-one, drop-cons (take n es) i d m, getD-take n es i d h)
+
+  pub entry-end : (i : ℕ) → n ≤ i → drop i (take n es) ≡ []
+  entry-end i h = let m : length (take n es) ≤ i = rw length-take (omega arith) in drop-of-length-le (take n es) m
+
+-- one entry of a look-up
+module _ (c sp i : ℕ) (e : Entry) (es : List Entry) where
+  pub index-found : isNamed c sp e ≡ true → indexFrom c sp i (e ∷ es) ≡ Found.At i
+  index-found t = rw t
+
+  pub index-next : isNamed c sp e ≡ false → indexFrom c sp i (e ∷ es) ≡ indexFrom c sp (i + 1) es
+  index-next t = rw t
+
+-- an answer as a test
+abbrev pub isAt : Found → Bool
+isAt (Found.At i) = true
+isAt Found.Missing = false
+
+pub lookup-test : (s : List ℕ) (c sp i : ℕ) (es : List Entry) → isSome (lookup c sp (map (entrySegment s) es)) ≡ isAt (indexFrom c sp i es)
+lookup-test s c sp i [] = refl
+lookup-test s c sp i (e ∷ es) = go (isNamed c sp e) refl (lookup-test s c sp (i + 1) es)
+  where
+    go : (b : Bool) → isNamed c sp e ≡ b → isSome (lookup c sp (map (entrySegment s) es)) ≡ isAt (indexFrom c sp (i + 1) es)
+        → isSome (lookup c sp (map (entrySegment s) (e ∷ es))) ≡ isAt (indexFrom c sp i (e ∷ es))
+    go true t ih = rw t
+    go false t ih = rw t ih
+
+-- stepping on by k bytes
+pub after-past : (s : List ℕ) (p k : ℕ) → length s ≤ p → drop p s ≡ drop k (drop p s)
+after-past s p k h = let q : length s ≤ p + k = omega arith in rw (drop-drop, drop-of-length-le s h, drop-of-length-le s q)
+
+pub after-end : (s : List ℕ) (p k : ℕ) → length s - p < k → drop (length s) s ≡ drop k (drop p s)
+after-end s p k h = let q : length s ≤ p + k = omega arith in let r : length s ≤ length s = omega arith in rw (drop-drop, drop-of-length-le s q, drop-of-length-le s r)
+
+-- items, i of n behind
+module _ {A : Type 0} (v : List ℕ → A) (k n : ℕ) where
+  pub items-start : (l : List ℕ) → items v k n l ≡ items v k (n - 0) l
+  items-start l = let e : n - 0 ≡ n = omega arith in rw e
+
+  pub items-step : (i : ℕ) (l r : List ℕ) → i < n → r ≡ drop k l → items v k (n - i) l ≡ v l ∷ items v k (n - (i + 1)) r
+  items-step i l r h g = let e : n - i ≡ suc (n - (i + 1)) = omega arith in rw (e, g)
+
+  pub items-end : (i : ℕ) (l : List ℕ) → n ≤ i → items v k (n - i) l ≡ []
+  items-end i l h = let e : n - i ≡ 0 = omega arith in rw e
+
+-- the item of an index
+pub items-at : {A : Type 0} (v : List ℕ → A) (k : ℕ) (d : A) (n i : ℕ) (l : List ℕ) → i < n → getD (items v k n l) i d ≡ v (drop (k * i) l)
+items-at v k d zero i l h = absurd (omega arith)
+items-at v k d (suc n) zero l h = let e : k * 0 ≡ 0 = omega arith in rw e
+items-at v k d (suc n) (suc i) l h =
+    let e : k + k * i ≡ k * suc i = omega arith in
+    items-at v k d n i (drop k l) (omega arith) ∙ ap v (drop-drop (k * i) k l ∙ ap (λ (x : ℕ). drop x l) e)
+
+pub items-past : {A : Type 0} (v : List ℕ → A) (k : ℕ) (d : A) (n i : ℕ) (l : List ℕ) → n ≤ i → getD (items v k n l) i d ≡ d
+items-past v k d zero i l h = refl
+items-past v k d (suc n) zero l h = absurd (omega arith)
+items-past v k d (suc n) (suc i) l h = items-past v k d n i (drop k l) (omega arith)
+
+-- the names of a record's points
+pub names : (n : ℕ) (l : List ℕ) → map (λ (p : BookPoint). p .nidtp) (items pointOf 10 n l) ≡ items (number 4) 10 n l
+unfolding pointOf
+names zero l = refl
+names (suc n) l = ap (λ (x : List ℕ). number 4 l ∷ x) (names n (drop 10 l))
+
+-- one point of a look-up
+module _ (t : ℕ) (l : List ℕ) (ps : List BookPoint) where
+  pub name-found : number 4 l ≡ t → lookupPoint t (pointOf l ∷ ps) ≡ some (pointOf l)
+  unfolding pointOf
+  name-found e = rw (eq-eqb (number 4 l) t e)
+
+  pub name-next : (number 4 l ≡ t → ⊥) → lookupPoint t (pointOf l ∷ ps) ≡ lookupPoint t ps
+  unfolding pointOf
+  name-next e = rw (ne-eqb (number 4 l) t e)
+
+pub point-answer : (t : ℕ) (l : List ℕ) (x y : ℕ) → number 4 l ≡ t → x ≡ number 4 (drop 4 l) → y ≡ number 2 (drop 8 l) → pointSeen t (PointFound.Found x y) ≡ some (pointOf l)
+unfolding pointOf
+point-answer t l x y e a b = rw (a, b, ← e)
+
+pub zone-answer : (l : List ℕ) (x y : ℕ) → x ≡ number 4 l → y ≡ number 4 (drop 4 l) → _≡_ {A = Zone} (record { start = x; end = y }) (zoneOf l)
+unfolding zoneOf
+zone-answer l x y a b = rw (a, b)
+
+-- four elements, one by one
+pub filled-four : {A : Type 0} (d : A) (l : List A) → filled 4 d l ≡ getD l 0 d ∷ getD l 1 d ∷ getD l 2 d ∷ getD l 3 d ∷ []
+filled-four d [] = refl
+filled-four d (a ∷ []) = refl
+filled-four d (a ∷ b ∷ []) = refl
+filled-four d (a ∷ b ∷ c ∷ []) = refl
+filled-four d (a ∷ b ∷ c ∷ e ∷ l) = refl

@@ -1,0 +1,88 @@
+use Prim.Native.Nat.{ℕ, _-_, _<_, min}
+use denote.Ref.{now}
+use mathlib.Core.Path.{_≡_, refl, _∙_, sym, ap}
+use mathlib.Core.List.{map}
+use lib.ListN.{length, drop, getD, length-map}
+use native.Mathlib.Omega.{arith}
+use Rattle.book.specs.Book.{twice, pointTwice}
+use Rattle.book.specs.Answers.{entrySegment, entriesIn, segmentsIn, blankEntry}
+use Rattle.book.proofs.Entries.{entry-step, entry-end, names, or-true-left, or-false-left}
+use borrow.Author.Needs.{needs}
+use Rattle.book.proofs.point_twice.Statement.{statement}
+use Rattle.book.proofs.point_twice.Tie as tie
+
+abbrev Inv-loop : tie.InvT-loop
+Inv-loop s b n i₀ i = pointTwice (segmentsIn s b) ≡ pointTwice (map (entrySegment s) (drop i (entriesIn b)))
+
+abbrev μ-loop : tie.MeasureT-loop
+μ-loop s b n i₀ i = n - i
+
+count-of-requires : tie.Need-count-of-requires Inv-loop μ-loop
+count-of-requires c κs = search needs
+
+loop-holds : tie.Need-loop-holds Inv-loop μ-loop
+loop-holds c = refl
+
+mul-e : tie.Need-mul-e Inv-loop μ-loop
+mul-e c = search needs
+
+element-copy-out-e : tie.Need-element-copy-out-e Inv-loop μ-loop
+element-copy-out-e c = search needs
+
+add-i : tie.Need-add-i Inv-loop μ-loop
+add-i c = search needs
+
+name-twice-requires : tie.Need-name-twice-requires Inv-loop μ-loop
+name-twice-requires c κs = search needs
+
+returns : tie.Need-returns Inv-loop μ-loop
+returns c =
+    let a = c .before .before .before .before .before .before .before .args in
+    let b = a .t2 in
+    let i = c .before .before .before .before .loop .i in
+    let n : ℕ = min (b .count) 40 in
+    let long : length (b .entries) ≡ 40 = sym (length-map (b .entries) _) ∙ c .before .before .before .before .before .before .before .good .1 .0 .1 .1 .1 .1 .0 .1 .0 .1 in
+    let h : i < n = omega (arith, c .before .before .before .before .before .count-of .ensures) in
+    let e = getD (b .entries) i blankEntry in
+    let step = entry-step n (b .entries) blankEntry i h (omega arith) in
+    let same = ap twice (names (e .points) (drop (e .pointsat) (now (a .s)))) ∙ sym (c .before .name-twice .ensures) in
+    sym (c .before .before .before .before .loop .inv ∙ ap (λ l. pointTwice (map (entrySegment (now (a .s))) l)) step ∙ or-true-left _ _ (same ∙ c .if1 .taken))
+
+loop-less : tie.Need-loop-less Inv-loop μ-loop
+loop-less c = search needs
+
+loop-again : tie.Need-loop-again Inv-loop μ-loop
+loop-again c =
+    let a = c .before .before .before .before .before .before .before .args in
+    let b = a .t2 in
+    let i = c .before .before .before .before .loop .i in
+    let n : ℕ = min (b .count) 40 in
+    let long : length (b .entries) ≡ 40 = sym (length-map (b .entries) _) ∙ c .before .before .before .before .before .before .before .good .1 .0 .1 .1 .1 .1 .0 .1 .0 .1 in
+    let h : i < n = omega (arith, c .before .before .before .before .before .count-of .ensures) in
+    let e = getD (b .entries) i blankEntry in
+    let step = entry-step n (b .entries) blankEntry i h (omega arith) in
+    let same = ap twice (names (e .points) (drop (e .pointsat) (now (a .s)))) ∙ sym (c .before .name-twice .ensures) in
+    c .before .before .before .before .loop .inv ∙ ap (λ l. pointTwice (map (entrySegment (now (a .s))) l)) step ∙ or-false-left _ _ (same ∙ c .if1 .left)
+
+returns-2 : tie.Need-returns-2 Inv-loop μ-loop
+returns-2 c =
+    let a = c .before .before .before .before .args in
+    let b = a .t2 in
+    sym (c .before .loop .inv ∙ ap (λ l. pointTwice (map (entrySegment (now (a .s))) l)) (entry-end (min (b .count) 40) (b .entries) blankEntry (c .before .loop .i) (omega (arith, c .before .before .count-of .ensures))))
+
+pub point-twice-spec : {M : Type 1} → statement M
+point-twice-spec =
+    tie.close
+    (tie.spec
+    Inv-loop
+    μ-loop
+    count-of-requires
+    loop-holds
+    mul-e
+    element-copy-out-e
+    add-i
+    name-twice-requires
+    returns
+    loop-less
+    loop-again
+    returns-2)

@@ -1,0 +1,85 @@
+use denote.Ref.{now}
+use mathlib.Core.Path.{_∙_, sym, ap}
+use native.Mathlib.Omega.{arith}
+use Rattle.wire.specs.Parse.{fieldSeen}
+use Rattle.wire.specs.ParseLaws.{field-inv}
+use Rattle.book.specs.Parts.{extent, endsSeen}
+use Rattle.book.proofs.Reading.{most-small}
+use borrow.Author.Needs.{needs}
+use Rattle.book.proofs.read_items.Statement.{statement}
+use Rattle.book.proofs.read_items.Tie as tie
+
+most-of-requires : tie.Need-most-of-requires
+most-of-requires c κs = search needs
+
+read-field-requires : tie.Need-read-field-requires
+read-field-requires c κs = search needs
+
+enum-known-n : tie.Need-enum-known-n
+enum-known-n c = search needs
+
+enum-told : tie.Need-enum-told
+enum-told c = search needs
+
+returns : tie.Need-returns
+unfolding extent
+returns c =
+    let a = c .before .before .before .before .before .before .args in
+    let s = now (a .s) in
+    let e1 = sym (c .before .before .read-field .ensures) ∙ ap (fieldSeen s) (c .enum-told .given .1) in
+    rw (c .before .before .before .before .if1 .taken, ← c .before .before .before .most-of .ensures, e1)
+
+items-end-requires : tie.Need-items-end-requires
+items-end-requires c κs = search needs
+
+enum-known-next : tie.Need-enum-known-next
+enum-known-next c = search needs
+
+enum-told-2 : tie.Need-enum-told-2
+enum-told-2 c = search needs
+
+returns-2 : tie.Need-returns-2
+unfolding extent
+returns-2 c =
+    let a = c .before .before .before .before .before .before .before .before .before .before .args in
+    let s = now (a .s) in
+    let e1 = sym (c .before .before .before .before .before .before .read-field .ensures) ∙ ap (fieldSeen s) (c .before .before .before .before .n .given .1) in
+    let e2 = sym (c .before .before .items-end .ensures) ∙ ap (endsSeen s) (c .enum-told2 .given .1) in
+    rw (c .before .before .before .before .before .before .before .before .if1 .taken, ← c .before .before .before .before .before .before .before .most-of .ensures, e1, e2)
+
+cast-t15 : tie.Need-cast-t15
+cast-t15 c =
+    let a = c .before .before .before .before .before .before .before .before .before .before .before .args in
+    let s = now (a .s) in
+    let t = field-inv _ _ _ _ _ _ (sym (c .before .before .before .before .before .before .before .read-field .ensures) ∙ ap (fieldSeen s) (c .before .before .before .before .before .n .given .1)) in
+    omega (arith, t .most, c .before .before .before .before .before .before .before .before .most-of .ensures, most-small (a .kind))
+
+returns-3 : tie.Need-returns-3
+unfolding extent
+returns-3 c =
+    let a = c .before .before .before .before .before .before .before .before .before .before .before .args in
+    let s = now (a .s) in
+    let e1 = sym (c .before .before .before .before .before .before .before .read-field .ensures) ∙ ap (fieldSeen s) (c .before .before .before .before .before .n .given .1) in
+    let e2 = sym (c .before .before .before .items-end .ensures) ∙ ap (endsSeen s) (c .before .next .given .1) in
+    rw (c .before .before .before .before .before .before .before .before .before .if1 .taken, ← c .before .before .before .before .before .before .before .before .most-of .ensures, e1, e2)
+
+returns-4 : tie.Need-returns-4
+unfolding extent
+returns-4 c = rw (c .if1 .left)
+
+pub read-items-spec : {M : Type 1} → statement M
+read-items-spec =
+    tie.close
+    (tie.spec
+    most-of-requires
+    read-field-requires
+    enum-known-n
+    enum-told
+    returns
+    items-end-requires
+    enum-known-next
+    enum-told-2
+    returns-2
+    cast-t15
+    returns-3
+    returns-4)

@@ -1,0 +1,103 @@
+use Prim.Native.Nat.{_+_, _≤_, _-_}
+use denote.Ref.{now}
+use mathlib.Core.Path.{_≡_, _∙_, sym, ap}
+use mathlib.Core.List.{List, []}
+use mathlib.Core.Bool.{false≢true}
+use mathlib.Core.Logic.{⊎-elim}
+use lib.ListN.{length, set}
+use lib.Seq.{set-out}
+use native.Mathlib.Omega.{arith}
+use Rattle.book.specs.Book.{BookSegment}
+use Rattle.book.specs.Answers.{entrySegment}
+use Rattle.book.specs.Parts.{segmentSeen, ReadTo}
+use Rattle.book.proofs.Whole.{closer, read-start, read-step, read-bad, read-end}
+use borrow.Author.Needs.{needs}
+use Rattle.book.proofs.read_records.Statement.{statement}
+use Rattle.book.proofs.read_records.Tie as tie
+
+abbrev Inv-loop : tie.InvT-loop
+Inv-loop s first₀ at₀ n₀ first at n = (n + (length s - at) ≤ length s) × (gs : List BookSegment) × ReadTo s at n first gs
+
+abbrev μ-loop : tie.MeasureT-loop
+μ-loop s first₀ at₀ n₀ first at n = length s - at
+
+blank-entry-requires : tie.Need-blank-entry-requires Inv-loop μ-loop
+blank-entry-requires c κs = search needs
+
+loop-holds : tie.Need-loop-holds Inv-loop μ-loop
+loop-holds c = (omega arith, [], read-start (now (c .before .before .args .s)) _ (rw (c .blank-entry .ensures)))
+
+read-segment-requires : tie.Need-read-segment-requires Inv-loop μ-loop
+read-segment-requires c κs = search needs
+
+enum-known-e : tie.Need-enum-known-e Inv-loop μ-loop
+enum-known-e c = search needs
+
+enum-told : tie.Need-enum-told Inv-loop μ-loop
+enum-told c = search needs
+
+returns : tie.Need-returns Inv-loop μ-loop
+returns c =
+    let s = now (c .before .before .before .before .before .before .before .args .s) in
+    let w = c .before .before .before .before .loop in
+    let h = sym (c .before .before .read-segment .ensures) ∙ ap (segmentSeen s) (c .enum-told .given .1) in
+    record { bad = λ z. read-bad s (w .at) (w .n) (w .first) (w .inv .1) (w .inv .2) (c .before .before .before .loop-test .taken) h; good = λ z. absurd (false≢true z) }
+
+mul-first : tie.Need-mul-first Inv-loop μ-loop
+mul-first c = search needs
+
+array-set-from-first : tie.Need-array-set-from-first Inv-loop μ-loop
+array-set-from-first c = search needs
+
+add-n : tie.Need-add-n Inv-loop μ-loop
+add-n c =
+    let s = now (c .before .before .before .before .before .before .before .before .before .args .s) in
+    let w = c .before .before .before .before .before .before .loop in
+    let v = c .before .before .e .given in
+    let h = sym (c .before .before .before .before .read-segment .ensures) ∙ ap (segmentSeen s) (v .1) in
+    let near = closer s (w .at) (v .0 .1 .0) (entrySegment s (v .0 .0)) h in
+    omega arith
+
+loop-less : tie.Need-loop-less Inv-loop μ-loop
+loop-less c =
+    let s = now (c .before .before .before .before .before .before .before .before .before .args .s) in
+    let w = c .before .before .before .before .before .before .loop in
+    let v = c .before .before .e .given in
+    let h = sym (c .before .before .before .before .read-segment .ensures) ∙ ap (segmentSeen s) (v .1) in
+    let near = closer s (w .at) (v .0 .1 .0) (entrySegment s (v .0 .0)) h in
+    omega arith
+
+loop-again : tie.Need-loop-again Inv-loop μ-loop
+loop-again c =
+    let s = now (c .before .before .before .before .before .before .before .before .before .args .s) in
+    let w = c .before .before .before .before .before .before .loop in
+    let v = c .before .before .e .given in
+    let h = sym (c .before .before .before .before .read-segment .ensures) ∙ ap (segmentSeen s) (v .1) in
+    let near = closer s (w .at) (v .0 .1 .0) (entrySegment s (v .0 .0)) h in
+    let kept : c .if1 .first ≡ set (w .first) (w .n) (v .0 .0) = ⊎-elim (λ x. x .1) (λ x. x .1 ∙ sym (set-out (w .first) (w .n) (v .0 .0) (omega (arith, w .inv .2 .size, x .0 .left)))) (c .if1 .came) in
+    (omega arith, _, read-step s (w .at) (w .n) (w .first) (c .if1 .first) (w .inv .1) (v .0 .0) (v .0 .1 .0) (w .inv .2) h kept)
+
+returns-2 : tie.Need-returns-2 Inv-loop μ-loop
+returns-2 c =
+    let s = now (c .before .before .before .before .args .s) in
+    let w = c .before .loop in
+    record { bad = λ z. absurd (false≢true (sym z)); good = λ z. (w .inv .1, read-end s (w .at) (w .n) (w .first) (w .inv .1) (w .inv .2) (c .loop-test .left)) }
+
+pub read-records-spec : {M : Type 1} → statement M
+read-records-spec =
+    tie.close
+    (tie.spec
+    Inv-loop
+    μ-loop
+    blank-entry-requires
+    loop-holds
+    read-segment-requires
+    enum-known-e
+    enum-told
+    returns
+    mul-first
+    array-set-from-first
+    add-n
+    loop-less
+    loop-again
+    returns-2)

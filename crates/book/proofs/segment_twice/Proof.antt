@@ -1,0 +1,84 @@
+use Prim.Native.Nat.{ℕ, _-_, _<_, min}
+use mathlib.Core.Path.{_≡_, refl, _∙_, sym, ap}
+use mathlib.Core.List.{List, map}
+use lib.ListN.{length, drop, getD, length-map}
+use native.Mathlib.Omega.{arith}
+use Rattle.book.specs.Book.{segmentTwice}
+use Rattle.book.specs.Answers.{entrySegment, entriesIn, segmentsIn, blankEntry}
+use Rattle.book.proofs.Entries.{entry-step, entry-end, or-true-left, or-false-left}
+use borrow.Author.Needs.{needs}
+use Rattle.book.proofs.segment_twice.Statement.{statement}
+use Rattle.book.proofs.segment_twice.Tie as tie
+
+abbrev Inv-loop : tie.InvT-loop
+Inv-loop b n i₀ i = (s : List ℕ) → segmentTwice (segmentsIn s b) ≡ segmentTwice (map (entrySegment s) (drop i (entriesIn b)))
+
+abbrev μ-loop : tie.MeasureT-loop
+μ-loop b n i₀ i = n - i
+
+count-of-requires : tie.Need-count-of-requires Inv-loop μ-loop
+count-of-requires c κs = search needs
+
+loop-holds : tie.Need-loop-holds Inv-loop μ-loop
+loop-holds c = λ s. refl
+
+mul-e : tie.Need-mul-e Inv-loop μ-loop
+mul-e c = search needs
+
+element-copy-out-e : tie.Need-element-copy-out-e Inv-loop μ-loop
+element-copy-out-e c = search needs
+
+add-i : tie.Need-add-i Inv-loop μ-loop
+add-i c = search needs
+
+has-from-requires : tie.Need-has-from-requires Inv-loop μ-loop
+has-from-requires c κs = search needs
+
+returns : tie.Need-returns Inv-loop μ-loop
+returns c =
+    let a = c .before .before .before .before .before .before .args in
+    let b = a .t1 in
+    let i = c .before .before .before .before .loop .i in
+    let n : ℕ = min (b .count) 40 in
+    let long : length (b .entries) ≡ 40 = sym (length-map (b .entries) _) ∙ c .before .before .before .before .before .before .good .0 .1 .1 .1 .1 .0 .1 .0 .1 in
+    let h : i < n = omega (arith, c .before .before .before .before .before .count-of .ensures) in
+    let e = getD (b .entries) i blankEntry in
+    let step = entry-step n (b .entries) blankEntry i h (omega arith) in
+    λ s. sym (c .before .before .before .before .loop .inv s ∙ ap (λ l. segmentTwice (map (entrySegment s) l)) step ∙ or-true-left _ _ (sym (c .before .has-from .ensures s) ∙ c .if1 .taken))
+
+loop-less : tie.Need-loop-less Inv-loop μ-loop
+loop-less c = search needs
+
+loop-again : tie.Need-loop-again Inv-loop μ-loop
+loop-again c =
+    let a = c .before .before .before .before .before .before .args in
+    let b = a .t1 in
+    let i = c .before .before .before .before .loop .i in
+    let n : ℕ = min (b .count) 40 in
+    let long : length (b .entries) ≡ 40 = sym (length-map (b .entries) _) ∙ c .before .before .before .before .before .before .good .0 .1 .1 .1 .1 .0 .1 .0 .1 in
+    let h : i < n = omega (arith, c .before .before .before .before .before .count-of .ensures) in
+    let e = getD (b .entries) i blankEntry in
+    let step = entry-step n (b .entries) blankEntry i h (omega arith) in
+    λ s. c .before .before .before .before .loop .inv s ∙ ap (λ l. segmentTwice (map (entrySegment s) l)) step ∙ or-false-left _ _ (sym (c .before .has-from .ensures s) ∙ c .if1 .left)
+
+returns-2 : tie.Need-returns-2 Inv-loop μ-loop
+returns-2 c =
+    let b = c .before .before .before .args .t1 in
+    λ s. sym (c .before .loop .inv s ∙ ap (λ l. segmentTwice (map (entrySegment s) l)) (entry-end (min (b .count) 40) (b .entries) blankEntry (c .before .loop .i) (omega (arith, c .before .before .count-of .ensures))))
+
+pub segment-twice-spec : {M : Type 1} → statement M
+segment-twice-spec =
+    tie.close
+    (tie.spec
+    Inv-loop
+    μ-loop
+    count-of-requires
+    loop-holds
+    mul-e
+    element-copy-out-e
+    add-i
+    has-from-requires
+    returns
+    loop-less
+    loop-again
+    returns-2)

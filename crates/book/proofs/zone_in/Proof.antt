@@ -1,0 +1,52 @@
+use Prim.Native.Nat.{_*_}
+use denote.Ref.{now}
+use mathlib.Core.Path.{_∙_, sym, ap}
+use lib.ListN.{drop}
+use Rattle.data.specs.Engine.{blankZone}
+use Rattle.wire.specs.Numbers.{number}
+use Rattle.book.specs.Answers.{zoneOf, zoneIn}
+use Rattle.book.proofs.Entries.{items-at, items-past, zone-answer}
+use borrow.Author.Needs.{needs}
+use Rattle.book.proofs.zone_in.Statement.{statement}
+use Rattle.book.proofs.zone_in.Tie as tie
+
+mul-after : tie.Need-mul-after
+mul-after c = search needs
+
+after-requires : tie.Need-after-requires
+after-requires c κs = search needs
+
+after-requires-2 : tie.Need-after-requires-2
+after-requires-2 c κs = search needs
+
+be32-requires : tie.Need-be32-requires
+be32-requires c κs = search needs
+
+be32-requires-2 : tie.Need-be32-requires-2
+be32-requires-2 c κs = search needs
+
+returns : tie.Need-returns
+unfolding zoneIn
+returns c =
+    let a = c .before .before .before .before .before .before .before .args in
+    let l = drop (a .e .zonesat) (now (a .s)) in
+    zone-answer (drop (8 * a .k) l) _ _ (c .before .be32 .ensures ∙ ap (number 4) (c .before .before .before .after .ensures)) (c .be322 .ensures ∙ ap (number 4) (c .before .before .after2 .ensures ∙ ap (drop 4) (c .before .before .before .after .ensures)))
+    ∙ sym (items-at zoneOf 8 blankZone (a .e .zones) (a .k) l (c .before .before .before .before .if1 .taken))
+
+returns-2 : tie.Need-returns-2
+unfolding zoneIn
+returns-2 c =
+    let a = c .before .before .before .args in
+    sym (items-past zoneOf 8 blankZone (a .e .zones) (a .k) (drop (a .e .zonesat) (now (a .s))) (c .if1 .left))
+
+pub zone-in-spec : {M : Type 1} → statement M
+zone-in-spec =
+    tie.close
+    (tie.spec
+    mul-after
+    after-requires
+    after-requires-2
+    be32-requires
+    be32-requires-2
+    returns
+    returns-2)

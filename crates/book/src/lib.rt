@@ -1,0 +1,466 @@
+// Books: segment records end to end, read and checked (7, 8), and look-ups in them.
+use data::Zone;
+use wire::Field;
+use wire::Width;
+use wire::read_field;
+ghost use mathlib.Core.Path.{_≡_};
+ghost use mathlib.Core.List.{List, map};
+ghost use Prim.Native.Nat.{ℕ, min};
+ghost use lib.ListN.{drop};
+ghost use Rattle.wire.specs.Numbers.{number};
+ghost use Rattle.book.specs.Book.{segmentRecord, among, twice, lookup, lookupPoint, isSome, segmentTwice, pointTwice};
+ghost use Rattle.book.specs.Answers.{items, entrySegment, segmentsIn, blankEntry, entriesIn, isNamed, indexFrom, pointSeen, zoneIn, zonesOf, BookRead};
+ghost use Rattle.book.specs.Parts.{item, most, skip, extent, endsSeen, itemsSeen, segmentSeen, RecordsRead, refusedBook};
+
+// A segment record that was read: its numbers, and where its lists stand in the book's bytes.
+pub struct Entry {
+    pub nidc: u16,
+    pub nidsp: u32,
+    pub length: u32,
+    pub points: u8,
+    pub pointsat: usize,
+    pub zones: u8,
+    pub zonesat: usize,
+}
+
+// The records of a book in their order; number is 0, or that of the row that refuses.
+pub struct Book {
+    pub number: u8,
+    pub count: u8,
+    pub entries: [Entry; 40],
+}
+
+// The index of an entry.
+pub enum Found {
+    At(usize),
+    Missing,
+}
+
+pub enum PointFound {
+    Found { place: u32, reach: u16 },
+    Missing,
+}
+
+// The inhibition zones of a record; those beyond the count are blank.
+pub struct Zones {
+    pub count: u8,
+    pub zones: [Zone; 4],
+}
+
+// The lists of a record.
+enum Kind {
+    Points,
+    Zones,
+}
+
+// The position behind what was read.
+enum Ends {
+    At(usize),
+    Bad,
+}
+
+// How many items a list has, where the first stands, and the position behind the last.
+enum Items {
+    Read(u8, usize, usize),
+    Bad,
+}
+
+// A record and the position behind it.
+enum SegmentRead {
+    Record(Entry, usize),
+    Bad,
+}
+
+// One pass over a book: whether it is records to its end, how many, and the first 40.
+struct Records {
+    whole: bool,
+    count: usize,
+    first: [Entry; 40],
+}
+
+// The position behind a point whose fields are in their ranges.
+fn point_end(s: &[u8], at: usize, length: u32) -> Ends
+    ensures { λ r. ⌜ endsSeen (now (s .entry)) r ≡ item Kind.Points length (drop at (now (s .entry))) ⌝ }
+{
+    let Field::Value(_, a) = read_field(s, at, Width::Four, 0, 4294967294) else {
+        return Ends::Bad;
+    };
+    let Field::Value(_, b) = read_field(s, a, Width::Four, 0, length) else {
+        return Ends::Bad;
+    };
+    let Field::Value(_, next) = read_field(s, b, Width::Two, 0, 10000) else {
+        return Ends::Bad;
+    };
+    Ends::At(next)
+}
+
+// The position behind a zone whose ends are in their ranges.
+fn zone_end(s: &[u8], at: usize, length: u32) -> Ends
+    ensures { λ r. ⌜ endsSeen (now (s .entry)) r ≡ item Kind.Zones length (drop at (now (s .entry))) ⌝ }
+{
+    let Field::Value(start, a) = read_field(s, at, Width::Four, 0, length) else {
+        return Ends::Bad;
+    };
+    let Field::Value(_, next) = read_field(s, a, Width::Four, start, length) else {
+        return Ends::Bad;
+    };
+    Ends::At(next)
+}
+
+fn item_end(s: &[u8], at: usize, kind: Kind, length: u32) -> Ends
+    ensures { λ r. ⌜ endsSeen (now (s .entry)) r ≡ item kind length (drop at (now (s .entry))) ⌝ }
+{
+    match kind {
+        Kind::Points => point_end(s, at, length),
+        Kind::Zones => zone_end(s, at, length),
+    }
+}
+
+// The position behind n items.
+fn items_end(s: &[u8], at: usize, n: u32, kind: Kind, length: u32) -> Ends
+    ensures { λ r. ⌜ endsSeen (now (s .entry)) r ≡ skip n (item kind length) (drop at (now (s .entry))) ⌝ }
+{
+    let mut p = at;
+    let mut i: u32 = 0;
+    while i < n {
+        let Ends::At(next) = item_end(s, p, kind, length) else {
+            return Ends::Bad;
+        };
+        p = next;
+        i += 1;
+    }
+    Ends::At(p)
+}
+
+// The most items that a list has.
+fn most_of(kind: Kind) -> u32
+    ensures { λ r. ⌜ r ≡ most kind ⌝ }
+{
+    match kind {
+        Kind::Points => 16,
+        Kind::Zones => 4,
+    }
+}
+
+// A list that stands only where its bit does.
+fn read_items(s: &[u8], at: usize, present: bool, kind: Kind, length: u32) -> Items
+    ensures { λ r. ⌜ itemsSeen (now (s .entry)) r ≡ extent present (most kind) (item kind length) (drop at (now (s .entry))) ⌝ }
+{
+    if present {
+        let high = most_of(kind);
+        let Field::Value(n, p) = read_field(s, at, Width::One, 1, high) else {
+            return Items::Bad;
+        };
+        let Ends::At(next) = items_end(s, p, n, kind, length) else {
+            return Items::Bad;
+        };
+        Items::Read(n as u8, p, next)
+    } else {
+        Items::Read(0, at, at)
+    }
+}
+
+fn read_segment(s: &[u8], at: usize) -> SegmentRead
+    ensures { λ r. ⌜ segmentSeen (now (s .entry)) r ≡ segmentRecord (drop at (now (s .entry))) ⌝ }
+{
+    let Field::Value(map, a) = read_field(s, at, Width::One, 0, 31) else {
+        return SegmentRead::Bad;
+    };
+    if map % 8 != 7 {
+        return SegmentRead::Bad;
+    }
+    let Field::Value(nidc, b) = read_field(s, a, Width::Two, 0, 1023) else {
+        return SegmentRead::Bad;
+    };
+    let Field::Value(nidsp, d) = read_field(s, b, Width::Four, 0, 4294967295) else {
+        return SegmentRead::Bad;
+    };
+    let Field::Value(length, p) = read_field(s, d, Width::Four, 1, 16777214) else {
+        return SegmentRead::Bad;
+    };
+    let Items::Read(points, pointsat, z) = read_items(s, p, map / 8 % 2 == 1, Kind::Points, length)
+    else {
+        return SegmentRead::Bad;
+    };
+    let Items::Read(zones, zonesat, next) = read_items(s, z, map / 16 % 2 == 1, Kind::Zones, length)
+    else {
+        return SegmentRead::Bad;
+    };
+    SegmentRead::Record(
+        Entry {
+            nidc: nidc as u16,
+            nidsp: nidsp,
+            length: length,
+            points: points,
+            pointsat: pointsat,
+            zones: zones,
+            zonesat: zonesat,
+        },
+        next,
+    )
+}
+
+fn blank_entry() -> Entry
+    ensures { λ r. ⌜ r ≡ blankEntry ⌝ }
+{
+    Entry {
+        nidc: 0,
+        nidsp: 0,
+        length: 0,
+        points: 0,
+        pointsat: 0,
+        zones: 0,
+        zonesat: 0,
+    }
+}
+
+// Each record of the book, also beyond the 40th; the first 40 are kept.
+fn read_records(s: &[u8]) -> Records
+    ensures { λ r. ⌜ RecordsRead (now (s .entry)) r ⌝ }
+{
+    let blank = blank_entry();
+    let mut first = [blank; 40];
+    let mut at: usize = 0;
+    let mut n: usize = 0;
+    while at < s.len() {
+        let SegmentRead::Record(e, next) = read_segment(s, at) else {
+            return Records {
+                whole: false,
+                count: n,
+                first: first,
+            };
+        };
+        if n < 40 {
+            first[n] = e;
+        }
+        at = next;
+        n += 1;
+    }
+    Records {
+        whole: true,
+        count: n,
+        first: first,
+    }
+}
+
+// How many entries there are, whatever the count says.
+fn count_of(count: u8) -> usize
+    ensures { λ r. ⌜ r ≡ min count 40 ⌝ }
+{
+    let n = count as usize;
+    if n < 40 { n } else { 40 }
+}
+
+fn is_named(e: Entry, nidc: u16, nidsp: u32) -> bool
+    ensures { λ r. ⌜ r ≡ isNamed nidc nidsp e ⌝ }
+{
+    if e.nidc == nidc {
+        e.nidsp == nidsp
+    } else {
+        false
+    }
+}
+
+// The first entry from an index on that has the name.
+fn find_from(b: Book, from: usize, nidc: u16, nidsp: u32) -> Found
+    ensures { λ r. ⌜ r ≡ indexFrom nidc nidsp from (drop from (entriesIn b)) ⌝ }
+{
+    let n = count_of(b.count);
+    let mut i = from;
+    while i < n {
+        let e = b.entries[i];
+        if is_named(e, nidc, nidsp) {
+            return Found::At(i);
+        }
+        i += 1;
+    }
+    Found::Missing
+}
+
+// The entry of a segment, which NID_C and NID_SP name together.
+pub fn find_segment(b: Book, nidc: u16, nidsp: u32) -> Found
+    ensures { λ r. ⌜ r ≡ indexFrom nidc nidsp 0 (entriesIn b) ⌝ }
+{
+    find_from(b, 0, nidc, nidsp)
+}
+
+fn has_from(b: Book, from: usize, nidc: u16, nidsp: u32) -> bool
+    ensures { λ r. ⌜ ((s : List ℕ) → r ≡ isSome (lookup nidc nidsp (map (entrySegment s) (drop from (entriesIn b))))) ⌝ }
+{
+    match find_from(b, from, nidc, nidsp) {
+        Found::At(_) => true,
+        Found::Missing => false,
+    }
+}
+
+// Two entries have one name.
+fn segment_twice(b: Book) -> bool
+    ensures { λ r. ⌜ ((s : List ℕ) → r ≡ segmentTwice (segmentsIn s b)) ⌝ }
+{
+    let n = count_of(b.count);
+    let mut i: usize = 0;
+    while i < n {
+        let e = b.entries[i];
+        i += 1;
+        if has_from(b, i, e.nidc, e.nidsp) {
+            return true;
+        }
+    }
+    false
+}
+
+// The position k bytes further on, at most the end.
+fn after(s: &[u8], p: usize, k: usize) -> usize
+    ensures { λ r. ⌜ drop r (now (s .entry)) ≡ drop k (drop p (now (s .entry))) ⌝ }
+{
+    if s.len() <= p {
+        return p;
+    }
+    if s.len() - p < k {
+        return s.len();
+    }
+    p + k
+}
+
+// A name is among those of n points.
+fn has_name(s: &[u8], at: usize, n: u8, nidtp: u32) -> bool
+    ensures { λ r. ⌜ r ≡ among nidtp (items (number 4) 10 n (drop at (now (s .entry)))) ⌝ }
+{
+    let mut p = at;
+    let mut i: u8 = 0;
+    while i < n {
+        if wire::be32(s, p) == nidtp {
+            return true;
+        }
+        p = after(s, p, 10);
+        i += 1;
+    }
+    false
+}
+
+// Two of n points have one name.
+fn name_twice(s: &[u8], at: usize, n: u8) -> bool
+    ensures { λ r. ⌜ r ≡ twice (items (number 4) 10 n (drop at (now (s .entry)))) ⌝ }
+{
+    let mut p = at;
+    let mut i: u8 = 0;
+    while i < n {
+        let nidtp = wire::be32(s, p);
+        p = after(s, p, 10);
+        i += 1;
+        if has_name(s, p, n - i, nidtp) {
+            return true;
+        }
+    }
+    false
+}
+
+// In one record two points have one name.
+fn point_twice(s: &[u8], b: Book) -> bool
+    ensures { λ r. ⌜ r ≡ pointTwice (segmentsIn (now (s .entry)) b) ⌝ }
+{
+    let n = count_of(b.count);
+    let mut i: usize = 0;
+    while i < n {
+        let e = b.entries[i];
+        i += 1;
+        if name_twice(s, e.pointsat, e.points) {
+            return true;
+        }
+    }
+    false
+}
+
+fn refused(number: u8) -> Book
+    ensures { λ r. ⌜ r ≡ refusedBook number ⌝ }
+{
+    let blank = blank_entry();
+    let entries = [blank; 40];
+    Book {
+        number: number,
+        count: 0,
+        entries: entries,
+    }
+}
+
+// The whole book: 7 for every record comes before 8.
+pub fn read_book(s: &[u8]) -> Book
+    ensures { λ r. ⌜ BookRead (now (s .entry)) r ⌝ }
+{
+    let all = read_records(s);
+    let whole = all.whole;
+    if !whole {
+        return refused(7);
+    }
+    let n = all.count;
+    if 40 < n {
+        return refused(8);
+    }
+    let entries = all.first;
+    let book = Book {
+        number: 0,
+        count: n as u8,
+        entries: entries,
+    };
+    if segment_twice(book) {
+        return refused(8);
+    }
+    if point_twice(s, book) {
+        return refused(8);
+    }
+    book
+}
+
+// Place and reached distance of a record's point.
+pub fn find_point(s: &[u8], e: Entry, nidtp: u32) -> PointFound
+    ensures { λ r. ⌜ pointSeen nidtp r ≡ lookupPoint nidtp (entrySegment (now (s .entry)) e .points) ⌝ }
+{
+    let n = e.points;
+    let mut p = e.pointsat;
+    let mut i: u8 = 0;
+    while i < n {
+        if wire::be32(s, p) == nidtp {
+            let a = after(s, p, 4);
+            let b = after(s, p, 8);
+            return PointFound::Found {
+                place: wire::be32(s, a),
+                reach: wire::be16(s, b),
+            };
+        }
+        p = after(s, p, 10);
+        i += 1;
+    }
+    PointFound::Missing
+}
+
+// The zone of an index, blank where the record has none.
+fn zone_in(s: &[u8], e: Entry, k: u8) -> Zone
+    ensures { λ r. ⌜ r ≡ zoneIn (now (s .entry)) e k ⌝ }
+{
+    if k < e.zones {
+        let a = after(s, e.zonesat, 8 * (k as usize));
+        let b = after(s, a, 4);
+        Zone {
+            start: wire::be32(s, a),
+            end: wire::be32(s, b),
+        }
+    } else {
+        Zone { start: 0, end: 0 }
+    }
+}
+
+// The first four zones of a record; one that was read has no more.
+pub fn zones_of(s: &[u8], e: Entry) -> Zones
+    ensures { λ r. ⌜ r ≡ zonesOf (now (s .entry)) e ⌝ }
+{
+    let a = zone_in(s, e, 0);
+    let b = zone_in(s, e, 1);
+    let c = zone_in(s, e, 2);
+    let d = zone_in(s, e, 3);
+    let n = e.zones;
+    let zones = [a, b, c, d];
+    Zones {
+        count: if n < 4 { n } else { 4 },
+        zones: zones,
+    }
+}

@@ -1,0 +1,3 @@
+mod Laws
+pub mod Engaged
+pub mod Requests

@@ -1,0 +1,41 @@
+use mathlib.Core.Path.{_∙_}
+use mathlib.Core.Path.{ap₂}
+use Rattle.control.specs.States.{settled}
+use Rattle.control.specs.Settled.{controlOf, controlAfter}
+use Rattle.control.proofs.Laws.{control-is}
+use borrow.Author.Needs.{needs}
+use Rattle.control.proofs.settle.Statement.{statement}
+use Rattle.control.proofs.settle.Tie as tie
+
+values-in-requires : tie.Need-values-in-requires
+values-in-requires c κs = search needs
+
+machine-in-requires : tie.Need-machine-in-requires
+machine-in-requires c κs = search needs
+
+settled-requires : tie.Need-settled-requires
+settled-requires c κs = search needs
+
+given-requires : tie.Need-given-requires
+given-requires c κs = search needs
+
+code-of-requires : tie.Need-code-of-requires
+code-of-requires c κs = search needs
+
+returns : tie.Need-returns
+unfolding controlAfter
+returns c =
+    let c₀ = c .before .before .before .before .before .before .args .e .control in
+    control-is c₀ (c .before .before .before .before .values-in .result) (c .before .before .settled .result) _ _ (c .code-of .ensures .0) (c .before .given .ensures)
+    ∙ ap₂ (controlOf c₀) (c .before .before .before .before .values-in .ensures) (c .before .before .settled .ensures ∙ ap₂ (λ m v. settled m (c .before .before .before .before .before .before .args .event) (c .before .before .before .before .before .before .args .reached) v) (c .before .before .before .machine-in .ensures) (c .before .before .before .before .values-in .ensures))
+
+pub settle-spec : {M : Type 1} → statement M
+settle-spec =
+    tie.close
+    (tie.spec
+    values-in-requires
+    machine-in-requires
+    settled-requires
+    given-requires
+    code-of-requires
+    returns)

@@ -1,0 +1,89 @@
+use mathlib.Core.Path.{sym, ap, _∙_}
+use mathlib.Core.Bool.{false}
+use Rattle.control.specs.States.{machine, settled}
+use Rattle.control.proofs.Laws.{settled-plain}
+use borrow.Author.Needs.{needs}
+use Rattle.control.proofs.settled.Statement.{statement}
+use Rattle.control.proofs.settled.Tie as tie
+
+enum-told : tie.Need-enum-told
+enum-told c = search needs
+
+at-rest-requires : tie.Need-at-rest-requires
+at-rest-requires c κs = search needs
+
+enum-told-2 : tie.Need-enum-told-2
+enum-told-2 c = search needs
+
+u-requires : tie.Need-u-requires
+u-requires c κs = search needs
+
+at-rest-requires-2 : tie.Need-at-rest-requires-2
+at-rest-requires-2 c κs = search needs
+
+enum-told-3 : tie.Need-enum-told-3
+enum-told-3 c = search needs
+
+at-rest-requires-3 : tie.Need-at-rest-requires-3
+at-rest-requires-3 c κs = search needs
+
+enum-told-4 : tie.Need-enum-told-4
+enum-told-4 c = search needs
+
+at-rest-requires-4 : tie.Need-at-rest-requires-4
+at-rest-requires-4 c κs = search needs
+
+enum-told-5 : tie.Need-enum-told-5
+enum-told-5 c = search needs
+
+by-state-requires : tie.Need-by-state-requires
+by-state-requires c κs = search needs
+
+by-state-requires-2 : tie.Need-by-state-requires-2
+by-state-requires-2 c κs = search needs
+
+returns : tie.Need-returns
+unfolding settled
+returns c = c .at-rest .ensures ∙ sym (ap (λ e. settled (c .before .before .before .args .m) e (c .before .before .before .args .reached) (c .before .before .before .args .v)) (c .before .enum-told .given .1))
+
+returns-2 : tie.Need-returns-2
+unfolding settled
+returns-2 c = c .at-rest2 .ensures ∙ ap (λ s. machine s false) (c .before .u .ensures) ∙ sym (ap (λ e. settled (c .before .before .before .before .args .m) e (c .before .before .before .before .args .reached) (c .before .before .before .before .args .v)) (c .before .before .enum-told2 .given .1))
+
+returns-3 : tie.Need-returns-3
+unfolding settled
+returns-3 c = c .at-rest3 .ensures ∙ sym (ap (λ e. settled (c .before .before .before .args .m) e (c .before .before .before .args .reached) (c .before .before .before .args .v)) (c .before .enum-told3 .given .1))
+
+returns-4 : tie.Need-returns-4
+unfolding settled
+returns-4 c = c .at-rest4 .ensures ∙ sym (ap (λ e. settled (c .before .before .before .args .m) e (c .before .before .before .args .reached) (c .before .before .before .args .v)) (c .before .enum-told4 .given .1))
+
+returns-5 : tie.Need-returns-5
+unfolding settled
+returns-5 c = c .by-state .ensures ∙ sym (ap (λ e. settled (c .before .before .before .args .m) e (c .before .before .before .args .reached) (c .before .before .before .args .v)) (c .before .enum-told5 .given .1))
+
+returns-6 : tie.Need-returns-6
+returns-6 c = c .by-state2 .ensures ∙ settled-plain (c .before .before .args .m) (c .before .before .args .event) (c .before .before .args .reached) (c .before .before .args .v) (c .before .match .keys6)
+
+pub settled-spec : {M : Type 1} → statement M
+settled-spec =
+    tie.close
+    (tie.spec
+    enum-told
+    at-rest-requires
+    enum-told-2
+    u-requires
+    at-rest-requires-2
+    enum-told-3
+    at-rest-requires-3
+    enum-told-4
+    at-rest-requires-4
+    enum-told-5
+    by-state-requires
+    by-state-requires-2
+    returns
+    returns-2
+    returns-3
+    returns-4
+    returns-5
+    returns-6)

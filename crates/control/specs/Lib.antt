@@ -1,0 +1,9 @@
+-- Document 01, "Nine conditions" and "States", in its order.
+pub mod Codes
+pub mod Conditions
+pub mod States
+pub mod Settled
+pub mod Numbers
+pub mod Engagement
+pub mod Run
+pub mod Laws

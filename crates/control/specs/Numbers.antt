@@ -1,0 +1,31 @@
+-- The places "power" and "state" of the table of numbers.
+use Prim.Native.Nat.{ℕ}
+use mathlib.Core.Bool.{not, _&&_, _||_}
+use lib.Dec.{eqb}
+use Rattle.wire.specs.Numbers.{if_then_else_}
+use Rattle.wire.specs.Judged.{Judged, row, _>>_}
+use Rattle.wire.specs.Judged.Judged.{refuse, accept}
+use Rattle.control.specs.Codes.{is}
+use Rattle.control.specs.declared.State.{State}
+use Rattle.control.specs.declared.State.the-variants.{NP, CO, RE, FA}
+
+-- "3 NP and kind not 1; 4 kind 1 outside NP; 5 FA and kind not 3 (kind 1: 4)"
+unfoldable pub powerRows : State → ℕ → Judged (Unit {0})
+powerRows s kind = do
+  row 3 (is s NP && not (eqb kind 1))
+  row 4 (eqb kind 1 && not (is s NP))
+  row 5 (is s FA && not (eqb kind 3))
+
+-- "6 kind 2 outside CO, kind 8 outside RE"
+unfoldable pub stateRow : State → ℕ → Judged (Unit {0})
+stateRow s kind = row 6 ((eqb kind 2 && not (is s CO)) || (eqb kind 8 && not (is s RE)))
+
+-- both places, one after the other
+unfoldable pub stateRows : State → ℕ → Judged (Unit {0})
+stateRows s kind = do
+  powerRows s kind
+  stateRow s kind
+
+-- the number of the row that refuses; 0 where none does
+abbrev pub judged : ℕ → Judged (Unit {0})
+judged n = if eqb n 0 then accept tt else refuse n

@@ -1,0 +1,601 @@
+// The ATO states: the nine conditions, the rows of the states, the AD request.
+ghost use mathlib.Core.Path.{_≡_};
+ghost use mathlib.Core.Bool.{false, not, _&&_, _||_};
+ghost use Prim.Native.Nat.{_-_, _≤_, min};
+ghost use lib.Dec.{leb};
+ghost use Rattle.wire.specs.Numbers.{flag};
+ghost use Rattle.data.specs.Engine.{routeIn};
+ghost use Rattle.timing.specs.Position.{IndexBelow};
+ghost use Rattle.timing.specs.Standing.{standing};
+ghost use Rattle.control.specs.Codes.{code, stateAt, is, modeAt, isAD, leverAt, isNeutral, isBrake};
+ghost use Rattle.control.specs.Conditions.{etcsFulfilled, noEmergencyBrake, noInconsistency, dataValid, T};
+ghost use Rattle.control.specs.Conditions.{endAhead, lastAhead, profilesThere, tooFar, inZones, counts, located, outsideZones, conditions};
+ghost use Rattle.control.specs.States.{machine, N, U, fromRE, fromEG, fromDE, byState, settled, wanted, given};
+ghost use Rattle.control.specs.Settled.{allNine, valuesIn, machineIn, controlAfter};
+ghost use Rattle.control.specs.Numbers.{judged, powerRows, stateRow, stateRows};
+use data::Control;
+use data::Engine;
+use data::Position;
+use data::Progress;
+use data::Segment;
+use data::Zone;
+use event::Event;
+use timing::Found;
+
+// The states of document 01, by their codes 0 to 7 in this order.
+pub enum State {
+    NP,
+    CO,
+    NA,
+    AV,
+    RE,
+    EG,
+    DE,
+    FA,
+}
+
+// The ETCS mode: 0 other, 1 AD.
+pub enum EtcsMode {
+    Other,
+    AD,
+}
+
+// The lever: 0 neutral, 1 traction, 2 brake.
+pub enum DriverLever {
+    Neutral,
+    Traction,
+    Brake,
+}
+
+// What the rows look at, after an event: O, all nine conditions; T, the train conditions; the lever and the mode.
+pub struct Values {
+    pub O: bool,
+    pub T: bool,
+    pub lever: DriverLever,
+    pub mode: EtcsMode,
+}
+
+// The state, and whether a press is pending.
+pub struct Machine {
+    pub state: State,
+    pub press: bool,
+}
+
+// ---- codes
+
+pub fn state_at(code: u8) -> State
+    ensures { λ r. ⌜ r ≡ stateAt code ⌝ }
+{
+    match code {
+        0 => State::NP,
+        1 => State::CO,
+        2 => State::NA,
+        3 => State::AV,
+        4 => State::RE,
+        5 => State::EG,
+        6 => State::DE,
+        _ => State::FA,
+    }
+}
+
+pub fn code_of(s: State) -> u8
+    ensures { λ r. ⌜ (r ≡ code s) × (r ≤ 7) ⌝ }
+{
+    match s {
+        State::NP => 0,
+        State::CO => 1,
+        State::NA => 2,
+        State::AV => 3,
+        State::RE => 4,
+        State::EG => 5,
+        State::DE => 6,
+        State::FA => 7,
+    }
+}
+
+pub fn mode_at(n: u8) -> EtcsMode
+    ensures { λ r. ⌜ r ≡ modeAt n ⌝ }
+{
+    if n == 1 {
+        EtcsMode::AD
+    } else {
+        EtcsMode::Other
+    }
+}
+
+pub fn lever_at(n: u8) -> DriverLever
+    ensures { λ r. ⌜ r ≡ leverAt n ⌝ }
+{
+    if n == 0 {
+        return DriverLever::Neutral;
+    }
+    if n == 1 {
+        DriverLever::Traction
+    } else {
+        DriverLever::Brake
+    }
+}
+
+fn is_ad(m: EtcsMode) -> bool
+    ensures { λ r. ⌜ r ≡ isAD m ⌝ }
+{
+    match m {
+        EtcsMode::Other => false,
+        EtcsMode::AD => true,
+    }
+}
+
+fn is_neutral(l: DriverLever) -> bool
+    ensures { λ r. ⌜ r ≡ isNeutral l ⌝ }
+{
+    match l {
+        DriverLever::Neutral => true,
+        DriverLever::Traction => false,
+        DriverLever::Brake => false,
+    }
+}
+
+fn is_brake(l: DriverLever) -> bool
+    ensures { λ r. ⌜ r ≡ isBrake l ⌝ }
+{
+    match l {
+        DriverLever::Neutral => false,
+        DriverLever::Traction => false,
+        DriverLever::Brake => true,
+    }
+}
+
+fn same(a: State, b: State) -> bool
+    ensures { λ r. ⌜ r ≡ is a b ⌝ }
+{
+    code_of(a) == code_of(b)
+}
+
+// ---- the nine conditions
+
+fn etcs_fulfilled(reports: u8) -> bool
+    ensures { λ r. ⌜ r ≡ etcsFulfilled reports ⌝ }
+{
+    reports % 2 == 1
+}
+
+fn no_emergency_brake(reports: u8) -> bool
+    ensures { λ r. ⌜ r ≡ noEmergencyBrake reports ⌝ }
+{
+    reports / 2 % 2 == 1
+}
+
+fn no_inconsistency(reports: u8) -> bool
+    ensures { λ r. ⌜ r ≡ noInconsistency reports ⌝ }
+{
+    reports / 4 % 2 == 1
+}
+
+fn data_valid(reports: u8) -> bool
+    ensures { λ r. ⌜ r ≡ dataValid reports ⌝ }
+{
+    reports / 8 % 2 == 1
+}
+
+fn train_conditions(reports: u8) -> bool
+    ensures { λ r. ⌜ r ≡ T reports ⌝ }
+{
+    reports / 16 % 2 == 1
+}
+
+fn at_most(n: u8, most: u8) -> u8
+    ensures { λ r. ⌜ r ≡ min n most ⌝ }
+{
+    if n < most { n } else { most }
+}
+
+fn one_less(n: u8) -> u8
+    ensures { λ r. ⌜ r ≡ n - 1 ⌝ }
+{
+    if n == 0 { 0 } else { n - 1 }
+}
+
+// The End of Journey is neither reached nor passed, at a progress.
+pub fn end_ahead(e: Engine, p: Progress) -> bool
+    ensures { λ r. ⌜ r ≡ endAhead (routeIn e) (standing p) ⌝ }
+{
+    if !e.load.valid {
+        return false;
+    }
+    let k = e.load.ending;
+    if k < p.next {
+        return false;
+    }
+    if k == p.next { !p.reached } else { true }
+}
+
+fn last_ahead(e: Engine) -> bool
+    ensures { λ r. ⌜ r ≡ lastAhead (routeIn e) (standing (e .progress)) ⌝ }
+{
+    if !e.load.valid {
+        return false;
+    }
+    let last = one_less(at_most(e.load.pointcount, 64));
+    !(last < e.progress.next)
+}
+
+fn profiles_there(e: Engine) -> bool
+    ensures { λ r. ⌜ r ≡ profilesThere (routeIn e) (standing (e .progress)) ⌝ }
+{
+    if !e.load.valid {
+        return false;
+    }
+    let next = e.progress.next;
+    if at_most(e.load.pointcount, 64) <= next {
+        return true;
+    }
+    let k = next as usize;
+    let p = e.points[k];
+    p.placed
+}
+
+// An offset held from before a load and beyond its segment's new length.
+fn too_far(x: Position, s: Segment) -> bool
+    ensures { λ r. ⌜ r ≡ tooFar x s ⌝ }
+{
+    if s.booked { s.length < x.offset } else { false }
+}
+
+fn in_zone(z: Zone, offset: u32) -> bool
+    ensures { λ r. ⌜ r ≡ (leb (z .start) offset && leb offset (z .end)) ⌝ }
+{
+    if z.start <= offset {
+        offset <= z.end
+    } else {
+        false
+    }
+}
+
+fn or_in_zone(before: bool, z: Zone, offset: u32) -> bool
+    ensures { λ r. ⌜ r ≡ (before || (leb (z .start) offset && leb offset (z .end))) ⌝ }
+{
+    if before { true } else { in_zone(z, offset) }
+}
+
+fn in_zones(s: Segment, offset: u32) -> bool
+    ensures { λ r. ⌜ r ≡ inZones (s .zones) (min (s .zonecount) 4) offset ⌝ }
+{
+    let n = at_most(s.zonecount, 4);
+    let mut i: u8 = 0;
+    let mut inside = false;
+    while i < n {
+        let k = i as usize;
+        let z = s.zones[k];
+        inside = or_in_zone(inside, z, offset);
+        i += 1;
+    }
+    inside
+}
+
+// The journey segment in which the offset counts for the conditions.
+fn counted(e: Engine) -> Found
+    ensures { λ r. ⌜ (r ≡ counts (routeIn e) (e .train .position)) × IndexBelow 40 r ⌝ }
+{
+    let x = e.train.position;
+    if x.offset == 16777215 {
+        return Found::Nothing;
+    }
+    let Found::At(k) = timing::find_segment(e) else {
+        return Found::Nothing;
+    };
+    let s = e.segments[k];
+    if too_far(x, s) {
+        Found::Nothing
+    } else {
+        Found::At(k)
+    }
+}
+
+// Conditions 6 and 7.
+struct Place {
+    located: bool,
+    outside: bool,
+}
+
+fn place_of(e: Engine) -> Place
+    ensures { λ r. ⌜ (r .located ≡ located (routeIn e) (e .train .position)) × (r .outside ≡ outsideZones (routeIn e) (e .train .position)) ⌝ }
+{
+    let Found::At(k) = counted(e) else {
+        return Place {
+            located: false,
+            outside: true,
+        };
+    };
+    let s = e.segments[k];
+    let x = e.train.position;
+    let inside = in_zones(s, x.offset);
+    Place {
+        located: true,
+        outside: !inside,
+    }
+}
+
+fn number(b: bool) -> u16
+    ensures { λ r. ⌜ (r ≡ flag b) × (r ≤ 1) ⌝ }
+{
+    if b { 1 } else { 0 }
+}
+
+// The nine conditions as a number, condition 0 the least significant bit.
+pub fn conditions(e: Engine) -> u16
+    ensures { λ r. ⌜ (r ≡ conditions (routeIn e) (e .control .reports) (e .train .position) (standing (e .progress))) × (r ≤ 511) ⌝ }
+{
+    let reports = e.control.reports;
+    let progress = e.progress;
+    let place = place_of(e);
+    let c0 = number(etcs_fulfilled(reports));
+    let c1 = number(no_emergency_brake(reports));
+    let c2 = number(end_ahead(e, progress));
+    let c3 = number(last_ahead(e));
+    let c4 = number(profiles_there(e));
+    let c5 = number(no_inconsistency(reports));
+    let c6 = number(place.located);
+    let c7 = number(place.outside);
+    let c8 = number(data_valid(reports));
+    c0 + 2 * c1 + 4 * c2 + 8 * c3 + 16 * c4 + 32 * c5 + 64 * c6 + 128 * c7 + 256 * c8
+}
+
+// ---- the rows of the states
+
+// The state that the values alone give.
+fn u(v: Values) -> State
+    ensures { λ r. ⌜ r ≡ U v ⌝ }
+{
+    if !v.O {
+        return State::NA;
+    }
+    if !v.T {
+        return State::AV;
+    }
+    let lever = v.lever;
+    if !is_neutral(lever) {
+        return State::AV;
+    }
+    let mode = v.mode;
+    if is_ad(mode) { State::AV } else { State::RE }
+}
+
+// A press pending, O, T, N and AD.
+fn engages(press: bool, v: Values) -> bool
+    ensures { λ r. ⌜ r ≡ (press && (v .O && (v .T && (N v && isAD (v .mode))))) ⌝ }
+{
+    if !press {
+        return false;
+    }
+    if !v.O {
+        return false;
+    }
+    if !v.T {
+        return false;
+    }
+    let lever = v.lever;
+    if !is_neutral(lever) {
+        return false;
+    }
+    let mode = v.mode;
+    is_ad(mode)
+}
+
+fn at_rest(s: State) -> Machine
+    ensures { λ r. ⌜ r ≡ machine s false ⌝ }
+{
+    Machine {
+        state: s,
+        press: false,
+    }
+}
+
+fn from_re(press: bool, v: Values) -> Machine
+    ensures { λ r. ⌜ r ≡ fromRE press v ⌝ }
+{
+    if engages(press, v) {
+        return at_rest(State::EG);
+    }
+    let s = u(v);
+    if !press {
+        return at_rest(s);
+    }
+    let stays = same(s, State::RE);
+    Machine {
+        state: s,
+        press: stays,
+    }
+}
+
+// The lever at brake, mode other, or a point reached.
+fn leaves(reached: bool, v: Values) -> bool
+    ensures { λ r. ⌜ r ≡ (isBrake (v .lever) || (not (isAD (v .mode)) || reached)) ⌝ }
+{
+    let lever = v.lever;
+    let mode = v.mode;
+    if is_brake(lever) {
+        true
+    } else if is_ad(mode) {
+        reached
+    } else {
+        true
+    }
+}
+
+fn from_eg(reached: bool, v: Values) -> State
+    ensures { λ r. ⌜ r ≡ fromEG reached v ⌝ }
+{
+    if leaves(reached, v) {
+        return u(v);
+    }
+    if !v.O {
+        return State::DE;
+    }
+    if v.T { State::EG } else { State::DE }
+}
+
+fn from_de(v: Values) -> State
+    ensures { λ r. ⌜ r ≡ fromDE v ⌝ }
+{
+    if leaves(false, v) { u(v) } else { State::DE }
+}
+
+// The row of the state before, for an event with no row of its own.
+fn by_state(s: State, press: bool, reached: bool, v: Values) -> Machine
+    ensures { λ r. ⌜ r ≡ byState s press reached v ⌝ }
+{
+    match s {
+        State::NP => at_rest(State::NP),
+        State::CO => at_rest(State::CO),
+        State::NA => at_rest(u(v)),
+        State::AV => at_rest(u(v)),
+        State::RE => from_re(press, v),
+        State::EG => at_rest(from_eg(reached, v)),
+        State::DE => at_rest(from_de(v)),
+        State::FA => at_rest(State::FA),
+    }
+}
+
+// State and press after an event.
+fn settled(m: Machine, event: Event, reached: bool, v: Values) -> Machine
+    ensures { λ r. ⌜ r ≡ settled m event reached v ⌝ }
+{
+    let s = m.state;
+    match event {
+        Event::PowerOn => at_rest(State::CO),
+        Event::Configured => at_rest(u(v)),
+        Event::PowerOff => at_rest(State::NP),
+        Event::Fault => at_rest(State::FA),
+        Event::Press => by_state(s, true, reached, v),
+        _ => by_state(s, m.press, reached, v),
+    }
+}
+
+// ---- the AD request
+
+fn ad_neutral(v: Values) -> bool
+    ensures { λ r. ⌜ r ≡ (isAD (v .mode) && N v) ⌝ }
+{
+    let mode = v.mode;
+    if !is_ad(mode) {
+        return false;
+    }
+    let lever = v.lever;
+    is_neutral(lever)
+}
+
+fn wanted(s: State, v: Values) -> bool
+    ensures { λ r. ⌜ r ≡ wanted s v ⌝ }
+{
+    match s {
+        State::NP => false,
+        State::CO => false,
+        State::NA => false,
+        State::AV => ad_neutral(v),
+        State::RE => true,
+        State::EG => true,
+        State::DE => true,
+        State::FA => false,
+    }
+}
+
+fn given(s: State, v: Values, before: bool) -> bool
+    ensures { λ r. ⌜ r ≡ given s v before ⌝ }
+{
+    if !wanted(s, v) {
+        return false;
+    }
+    let mode = v.mode;
+    if before { true } else { !is_ad(mode) }
+}
+
+// ---- the control group
+
+pub fn all_nine(word: u16) -> bool
+    ensures { λ r. ⌜ r ≡ allNine word ⌝ }
+{
+    word == 511
+}
+
+fn values_in(c: Control, word: u16) -> Values
+    ensures { λ r. ⌜ r ≡ valuesIn c word ⌝ }
+{
+    let o = all_nine(word);
+    let t = train_conditions(c.reports);
+    let lever = lever_at(c.lever);
+    let mode = mode_at(c.mode);
+    Values {
+        O: o,
+        T: t,
+        lever: lever,
+        mode: mode,
+    }
+}
+
+fn machine_in(c: Control) -> Machine
+    ensures { λ r. ⌜ r ≡ machineIn c ⌝ }
+{
+    let s = state_at(c.state);
+    Machine {
+        state: s,
+        press: c.press,
+    }
+}
+
+// The control group after an event, from the engine with the event's values already in it; `reached`: a point became reached in this event;
+// `word`: the nine conditions after it.
+pub fn settle(e: Engine, event: Event, reached: bool, word: u16) -> Control
+    ensures { λ r. ⌜ r ≡ controlAfter (e .control) event reached word ⌝ }
+{
+    let c = e.control;
+    let v = values_in(c, word);
+    let m = settled(machine_in(c), event, reached, v);
+    let s = m.state;
+    let request = given(s, v, c.request);
+    let code = code_of(s);
+    Control {
+        state: code,
+        mode: c.mode,
+        lever: c.lever,
+        reports: c.reports,
+        press: m.press,
+        request: request,
+    }
+}
+
+// ---- the places "power" and "state" of the table of numbers
+
+fn power_row(s: State, kind: u8) -> u8
+    ensures { λ r. ⌜ judged r ≡ powerRows s kind ⌝ }
+{
+    if same(s, State::NP) {
+        return if kind == 1 { 0 } else { 3 };
+    }
+    if kind == 1 {
+        return 4;
+    }
+    if same(s, State::FA) {
+        return if kind == 3 { 0 } else { 5 };
+    }
+    0
+}
+
+fn state_row(s: State, kind: u8) -> u8
+    ensures { λ r. ⌜ judged r ≡ stateRow s kind ⌝ }
+{
+    if kind == 2 {
+        return if same(s, State::CO) { 0 } else { 6 };
+    }
+    if kind == 8 {
+        return if same(s, State::RE) { 0 } else { 6 };
+    }
+    0
+}
+
+// The number of the first of these rows that refuses; 0 where none does.
+pub fn power_number(s: State, kind: u8) -> u8
+    ensures { λ r. ⌜ judged r ≡ stateRows s kind ⌝ }
+{
+    let n = power_row(s, kind);
+    if n == 0 { state_row(s, kind) } else { n }
+}

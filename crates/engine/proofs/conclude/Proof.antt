@@ -1,0 +1,82 @@
+use Rattle.engine.specs.Laws.{Decided, decided, concluded-16, concluded}
+use borrow.Author.Needs.{needs}
+use Rattle.engine.proofs.conclude.Statement.{statement}
+use Rattle.engine.proofs.conclude.Tie as tie
+
+known : (c : tie.After-size) → let a = c .before .before .before .before .before .before .before .before .before .args in
+    Decided (a .e) (a .v) (a .f) (c .before .before .before .before .settle .result) (c .before .writes-of .result)
+known c =
+    let w = c .before in
+    let d = w .before in
+    let s₂ = d .before in
+    let m = s₂ .before in
+    let c₂ = m .before in
+    let s₁ = c₂ .before in
+    let c₁ = s₁ .before in
+    let a = c₁ .before .before .args in
+    decided (a .e) (a .v) (a .f) _ _ _ _ _ _ _ (c₁ .conditions .ensures .0) (c₂ .conditions2 .ensures .0) (m .settle .ensures) (s₁ .shown .ensures) (s₂ .shown2 .ensures) (d .status-due .ensures) (w .writes-of .ensures)
+
+conditions-requires : tie.Need-conditions-requires
+conditions-requires c κs = search needs
+
+shown-requires : tie.Need-shown-requires
+shown-requires c κs = search needs
+
+conditions-requires-2 : tie.Need-conditions-requires-2
+conditions-requires-2 c κs = search needs
+
+settle-requires : tie.Need-settle-requires
+settle-requires c κs = search needs
+
+shown-requires-2 : tie.Need-shown-requires-2
+shown-requires-2 c κs = search needs
+
+status-due-requires : tie.Need-status-due-requires
+status-due-requires c κs = search needs
+
+writes-of-requires : tie.Need-writes-of-requires
+writes-of-requires c κs = search needs
+
+size-requires : tie.Need-size-requires
+size-requires c κs = search needs
+
+refused-requires : tie.Need-refused-requires
+refused-requires c κs = search needs
+
+returns : tie.Need-returns
+returns c = let s = c .before .before in concluded-16 (known s) _ _ (s .size .ensures) _ (c .before .if1 .taken) (c .refused .ensures)
+
+write-requires : tie.Need-write-requires
+write-requires c κs = search needs
+
+accepted-requires : tie.Need-accepted-requires
+accepted-requires c κs = search needs
+
+same-length : tie.Need-same-length
+same-length c = search needs
+
+returns-2 : tie.Need-returns-2
+returns-2 c = 
+    let w = c .before .before .before in
+    let i = w .before .before in
+    let s = i .before in
+    concluded (known s) _ _ (s .size .ensures) _ _ (i .if1 .left) (w .write .ensures) (c .accepted .ensures)
+
+pub conclude-spec : {M : Type 1} → statement M
+conclude-spec =
+    tie.close
+    (tie.spec
+    conditions-requires
+    shown-requires
+    conditions-requires-2
+    settle-requires
+    shown-requires-2
+    status-due-requires
+    writes-of-requires
+    size-requires
+    refused-requires
+    returns
+    write-requires
+    accepted-requires
+    same-length
+    returns-2)

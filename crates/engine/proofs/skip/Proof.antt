@@ -1,0 +1,41 @@
+use mathlib.Core.Path.{sym, ap, subst, _∙_}
+use Rattle.timing.specs.Position.{IndexBelow}
+use Rattle.model.specs.Effect.{skipEffect}
+use Rattle.engine.specs.Seen.{effectSeen}
+use borrow.Author.Needs.{needs}
+use Rattle.engine.proofs.skip.Statement.{statement}
+use Rattle.engine.proofs.skip.Tie as tie
+
+find-stop-requires : tie.Need-find-stop-requires
+find-stop-requires c κs = search needs
+
+enum-known-k : tie.Need-enum-known-k
+enum-known-k c = search needs
+
+enum-told : tie.Need-enum-told
+enum-told c = search needs
+
+no-effect-requires : tie.Need-no-effect-requires
+no-effect-requires c κs = search needs
+
+returns : tie.Need-returns
+unfolding skipEffect
+returns c = let s = c .before .before .before in ap effectSeen (c .no-effect .ensures) ∙ sym (ap (skipEffect _ _) (sym (s .find-stop .ensures .0) ∙ c .before .enum-told .given .1))
+
+skip-at-requires : tie.Need-skip-at-requires
+skip-at-requires c κs = subst (IndexBelow 64) (c .before .k .given .1) (c .before .before .before .find-stop .ensures .1)
+
+returns-2 : tie.Need-returns-2
+returns-2 c = let k = c .before .before in c .skip-at .ensures ∙ sym (ap (skipEffect _ _) (sym (k .before .before .find-stop .ensures .0) ∙ k .k .given .1))
+
+pub skip-spec : {M : Type 1} → statement M
+skip-spec =
+    tie.close
+    (tie.spec
+    find-stop-requires
+    enum-known-k
+    enum-told
+    no-effect-requires
+    returns
+    skip-at-requires
+    returns-2)

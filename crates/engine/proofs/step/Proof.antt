@@ -1,0 +1,57 @@
+use denote.Ref.{now}
+use mathlib.Core.Path.{sym, ap, _∙_}
+use Rattle.event.specs.Events.{eventSeen}
+use Rattle.model.specs.Call.{stepOf}
+use Rattle.engine.specs.Seen.{call}
+use Rattle.engine.specs.Laws.{rows-read, rows-unread, steps-refused, steps-by}
+use borrow.Author.Needs.{needs}
+use Rattle.engine.proofs.step.Statement.{statement}
+use Rattle.engine.proofs.step.Tie as tie
+
+read-event-requires : tie.Need-read-event-requires
+read-event-requires c κs = search needs
+
+enum-known-v : tie.Need-enum-known-v
+enum-known-v c = search needs
+
+take-requires : tie.Need-take-requires
+take-requires c κs = search needs
+
+enum-known-n : tie.Need-enum-known-n
+enum-known-n c = search needs
+
+refused-requires : tie.Need-refused-requires
+refused-requires c κs = search needs
+
+same-length : tie.Need-same-length
+same-length c = search needs
+
+returns : tie.Need-returns
+unfolding stepOf
+returns c = 
+    let t = c .before .before in
+    let v = t .before .before .before in
+    let r = v .before .before in
+    let a = r .before .before .before .before .before .args in
+    steps-by (a .e) (now (a .out)) _ _ _ _ (rows-read (a .e) (call (now (a .event)) (now (a .journey)) (now (a .book)) (now (a .out))) _ (sym (r .read-event .ensures) ∙ ap eventSeen (v .v .given .1))) (t .take .ensures)
+
+returns-2 : tie.Need-returns-2
+unfolding stepOf
+returns-2 c = 
+    let n = c .before .before in
+    let r = n .before .before in
+    let a = r .before .before .before .before .before .args in
+    steps-refused (a .e) (now (a .out)) _ _ _ (rows-unread (a .e) (call (now (a .event)) (now (a .journey)) (now (a .book)) (now (a .out))) _ (sym (r .read-event .ensures) ∙ ap eventSeen (n .n .given .1))) (c .refused .ensures)
+
+pub step-spec : {M : Type 1} → statement M
+step-spec =
+    tie.close
+    (tie.spec
+    read-event-requires
+    enum-known-v
+    take-requires
+    enum-known-n
+    refused-requires
+    same-length
+    returns
+    returns-2)

@@ -1,0 +1,78 @@
+use denote.Ref.{now}
+use mathlib.Core.Path.{_≡_, ap₂, _∙_}
+use Rattle.event.specs.Events.{kindOf}
+use Rattle.control.specs.Codes.{stateAt}
+use Rattle.control.specs.Numbers.{judged, stateRows}
+use Rattle.engine.specs.Laws.{rows-number, rows-effect, rows-output, steps-refused, steps-by}
+use borrow.Author.Needs.{needs}
+use Rattle.engine.proofs.take.Statement.{statement}
+use Rattle.engine.proofs.take.Tie as tie
+
+numbered : (c : tie.After-power-number) → let a = c .before .before .before .before .before .before .args in judged (c .power-number .result) ≡ stateRows (stateAt (a .e .control .state)) (kindOf (a .v))
+numbered c = c .power-number .ensures ∙ ap₂ stateRows (c .before .before .state-at .ensures) (c .before .kind-of .ensures)
+
+state-at-requires : tie.Need-state-at-requires
+state-at-requires c κs = search needs
+
+kind-of-requires : tie.Need-kind-of-requires
+kind-of-requires c κs = search needs
+
+power-number-requires : tie.Need-power-number-requires
+power-number-requires c κs = search needs
+
+refused-requires : tie.Need-refused-requires
+refused-requires c κs = search needs
+
+returns : tie.Need-returns
+returns c = 
+    let p = c .before .before in
+    let a = p .before .before .before .before .before .before .args in
+    steps-refused (a .e) (now (a .out)) _ _ _ (rows-number (a .e) (a .v) (now (a .journey)) (now (a .book)) (now (a .out)) _ (numbered p) (c .before .if1 .taken)) (c .refused .ensures)
+
+effect-of-requires : tie.Need-effect-of-requires
+effect-of-requires c κs = search needs
+
+refused-requires-2 : tie.Need-refused-requires-2
+refused-requires-2 c κs = search needs
+
+returns-2 : tie.Need-returns-2
+returns-2 c = 
+    let f = c .before .before .before in
+    let p = f .before .before in
+    let a = p .before .before .before .before .before .before .args in
+    steps-refused (a .e) (now (a .out)) _ _ _
+    (rows-effect (a .e) (a .v) (now (a .journey)) (now (a .book)) (now (a .out)) _ (numbered p) (f .effect-of .result) (f .before .if1 .left) (f .effect-of .ensures) (c .before .if2 .taken))
+    (c .refused2 .ensures)
+
+conclude-requires : tie.Need-conclude-requires
+conclude-requires c κs = search needs
+
+same-length : tie.Need-same-length
+same-length c = search needs
+
+returns-3 : tie.Need-returns-3
+returns-3 c = 
+    let o = c .before .before in
+    let i = o .before .before in
+    let f = i .before .before in
+    let p = f .before .before in
+    let a = p .before .before .before .before .before .before .args in
+    steps-by (a .e) (now (a .out)) _ _ _ _
+    (rows-output (a .e) (a .v) (now (a .journey)) (now (a .book)) (now (a .out)) _ (numbered p) (f .effect-of .result) (f .before .if1 .left) (f .effect-of .ensures) (i .if2 .left))
+    (o .conclude .ensures)
+
+pub take-spec : {M : Type 1} → statement M
+take-spec =
+    tie.close
+    (tie.spec
+    state-at-requires
+    kind-of-requires
+    power-number-requires
+    refused-requires
+    returns
+    effect-of-requires
+    refused-requires-2
+    returns-2
+    conclude-requires
+    same-length
+    returns-3)

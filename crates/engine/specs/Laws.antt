@@ -1,0 +1,226 @@
+-- Laws of the parts of a call.
+use Prim.Native.Nat.{ℕ, _+_, _≤_, _<_}
+use mathlib.Core.Path.{_≡_, refl, sym, ap, subst, _∙_}
+use mathlib.Core.List.{List, [], _∷_, _++_}
+use mathlib.Core.Bool.{Bool, true, false, not, _&&_, _||_}
+use mathlib.Core.Option.{Option, none, some}
+use lib.ListN.{length, getD, set, drop}
+use lib.Dec.{eqb, ltb}
+use lib.Seq.{sets, sets-eq}
+use borrow.Author.Tests.{lt-ltb, le-ltb, eq-eqb, ne-eqb}
+use native.Mathlib.Omega.{arith}
+use Rattle.wire.specs.Numbers.{if_then_else_}
+use Rattle.wire.specs.Judged.{Judged, thenJudge, row}
+use Rattle.wire.specs.Judged.Judged.{refuse, accept}
+use Rattle.data.specs.Engine.{Route, routeIn, undefined, progress, withRoute, withSkips, withProgress, withControl, withPosition}
+use Rattle.data.specs.declared.Position.{Position}
+use Rattle.data.specs.declared.Engine.{Engine}
+use Rattle.event.specs.Events.{eventOf, kindOf}
+use Rattle.event.specs.declared.Event.{Event}
+use Rattle.packets.specs.Packets.{joined}
+use Rattle.packets.specs.declared.Packet.{Packet}
+use Rattle.timing.specs.Position.{segmentNamed}
+use Rattle.timing.specs.Distance.{reportIn}
+use Rattle.timing.specs.Standing.{standing, behind}
+use Rattle.timing.specs.Load.{target}
+use Rattle.timing.specs.Report.{reportOf}
+use Rattle.timing.specs.Changes.{passings, reportChanges}
+use Rattle.timing.specs.declared.Found.{Found}
+use Rattle.timing.specs.declared.Found.the-variants.{At, Nothing}
+use Rattle.timing.specs.declared.Reported.{Reported}
+use Rattle.control.specs.Codes.{stateAt}
+use Rattle.control.specs.Conditions.{conditions}
+use Rattle.control.specs.Numbers.{powerRows, stateRow, stateRows, judged}
+use Rattle.control.specs.Settled.{controlAfter}
+use Rattle.route.specs.Route.{LoadValue, loadOf, loadSeen}
+use Rattle.route.specs.declared.Loaded.{Loaded}
+use Rattle.recording.specs.Written.{statusOf, packetsIn, sizeIn}
+use Rattle.recording.specs.Laws.{size-in, packets-in}
+use Rattle.recording.specs.declared.Changes.{Changes}
+use Rattle.recording.specs.declared.Shown.{Shown}
+use Rattle.recording.specs.declared.Writes.{Writes}
+use Rattle.journey.specs.declared.Head.{Head}
+use Rattle.model.specs.Packets.{statusDue}
+use Rattle.model.specs.Effect as model
+use Rattle.model.specs.Effect.{quiet, beyondIn, offsetBeyond, reportedIn, positionEffect, loadedIn, loadEffect, sameBool, skippedIn, skipEffect}
+use Rattle.model.specs.Call as call
+use Rattle.model.specs.Call.{Call, Step, conditionsIn, statusIn, stepBy, outcomeOf}
+use Rattle.engine.specs.declared.Effect.{Effect}
+use Rattle.engine.specs.declared.Stepped.{Stepped}
+use Rattle.engine.specs.Seen.{noChanges, oneChange, changesOf, skipStatus, routeBy, refusedEffect, effectIn, effectSeen, outputRow, laterRows, refusedStep, acceptedStep, shownOf, writesOf, Steps}
+
+-- ---- effects
+
+pub seen-quiet : (m : Engine) → effectSeen (refusedEffect m 0) ≡ accept (quiet m)
+unfolding passings
+seen-quiet m = refl
+
+-- what an effect that is not 0 says
+pub seen-number : (f : Effect) → (f .number ≡ 0 → ⊥) → effectSeen f ≡ refuse (f .number)
+seen-number f h = rw (ne-eqb (f .number) 0 h)
+
+pub seen-effect : (f : Effect) → f .number ≡ 0 → effectSeen f ≡ accept (effectIn f)
+seen-effect f h = rw (eq-eqb (f .number) 0 h)
+
+-- 13
+module _ (j : Route) (x : Position) where
+  pub beyond-undefined : x .offset ≡ undefined → offsetBeyond j x ≡ false
+  unfolding offsetBeyond
+  beyond-undefined h = rw (eq-eqb (x .offset) undefined h)
+
+  pub beyond-in : (x .offset ≡ undefined → ⊥) → (f : Found) → segmentNamed j x ≡ f → offsetBeyond j x ≡ beyondIn j x f
+  unfolding offsetBeyond
+  beyond-in h f q = rw (ne-eqb (x .offset) undefined h, q)
+
+module _ (e : Engine) (x : Position) where
+  pub position-13 : offsetBeyond (routeIn e) x ≡ true → positionEffect e x ≡ refuse 13
+  unfolding positionEffect
+  position-13 h = rw h
+
+  pub position-reported : (m : Engine) (t : Reported) (ch : Changes) (head : Head) → offsetBeyond (routeIn e) x ≡ false → m ≡ withPosition e x
+      → t ≡ reportOf (routeIn m) (reportIn m) (m .progress) → ch ≡ changesOf (m .progress .next) t
+      → effectSeen (record { number = 0; engine = withProgress m (t .progress); loaded = false; head = head; changes = ch; reached = t .reached })
+        ≡ positionEffect e x
+  unfolding positionEffect reportChanges
+  position-reported m t ch head h a q c = rw (h, c, q, a)
+
+-- load
+module _ (e : Engine) (journey book : List ℕ) (l : Loaded) (told : loadSeen l ≡ loadOf journey book) where
+  pub load-number : (l .number ≡ 0 → ⊥) → refuse (l .number) ≡ loadEffect e journey book
+  unfolding loadEffect
+  load-number h =
+      let t : loadSeen l ≡ refuse (l .number) = rw (ne-eqb (l .number) 0 h) in
+      ap (λ (x : Judged LoadValue). thenJudge x (λ v. accept (loadedIn e v))) (sym t ∙ told)
+
+  load-route : l .number ≡ 0 → accept (loadedIn e (record { route = routeBy l; head = l .head })) ≡ loadEffect e journey book
+  unfolding loadEffect
+  load-route h =
+      let t : loadSeen l ≡ accept (record { route = routeBy l; head = l .head }) = rw (eq-eqb (l .number) 0 h) in
+      ap (λ (x : Judged LoadValue). thenJudge x (λ v. accept (loadedIn e v))) (sym t ∙ told)
+
+  pub load-taken : (m : Engine) (ch : Changes) → l .number ≡ 0
+      → m ≡ withProgress (withRoute e (routeBy l)) (progress (target (routeBy l) (e .train .position) (e .train .length)) false) → ch ≡ noChanges
+      → effectSeen (record { number = 0; engine = m; loaded = true; head = l .head; changes = ch; reached = false }) ≡ loadEffect e journey book
+  unfolding passings
+  load-taken m ch h q c = rw (q, c) (load-route h)
+
+-- 15
+module _ (e : Engine) (k : ℕ) (on : Bool) where
+  pub skip-behind : behind (standing (e .progress) k) ≡ true → skipEffect e on (At k) ≡ refuse 15
+  unfolding skipEffect
+  skip-behind h = rw h
+
+  pub skip-same : behind (standing (e .progress) k) ≡ false → sameBool (getD (e .skips) k false) on ≡ true → skipEffect e on (At k) ≡ refuse 15
+  unfolding skipEffect
+  skip-same h q = rw (h, q)
+
+  pub skip-taken : (m : Engine) (ch : Changes) (head : Head) → behind (standing (e .progress) k) ≡ false → sameBool (getD (e .skips) k false) on ≡ false
+      → m ≡ withSkips e (set (e .skips) k on) → ch ≡ oneChange k (skipStatus on) (e .progress)
+      → effectSeen (record { number = 0; engine = m; loaded = false; head = head; changes = ch; reached = false }) ≡ skipEffect e on (At k)
+  unfolding skipEffect passings
+  skip-taken m ch head h q a b = rw (h, q, a, b)
+
+-- ---- the rows
+
+assoc : {A : Type 0} (p q : Judged (Unit {0})) (x : Judged A) → thenJudge p (λ a. thenJudge q (λ b. x)) ≡ thenJudge (thenJudge p (λ a. q)) (λ b. x)
+assoc (refuse n) q x = refl
+assoc (accept a) q x = refl
+
+module _ (e : Engine) (event : Event) (journey book memory : List ℕ) (n : ℕ) (told : judged n ≡ stateRows (stateAt (e .control .state)) (kindOf event)) where
+  abbrev effectRows : Judged Step
+  effectRows = thenJudge (model.effect e journey book event) (λ f. outputRow memory (stepBy e event f))
+
+  by-number : laterRows e event journey book memory ≡ thenJudge (judged n) (λ a. effectRows)
+  unfolding laterRows stateRows
+  by-number =
+      assoc (powerRows (stateAt (e .control .state)) (kindOf event)) (stateRow (stateAt (e .control .state)) (kindOf event)) effectRows
+      ∙ ap (λ (x : Judged (Unit {0})). thenJudge x (λ a. effectRows)) (sym told)
+
+  pub rows-number : (n ≡ 0 → ⊥) → laterRows e event journey book memory ≡ refuse n
+  rows-number h = by-number ∙ rw (ne-eqb n 0 h)
+
+  module _ (f : Effect) (zero : n ≡ 0) (seen : effectSeen f ≡ model.effect e journey book event) where
+    by-effect : laterRows e event journey book memory ≡ thenJudge (effectSeen f) (λ g. outputRow memory (stepBy e event g))
+    by-effect = by-number ∙ rw (eq-eqb n 0 zero) (ap (λ (x : Judged model.Effect). thenJudge x (λ g. outputRow memory (stepBy e event g))) (sym seen))
+
+    pub rows-effect : (f .number ≡ 0 → ⊥) → laterRows e event journey book memory ≡ refuse (f .number)
+    rows-effect h = by-effect ∙ ap (λ (x : Judged model.Effect). thenJudge x (λ g. outputRow memory (stepBy e event g))) (seen-number f h)
+
+    pub rows-output : f .number ≡ 0 → laterRows e event journey book memory ≡ outputRow memory (stepBy e event (effectIn f))
+    rows-output h = by-effect ∙ ap (λ (x : Judged model.Effect). thenJudge x (λ g. outputRow memory (stepBy e event g))) (seen-effect f h)
+
+module _ (e : Engine) (c : Call) where
+  by-event : call.judged e c ≡ thenJudge (eventOf (c .event)) (λ v. laterRows e v (c .journey) (c .book) (c .memory))
+  unfolding call.judged laterRows outputRow
+  by-event = refl
+
+  pub rows-read : (v : Event) → eventOf (c .event) ≡ accept v → call.judged e c ≡ laterRows e v (c .journey) (c .book) (c .memory)
+  rows-read v q = by-event ∙ ap (λ (x : Judged Event). thenJudge x (λ v. laterRows e v (c .journey) (c .book) (c .memory))) q
+
+  pub rows-unread : (n : ℕ) → eventOf (c .event) ≡ refuse n → call.judged e c ≡ refuse n
+  rows-unread n q = by-event ∙ ap (λ (x : Judged Event). thenJudge x (λ v. laterRows e v (c .journey) (c .book) (c .memory))) q
+
+-- ---- the outcome
+
+-- bytes stored at the front: "the bytes behind" keep their values
+stored : (bytes memory : List ℕ) → length bytes ≤ length memory → sets memory 0 bytes ≡ bytes ++ drop (length bytes) memory
+stored bytes memory h =
+    let n : 0 + length bytes ≡ length bytes = omega arith in
+    sets-eq bytes memory 0 (omega arith) ∙ ap (λ (k : ℕ). bytes ++ drop k memory) n
+
+module _ (e : Engine) (memory : List ℕ) where
+  pub steps-refused : (x : Judged Step) (n : ℕ) (r : Stepped) → x ≡ refuse n → r ≡ refusedStep e n → Steps (outcomeOf e memory x) r memory
+  unfolding outcomeOf
+  steps-refused x n r q t = rw q (record { engine = rw t; answer = rw t; output = refl })
+
+  pub steps-by : (x y : Judged Step) (r : Stepped) (after : List ℕ) → x ≡ y → Steps (outcomeOf e memory y) r after → Steps (outcomeOf e memory x) r after
+  steps-by x y r after q t = rw q t
+
+  -- 16
+  pub steps-short : (s : Step) (r : Stepped) → length memory < length (joined (s .packets)) → r ≡ refusedStep e 16 → Steps (outcomeOf e memory (outputRow memory s)) r memory
+  unfolding outputRow
+  steps-short s r h t = steps-refused (outputRow memory s) 16 r (rw (lt-ltb (length memory) (length (joined (s .packets))) h)) t
+
+  pub steps-written : (s : Step) (r : Stepped) (after : List ℕ) (n : ℕ) → n ≡ length (joined (s .packets)) → n ≤ length memory
+      → after ≡ sets memory 0 (joined (s .packets)) → r ≡ acceptedStep (s .engine) n → Steps (outcomeOf e memory (outputRow memory s)) r after
+  unfolding outcomeOf outputRow
+  steps-written s r after n q h w t =
+      let fits : length (joined (s .packets)) ≤ length memory = omega arith in
+      rw (le-ltb (length memory) (length (joined (s .packets))) fits)
+      (record { engine = rw t; answer = rw (t, q); output = w ∙ stored (joined (s .packets)) memory fits })
+
+-- the engine after the rows of the states, and what is to be written, are the model's
+pub record Decided (e : Engine) (v : Event) (f : Effect) (m : Engine) (w : Writes) : Type 0 where
+  pub engine : m ≡ stepBy e v (effectIn f) .engine
+  pub packets : packetsIn m w ≡ stepBy e v (effectIn f) .packets
+
+-- so they are, by the conditions c₁ before the event and c₂ after it
+module _ (e : Engine) (v : Event) (f : Effect) (c₁ c₂ : ℕ) (before after : Shown) (m : Engine) (due : Bool) (w : Writes)
+    (told₁ : c₁ ≡ conditions (routeIn e) (e .control .reports) (e .train .position) (standing (e .progress)))
+    (told₂ : c₂ ≡ conditions (routeIn (f .engine)) (f .engine .control .reports) (f .engine .train .position) (standing (f .engine .progress)))
+    (settled : m ≡ withControl (f .engine) (controlAfter (f .engine .control) v (f .reached) c₂))
+    (shown₁ : before ≡ shownOf e c₁) (shown₂ : after ≡ shownOf m c₂)
+    (dues : due ≡ statusDue (statusOf before) (statusOf after))
+    (writes : w ≡ writesOf f due c₂) where
+  pub decided : Decided e v f m w
+  unfolding conditionsIn controlAfter
+  decided =
+      let n = stepBy e v (effectIn f) .engine in
+      record {
+        engine = settled ∙ ap (λ (n : ℕ). withControl (f .engine) (controlAfter (f .engine .control) v (f .reached) n)) told₂;
+        packets = rw (writes, dues, shown₁, shown₂, settled, told₂, told₁) (packets-in n (writesOf f (statusDue (statusIn e) (statusIn n)) (conditionsIn n)) (statusIn e) (statusIn n) refl refl refl);
+      }
+
+module _ {e : Engine} {v : Event} {f : Effect} {m : Engine} {w : Writes} (d : Decided e v f m w) (memory : List ℕ) (n : ℕ) (sized : n ≡ sizeIn w) where
+  decided-size : n ≡ length (joined (stepBy e v (effectIn f) .packets))
+  decided-size = sized ∙ sym (size-in m w) ∙ ap (λ (ps : List Packet). length (joined ps)) (d .packets)
+
+  pub concluded-16 : (r : Stepped) → length memory < n → r ≡ refusedStep e 16 → Steps (outcomeOf e memory (outputRow memory (stepBy e v (effectIn f)))) r memory
+  concluded-16 r h t = steps-short e memory (stepBy e v (effectIn f)) r (subst (λ (k : ℕ). length memory < k) decided-size h) t
+
+  pub concluded : (r : Stepped) (after : List ℕ) → n ≤ length memory → after ≡ sets memory 0 (joined (packetsIn m w)) → r ≡ acceptedStep m n
+      → Steps (outcomeOf e memory (outputRow memory (stepBy e v (effectIn f)))) r after
+  concluded r after h a t =
+      steps-written e memory (stepBy e v (effectIn f)) r after n decided-size h
+      (a ∙ ap (λ (ps : List Packet). sets memory 0 (joined ps)) (d .packets))
+      (t ∙ ap (λ (x : Engine). acceptedStep x n) (d .engine))

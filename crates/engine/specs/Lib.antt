@@ -1,0 +1,3 @@
+-- What the code's structs stand for, and laws of the parts of a call.
+pub mod Seen
+pub mod Laws

@@ -1,0 +1,98 @@
+-- A call at the engine of a history goes by the table and the packets of the rules.
+use mathlib.Core.Path.{_≡_, refl, _∙_, ap, subst}
+use mathlib.Core.Bool.{Bool}
+use mathlib.Core.List.{List, _∷_}
+use lib.Dec.{ltb}
+use lib.ListN.{length}
+use Rattle.wire.specs.Judged.{Judged, thenJudge, row}
+use Rattle.wire.specs.Judged.Judged.{refuse, accept}
+use Rattle.event.specs.Events.{eventOf, kindOf}
+use Rattle.event.specs.declared.Event.{Event}
+use Rattle.packets.specs.Packets.{joined}
+use Rattle.packets.specs.declared.Packet.{Packet}
+use Rattle.control.specs.Codes.{code, stateAt}
+use Rattle.control.specs.Laws.{state-code}
+use Rattle.control.specs.Numbers.{powerRows, stateRow}
+use Rattle.model.specs.Packets.{packetsOf}
+use Rattle.model.specs.Effect.{Effect, effect}
+use Rattle.model.specs.Call.{Call, Step, statusIn, stepTo, stepBy, judged}
+use Rattle.history.specs.Values.{History, eventIn, positionOf, routeOf}
+use Rattle.history.specs.Rules.{stateOf}
+use Rattle.history.specs.Table.{changesBy, headIn, statusOf, packetsBy, kindRows, tableOf}
+use Rattle.history.proofs.Fields.{engineOf}
+use Rattle.history.proofs.FieldsEffect.{effectOf, effect-is}
+use Rattle.history.proofs.FieldsControl.{conditions-in, engine-is}
+
+-- the event that the layout reads
+pub event-is : (c : Call) (e : Event) → eventOf (c .event) ≡ accept e → eventIn c ≡ e
+unfolding eventIn
+event-is c e q = rw (q, eventIn)
+
+-- an accepted call, by the rules
+abbrev pub ruled : History → Call → Step
+ruled h c = record { engine = engineOf (c ∷ h); packets = packetsBy h c }
+
+status-is : (h : History) → statusIn (engineOf h) ≡ statusOf h
+status-is h = λ i. record { state = code (stateOf h); conditions = conditions-in h i; speed = positionOf h .speed }
+
+step-is : (h : History) (c : Call) → stepBy (engineOf h) (eventIn c) (effectOf h c) ≡ ruled h c
+unfolding packetsBy
+step-is h c =
+    ap (λ m. stepTo (engineOf h) (effectOf h c) m) (engine-is h c)
+    ∙ λ i. record { engine = engineOf (c ∷ h); packets = packetsOf (routeOf (c ∷ h)) (positionOf (c ∷ h)) (headIn c) (changesBy h c) (status-is h i) (status-is (c ∷ h) i) }
+
+-- the rows one after the other
+rows-on : (power state kind : Judged (Unit {0})) (f : Effect) (test : Effect → Bool) (step : Effect → Step)
+    → thenJudge power (λ u. thenJudge state (λ u. thenJudge (thenJudge kind (λ u. accept f)) (λ f. thenJudge (row 16 (test f)) (λ u. accept (step f)))))
+    ≡ thenJudge (thenJudge power (λ u. thenJudge state (λ u. thenJudge kind (λ u. row 16 (test f))))) (λ u. accept (step f))
+rows-on (refuse n) s k f test step = refl
+rows-on (accept p) (refuse n) k f test step = refl
+rows-on (accept p) (accept s) (refuse n) f test step = refl
+rows-on (accept p) (accept s) (accept k) f test step = refl
+
+module _ (h : History) (c : Call) where
+  abbrev shorter : List Packet → Bool
+  shorter ps = ltb (length (c .memory)) (length (joined ps))
+
+  abbrev engineRows : Event → Judged Step
+  engineRows e =
+      thenJudge (powerRows (stateAt (code (stateOf h))) (kindOf e)) (λ u.
+      thenJudge (stateRow (stateAt (code (stateOf h))) (kindOf e)) (λ u.
+      thenJudge (effect (engineOf h) (c .journey) (c .book) e) (λ f.
+      thenJudge (row 16 (shorter (stepBy (engineOf h) e f .packets))) (λ u.
+      accept (stepBy (engineOf h) e f)))))
+
+  abbrev ruleRows : Event → Judged (Unit {0})
+  ruleRows e =
+      thenJudge (powerRows (stateOf h) (kindOf e)) (λ u.
+      thenJudge (stateRow (stateOf h) (kindOf e)) (λ u.
+      thenJudge (kindRows h c) (λ u.
+      row 16 (shorter (packetsBy h c)))))
+
+  same-rows : engineRows (eventIn c) ≡ thenJudge (ruleRows (eventIn c)) (λ u. accept (ruled h c))
+  same-rows =
+      let e = eventIn c in
+      let k = kindOf e in
+      ap (λ s.
+      thenJudge (powerRows s k) (λ u.
+      thenJudge (stateRow s k) (λ u.
+      thenJudge (effect (engineOf h) (c .journey) (c .book) e) (λ f.
+      thenJudge (row 16 (shorter (stepBy (engineOf h) e f .packets))) (λ u.
+      accept (stepBy (engineOf h) e f)))))) (state-code (stateOf h))
+      ∙ ap (λ m.
+      thenJudge (powerRows (stateOf h) k) (λ u.
+      thenJudge (stateRow (stateOf h) k) (λ u.
+      thenJudge m (λ f.
+      thenJudge (row 16 (shorter (stepBy (engineOf h) e f .packets))) (λ u.
+      accept (stepBy (engineOf h) e f)))))) (effect-is h c)
+      ∙ rows-on (powerRows (stateOf h) k) (stateRow (stateOf h) k) (kindRows h c) (effectOf h c) (λ f. shorter (stepBy (engineOf h) e f .packets)) (λ f. stepBy (engineOf h) e f)
+      ∙ ap (λ (s : Step).
+      thenJudge (thenJudge (powerRows (stateOf h) k) (λ u. thenJudge (stateRow (stateOf h) k) (λ u. thenJudge (kindRows h c) (λ u. row 16 (shorter (s .packets)))))) (λ u. accept s)) (step-is h c)
+
+  pub judged-is : judged (engineOf h) c ≡ thenJudge (tableOf h c) (λ u. accept (ruled h c))
+  unfolding judged tableOf
+  judged-is = go (eventOf (c .event)) refl
+    where
+      go : (m : Judged Event) → eventOf (c .event) ≡ m → thenJudge m engineRows ≡ thenJudge (thenJudge m ruleRows) (λ u. accept (ruled h c))
+      go (refuse n) q = refl
+      go (accept e) q = subst (λ x. engineRows x ≡ thenJudge (ruleRows x) (λ u. accept (ruled h c))) (event-is c e q) same-rows

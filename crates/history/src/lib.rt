@@ -1,0 +1,1 @@
+// The whole list: definitions and proofs only.

@@ -1,0 +1,112 @@
+use Prim.Native.Nat.{_-_}
+use denote.Ref.{now}
+use mathlib.Core.Path.{_∙_, sym, ap}
+use mathlib.Core.Bool.{false≢true}
+use lib.ListN.{drop}
+use native.Mathlib.Omega.{arith}
+use borrow.Author.Needs.{needs}
+use Rattle.wire.specs.Parse.{fieldSeen, counted}
+use Rattle.wire.specs.ParseLaws.{field-inv}
+use Rattle.journey.specs.Journey.{nameRecord}
+use Rattle.journey.specs.Filled.{Reading, reading-none, reading-more, reading-bad, reading-end, counted-bad, counted-good}
+use Rattle.journey.specs.Answers.{nameSeen, blankName}
+use Rattle.journey.proofs.read_names.Statement.{statement}
+use Rattle.journey.proofs.read_names.Tie as tie
+
+abbrev Inv-loop : tie.InvT-loop
+Inv-loop s at names₀ n start p₀ i₀ names p i = Reading nameRecord blankName 40 n i (counted 40 nameRecord (drop at s)) (drop p s) names
+
+abbrev μ-loop : tie.MeasureT-loop
+μ-loop s at names₀ n start p₀ i₀ names p i = n - i
+
+read-field-requires : tie.Need-read-field-requires Inv-loop μ-loop
+read-field-requires c κs = search needs
+
+enum-known-n : tie.Need-enum-known-n Inv-loop μ-loop
+enum-known-n c = search needs
+
+enum-told : tie.Need-enum-told Inv-loop μ-loop
+enum-told c = search needs
+
+returns : tie.Need-returns Inv-loop μ-loop
+returns c =
+    let s = now (c .before .before .before .before .args .s) in
+    let e = sym (c .before .before .read-field .ensures) ∙ ap (fieldSeen s) (c .enum-told .given .1) in
+    record { seen = counted-bad nameRecord 40 _ e; most = omega arith; array = λ q. absurd (false≢true q) }
+
+loop-holds : tie.Need-loop-holds Inv-loop μ-loop
+loop-holds c =
+    let s = now (c .before .before .before .before .before .args .s) in
+    let e = sym (c .before .before .before .read-field .ensures) ∙ ap (fieldSeen s) (c .before .n .given .1) in
+    reading-none nameRecord blankName 40 _ _ _ (field-inv 1 1 40 _ _ _ e .most) (counted-good nameRecord 40 _ _ _ e)
+
+cast-loop : tie.Need-cast-loop Inv-loop μ-loop
+cast-loop c = search needs
+
+read-name-requires : tie.Need-read-name-requires Inv-loop μ-loop
+read-name-requires c κs = search needs
+
+enum-known-name : tie.Need-enum-known-name Inv-loop μ-loop
+enum-known-name c = search needs
+
+enum-told-2 : tie.Need-enum-told-2 Inv-loop μ-loop
+enum-told-2 c = search needs
+
+returns-2 : tie.Need-returns-2 Inv-loop μ-loop
+returns-2 c =
+    let w = c .before .before .before .before .loop in
+    let s = now (c .before .before .before .before .before .before .before .before .before .before .args .s) in
+    let e = sym (c .before .before .read-name .ensures) ∙ ap (nameSeen s) (c .enum-told2 .given .1) in
+    record { seen = reading-bad nameRecord blankName 40 _ _ _ _ _ (omega arith) e (w .inv); most = omega arith; array = λ q. absurd (false≢true q) }
+
+mul-names : tie.Need-mul-names Inv-loop μ-loop
+mul-names c = omega arith
+
+array-set-from-names : tie.Need-array-set-from-names Inv-loop μ-loop
+array-set-from-names c = omega arith
+
+add-i : tie.Need-add-i Inv-loop μ-loop
+add-i c = omega arith
+
+loop-less : tie.Need-loop-less Inv-loop μ-loop
+loop-less c = omega arith
+
+loop-again : tie.Need-loop-again Inv-loop μ-loop
+loop-again c =
+    let w = c .before .before .before .before .before .loop in
+    let s = now (c .before .before .before .before .before .before .before .before .before .before .before .args .s) in
+    let e = sym (c .before .before .before .read-name .ensures) ∙ ap (nameSeen s) (c .before .name .given .1) in
+    reading-more nameRecord blankName 40 _ _ _ _ _ _ _ (omega arith) e (w .inv)
+
+cast-t20 : tie.Need-cast-t20 Inv-loop μ-loop
+cast-t20 c = omega arith
+
+returns-3 : tie.Need-returns-3 Inv-loop μ-loop
+returns-3 c =
+    let w = c .before .loop in
+    let e = reading-end nameRecord blankName 40 _ _ _ _ _ (omega arith) (w .inv) in
+    record { seen = e .0; most = w .inv .most; array = λ q. e .1 }
+
+pub read-names-spec : {M : Type 1} → statement M
+read-names-spec =
+    tie.close
+    (tie.spec
+    Inv-loop
+    μ-loop
+    read-field-requires
+    enum-known-n
+    enum-told
+    returns
+    loop-holds
+    cast-loop
+    read-name-requires
+    enum-known-name
+    enum-told-2
+    returns-2
+    mul-names
+    array-set-from-names
+    add-i
+    loop-less
+    loop-again
+    cast-t20
+    returns-3)

@@ -1,0 +1,173 @@
+use Rattle.journey.specs.Ranges.{optional-most}
+use denote.Ref.{now}
+use mathlib.Core.Path.{_∙_, sym, ap}
+use native.Mathlib.Omega.{arith}
+use Rattle.wire.specs.Parse.{fieldSeen}
+use Rattle.wire.specs.ParseLaws.{field-inv}
+use Rattle.journey.specs.Journey.{pointRecord}
+use borrow.Author.Needs.{needs}
+use Rattle.journey.proofs.read_point.Statement.{statement}
+use Rattle.journey.proofs.read_point.Tie as tie
+
+read-field-requires : tie.Need-read-field-requires
+read-field-requires c κs = search needs
+
+enum-known-map : tie.Need-enum-known-map
+enum-known-map c = search needs
+
+enum-told : tie.Need-enum-told
+enum-told c = search needs
+
+returns : tie.Need-returns
+unfolding pointRecord
+returns c =
+    let s = now (c .before .before .before .before .args .s) in
+    let e1 = sym (c .before .before .read-field .ensures) ∙ ap (fieldSeen s) (c .enum-told .given .1) in
+    rw (e1)
+
+point-map-requires : tie.Need-point-map-requires
+point-map-requires c κs = search needs
+
+read-field-requires-2 : tie.Need-read-field-requires-2
+read-field-requires-2 c κs = search needs
+
+enum-known-tp : tie.Need-enum-known-tp
+enum-known-tp c = search needs
+
+enum-told-2 : tie.Need-enum-told-2
+enum-told-2 c = search needs
+
+returns-2 : tie.Need-returns-2
+unfolding pointRecord
+returns-2 c =
+    let s = now (c .before .before .before .before .before .before .before .before .before .before .args .s) in
+    let e1 = sym (c .before .before .before .before .before .before .before .before .read-field .ensures) ∙ ap (fieldSeen s) (c .before .before .before .before .before .before .map .given .1) in
+    let e2 = sym (c .before .before .before .before .point-map .ensures) ∙ c .before .before .before .if1 .taken in
+    let e3 = sym (c .before .before .read-field2 .ensures) ∙ ap (fieldSeen s) (c .enum-told2 .given .1) in
+    rw (e1, e2, e3)
+
+read-field-requires-3 : tie.Need-read-field-requires-3
+read-field-requires-3 c κs = search needs
+
+enum-known-index : tie.Need-enum-known-index
+enum-known-index c = search needs
+
+enum-told-3 : tie.Need-enum-told-3
+enum-told-3 c = search needs
+
+returns-3 : tie.Need-returns-3
+unfolding pointRecord
+returns-3 c =
+    let s = now (c .before .before .before .before .before .before .before .before .before .before .before .before .before .before .args .s) in
+    let e1 = sym (c .before .before .before .before .before .before .before .before .before .before .before .before .read-field .ensures) ∙ ap (fieldSeen s) (c .before .before .before .before .before .before .before .before .before .before .map .given .1) in
+    let e2 = sym (c .before .before .before .before .before .before .before .before .point-map .ensures) ∙ c .before .before .before .before .before .before .before .if1 .taken in
+    let e3 = sym (c .before .before .before .before .before .before .read-field2 .ensures) ∙ ap (fieldSeen s) (c .before .before .before .before .tp .given .1) in
+    let e4 = sym (c .before .before .read-field3 .ensures) ∙ ap (fieldSeen s) (c .enum-told3 .given .1) in
+    rw (e1, e2, e3, e4)
+
+read-optional-requires : tie.Need-read-optional-requires
+read-optional-requires c κs = search needs
+
+enum-known-alignment : tie.Need-enum-known-alignment
+enum-known-alignment c = search needs
+
+enum-told-4 : tie.Need-enum-told-4
+enum-told-4 c = search needs
+
+returns-4 : tie.Need-returns-4
+unfolding pointRecord
+returns-4 c =
+    let s = now (c .before .before .before .before .before .before .before .before .before .before .before .before .before .before .before .before .before .before .args .s) in
+    let e1 = sym (c .before .before .before .before .before .before .before .before .before .before .before .before .before .before .before .before .read-field .ensures) ∙ ap (fieldSeen s) (c .before .before .before .before .before .before .before .before .before .before .before .before .before .before .map .given .1) in
+    let e2 = sym (c .before .before .before .before .before .before .before .before .before .before .before .before .point-map .ensures) ∙ c .before .before .before .before .before .before .before .before .before .before .before .if1 .taken in
+    let e3 = sym (c .before .before .before .before .before .before .before .before .before .before .read-field2 .ensures) ∙ ap (fieldSeen s) (c .before .before .before .before .before .before .before .before .tp .given .1) in
+    let e4 = sym (c .before .before .before .before .before .before .read-field3 .ensures) ∙ ap (fieldSeen s) (c .before .before .before .before .index .given .1) in
+    let e5 = sym (c .before .before .read-optional .ensures) ∙ ap (fieldSeen s) (c .enum-told4 .given .1) in
+    rw (e1, e2, e3, e4, e5)
+
+read-optional-requires-2 : tie.Need-read-optional-requires-2
+read-optional-requires-2 c κs = search needs
+
+enum-known-stopping : tie.Need-enum-known-stopping
+enum-known-stopping c = search needs
+
+enum-told-5 : tie.Need-enum-told-5
+enum-told-5 c = search needs
+
+returns-5 : tie.Need-returns-5
+unfolding pointRecord
+returns-5 c =
+    let s = now (c .before .before .before .before .before .before .before .before .before .before .before .before .before .before .before .before .before .before .before .before .before .before .args .s) in
+    let e1 = sym (c .before .before .before .before .before .before .before .before .before .before .before .before .before .before .before .before .before .before .before .before .read-field .ensures) ∙ ap (fieldSeen s) (c .before .before .before .before .before .before .before .before .before .before .before .before .before .before .before .before .before .before .map .given .1) in
+    let e2 = sym (c .before .before .before .before .before .before .before .before .before .before .before .before .before .before .before .before .point-map .ensures) ∙ c .before .before .before .before .before .before .before .before .before .before .before .before .before .before .before .if1 .taken in
+    let e3 = sym (c .before .before .before .before .before .before .before .before .before .before .before .before .before .before .read-field2 .ensures) ∙ ap (fieldSeen s) (c .before .before .before .before .before .before .before .before .before .before .before .before .tp .given .1) in
+    let e4 = sym (c .before .before .before .before .before .before .before .before .before .before .read-field3 .ensures) ∙ ap (fieldSeen s) (c .before .before .before .before .before .before .before .before .index .given .1) in
+    let e5 = sym (c .before .before .before .before .before .before .read-optional .ensures) ∙ ap (fieldSeen s) (c .before .before .before .before .alignment .given .1) in
+    let e6 = sym (c .before .before .read-optional2 .ensures) ∙ ap (fieldSeen s) (c .enum-told5 .given .1) in
+    rw (e1, e2, e3, e4, e5, e6)
+
+cast-t26 : tie.Need-cast-t26
+cast-t26 c =
+    let e = sym (c .before .before .before .before .before .before .before .before .before .before .before .read-field3 .ensures) ∙ ap (fieldSeen _) (c .before .before .before .before .before .before .before .before .before .index .given .1) in
+    omega (arith, field-inv 1 0 255 _ _ _ e .most)
+
+cast-t27 : tie.Need-cast-t27
+cast-t27 c =
+    let e = sym (c .before .before .before .before .before .before .before .read-optional .ensures) ∙ ap (fieldSeen _) (c .before .before .before .before .before .alignment .given .1) in
+    omega (arith, optional-most _ 0 1 0 2 2 _ _ _ (omega arith) (omega arith) e)
+
+cast-t28 : tie.Need-cast-t28
+cast-t28 c =
+    let e = sym (c .before .before .before .read-optional2 .ensures) ∙ ap (fieldSeen _) (c .before .stopping .given .1) in
+    omega (arith, optional-most _ 0 1 0 127 127 _ _ _ (omega arith) (omega arith) e)
+
+returns-6 : tie.Need-returns-6
+unfolding pointRecord
+returns-6 c =
+    let s = now (c .before .before .before .before .before .before .before .before .before .before .before .before .before .before .before .before .before .before .before .before .before .before .before .args .s) in
+    let e1 = sym (c .before .before .before .before .before .before .before .before .before .before .before .before .before .before .before .before .before .before .before .before .before .read-field .ensures) ∙ ap (fieldSeen s) (c .before .before .before .before .before .before .before .before .before .before .before .before .before .before .before .before .before .before .before .map .given .1) in
+    let e2 = sym (c .before .before .before .before .before .before .before .before .before .before .before .before .before .before .before .before .before .point-map .ensures) ∙ c .before .before .before .before .before .before .before .before .before .before .before .before .before .before .before .before .if1 .taken in
+    let e3 = sym (c .before .before .before .before .before .before .before .before .before .before .before .before .before .before .before .read-field2 .ensures) ∙ ap (fieldSeen s) (c .before .before .before .before .before .before .before .before .before .before .before .before .before .tp .given .1) in
+    let e4 = sym (c .before .before .before .before .before .before .before .before .before .before .before .read-field3 .ensures) ∙ ap (fieldSeen s) (c .before .before .before .before .before .before .before .before .before .index .given .1) in
+    let e5 = sym (c .before .before .before .before .before .before .before .read-optional .ensures) ∙ ap (fieldSeen s) (c .before .before .before .before .before .alignment .given .1) in
+    let e6 = sym (c .before .before .before .read-optional2 .ensures) ∙ ap (fieldSeen s) (c .before .stopping .given .1) in
+    rw (e1, e2, e3, e4, e5, e6)
+
+returns-7 : tie.Need-returns-7
+unfolding pointRecord
+returns-7 c =
+    let s = now (c .before .before .before .before .before .before .before .args .s) in
+    let e1 = sym (c .before .before .before .before .before .read-field .ensures) ∙ ap (fieldSeen s) (c .before .before .before .map .given .1) in
+    let e2 = sym (c .before .point-map .ensures) ∙ c .if1 .left in
+    rw (e1, e2)
+
+pub read-point-spec : {M : Type 1} → statement M
+read-point-spec =
+    tie.close
+    (tie.spec
+    read-field-requires
+    enum-known-map
+    enum-told
+    returns
+    point-map-requires
+    read-field-requires-2
+    enum-known-tp
+    enum-told-2
+    returns-2
+    read-field-requires-3
+    enum-known-index
+    enum-told-3
+    returns-3
+    read-optional-requires
+    enum-known-alignment
+    enum-told-4
+    returns-4
+    read-optional-requires-2
+    enum-known-stopping
+    enum-told-5
+    returns-5
+    cast-t26
+    cast-t27
+    cast-t28
+    returns-6
+    returns-7)

@@ -1,0 +1,112 @@
+use Prim.Native.Nat.{_-_}
+use denote.Ref.{now}
+use mathlib.Core.Path.{_∙_, sym, ap}
+use mathlib.Core.Bool.{false≢true}
+use lib.ListN.{drop}
+use native.Mathlib.Omega.{arith}
+use borrow.Author.Needs.{needs}
+use Rattle.wire.specs.Parse.{fieldSeen, counted}
+use Rattle.wire.specs.ParseLaws.{field-inv}
+use Rattle.journey.specs.Journey.{pointRecord}
+use Rattle.journey.specs.Filled.{Reading, reading-none, reading-more, reading-bad, reading-end, counted-bad, counted-good}
+use Rattle.journey.specs.Answers.{pointSeen, blankJourneyPoint}
+use Rattle.journey.proofs.read_points.Statement.{statement}
+use Rattle.journey.proofs.read_points.Tie as tie
+
+abbrev Inv-loop : tie.InvT-loop
+Inv-loop s at points₀ n start p₀ i₀ points p i = Reading pointRecord blankJourneyPoint 64 n i (counted 64 pointRecord (drop at s)) (drop p s) points
+
+abbrev μ-loop : tie.MeasureT-loop
+μ-loop s at points₀ n start p₀ i₀ points p i = n - i
+
+read-field-requires : tie.Need-read-field-requires Inv-loop μ-loop
+read-field-requires c κs = search needs
+
+enum-known-n : tie.Need-enum-known-n Inv-loop μ-loop
+enum-known-n c = search needs
+
+enum-told : tie.Need-enum-told Inv-loop μ-loop
+enum-told c = search needs
+
+returns : tie.Need-returns Inv-loop μ-loop
+returns c =
+    let s = now (c .before .before .before .before .args .s) in
+    let e = sym (c .before .before .read-field .ensures) ∙ ap (fieldSeen s) (c .enum-told .given .1) in
+    record { seen = counted-bad pointRecord 64 _ e; most = omega arith; array = λ q. absurd (false≢true q) }
+
+loop-holds : tie.Need-loop-holds Inv-loop μ-loop
+loop-holds c =
+    let s = now (c .before .before .before .before .before .args .s) in
+    let e = sym (c .before .before .before .read-field .ensures) ∙ ap (fieldSeen s) (c .before .n .given .1) in
+    reading-none pointRecord blankJourneyPoint 64 _ _ _ (field-inv 1 1 64 _ _ _ e .most) (counted-good pointRecord 64 _ _ _ e)
+
+cast-loop : tie.Need-cast-loop Inv-loop μ-loop
+cast-loop c = search needs
+
+read-point-requires : tie.Need-read-point-requires Inv-loop μ-loop
+read-point-requires c κs = search needs
+
+enum-known-point : tie.Need-enum-known-point Inv-loop μ-loop
+enum-known-point c = search needs
+
+enum-told-2 : tie.Need-enum-told-2 Inv-loop μ-loop
+enum-told-2 c = search needs
+
+returns-2 : tie.Need-returns-2 Inv-loop μ-loop
+returns-2 c =
+    let w = c .before .before .before .before .loop in
+    let s = now (c .before .before .before .before .before .before .before .before .before .before .args .s) in
+    let e = sym (c .before .before .read-point .ensures) ∙ ap (pointSeen s) (c .enum-told2 .given .1) in
+    record { seen = reading-bad pointRecord blankJourneyPoint 64 _ _ _ _ _ (omega arith) e (w .inv); most = omega arith; array = λ q. absurd (false≢true q) }
+
+mul-points : tie.Need-mul-points Inv-loop μ-loop
+mul-points c = omega arith
+
+array-set-from-points : tie.Need-array-set-from-points Inv-loop μ-loop
+array-set-from-points c = omega arith
+
+add-i : tie.Need-add-i Inv-loop μ-loop
+add-i c = omega arith
+
+loop-less : tie.Need-loop-less Inv-loop μ-loop
+loop-less c = omega arith
+
+loop-again : tie.Need-loop-again Inv-loop μ-loop
+loop-again c =
+    let w = c .before .before .before .before .before .loop in
+    let s = now (c .before .before .before .before .before .before .before .before .before .before .before .args .s) in
+    let e = sym (c .before .before .before .read-point .ensures) ∙ ap (pointSeen s) (c .before .point .given .1) in
+    reading-more pointRecord blankJourneyPoint 64 _ _ _ _ _ _ _ (omega arith) e (w .inv)
+
+cast-t20 : tie.Need-cast-t20 Inv-loop μ-loop
+cast-t20 c = omega arith
+
+returns-3 : tie.Need-returns-3 Inv-loop μ-loop
+returns-3 c =
+    let w = c .before .loop in
+    let e = reading-end pointRecord blankJourneyPoint 64 _ _ _ _ _ (omega arith) (w .inv) in
+    record { seen = e .0; most = w .inv .most; array = λ q. e .1 }
+
+pub read-points-spec : {M : Type 1} → statement M
+read-points-spec =
+    tie.close
+    (tie.spec
+    Inv-loop
+    μ-loop
+    read-field-requires
+    enum-known-n
+    enum-told
+    returns
+    loop-holds
+    cast-loop
+    read-point-requires
+    enum-known-point
+    enum-told-2
+    returns-2
+    mul-points
+    array-set-from-points
+    add-i
+    loop-less
+    loop-again
+    cast-t20
+    returns-3)

@@ -1,0 +1,358 @@
+// Journeys: read whole (9).
+use wire::Field;
+use wire::Width;
+use wire::read_field;
+use wire::read_optional;
+ghost use mathlib.Core.Path.{_≡_};
+ghost use lib.ListN.{drop};
+ghost use Rattle.journey.specs.Journey.{nameRecord, pointMap, pointRecord, headMap, headRecord};
+ghost use Rattle.journey.specs.Answers.{nameSeen, pointSeen, headSeen, NamesTold, PointsTold, refusedBy, JourneyTold};
+
+// The name of a segment.
+pub struct Name {
+    pub nidc: u16,
+    pub nidsp: u32,
+}
+
+// A timing point as the journey has it; `index` is that of its segment.
+pub struct JourneyPoint {
+    pub nidtp: u32,
+    pub index: u8,
+    pub alignment: u8,
+    pub stopping: u8,
+    pub stop: bool,
+    pub trackside: bool,
+    pub end: bool,
+}
+
+// NID_OPERATIONAL, the stamp and NID_ATOTS.
+pub struct Head {
+    pub operational: u32,
+    pub date: u16,
+    pub seconds: u32,
+    pub counter: u8,
+    pub atots: u16,
+}
+
+// A journey that was read; number is 0, or 9.
+pub struct Journey {
+    pub number: u8,
+    pub head: Head,
+    pub namecount: u8,
+    pub names: [Name; 40],
+    pub pointcount: u8,
+    pub points: [JourneyPoint; 64],
+}
+
+// A value that was read and the position behind it.
+enum NameRead {
+    Read(Name, usize),
+    Bad,
+}
+
+enum PointRead {
+    Read(JourneyPoint, usize),
+    Bad,
+}
+
+enum HeadRead {
+    Read(Head, usize),
+    Bad,
+}
+
+struct Names {
+    ok: bool,
+    next: usize,
+    count: u8,
+    names: [Name; 40],
+}
+
+struct Points {
+    ok: bool,
+    next: usize,
+    count: u8,
+    points: [JourneyPoint; 64],
+}
+
+fn read_name(s: &[u8], at: usize) -> NameRead
+    ensures { λ r. ⌜ nameSeen (now (s .entry)) r ≡ nameRecord (drop at (now (s .entry))) ⌝ }
+{
+    let Field::Value(c, a) = read_field(s, at, Width::Two, 0, 1023) else {
+        return NameRead::Bad;
+    };
+    let Field::Value(sp, next) = read_field(s, a, Width::Four, 0, 4294967295) else {
+        return NameRead::Bad;
+    };
+    let name = Name {
+        nidc: c as u16,
+        nidsp: sp,
+    };
+    NameRead::Read(name, next)
+}
+
+// Bits 0 and 1 stand, and 5 only with 4.
+fn point_map(map: u32) -> bool
+    ensures { λ r. ⌜ r ≡ pointMap map ⌝ }
+{
+    if map % 4 != 3 {
+        return false;
+    }
+    if map / 32 % 2 == 1 {
+        map / 16 % 2 == 1
+    } else {
+        true
+    }
+}
+
+fn read_point(s: &[u8], at: usize) -> PointRead
+    ensures { λ r. ⌜ pointSeen (now (s .entry)) r ≡ pointRecord (drop at (now (s .entry))) ⌝ }
+{
+    let Field::Value(map, a) = read_field(s, at, Width::One, 0, 127) else {
+        return PointRead::Bad;
+    };
+    if point_map(map) {
+        let Field::Value(tp, b) = read_field(s, a, Width::Four, 0, 4294967294) else {
+            return PointRead::Bad;
+        };
+        let Field::Value(index, d) = read_field(s, b, Width::One, 0, 255) else {
+            return PointRead::Bad;
+        };
+        let Field::Value(alignment, e) = read_optional(s, d, map / 4 % 2 == 1, 0, Width::One, 0, 2)
+        else {
+            return PointRead::Bad;
+        };
+        let Field::Value(stopping, next) = read_optional(
+            s,
+            e,
+            map / 8 % 2 == 1,
+            0,
+            Width::One,
+            0,
+            127,
+        ) else {
+            return PointRead::Bad;
+        };
+        let point = JourneyPoint {
+            nidtp: tp,
+            index: index as u8,
+            alignment: alignment as u8,
+            stopping: stopping as u8,
+            stop: map / 16 % 2 == 1,
+            trackside: map / 32 % 2 == 1,
+            end: map / 64 % 2 == 1,
+        };
+        PointRead::Read(point, next)
+    } else {
+        PointRead::Bad
+    }
+}
+
+// Bits 1, 3 and 4 stand.
+fn head_map(map: u32) -> bool
+    ensures { λ r. ⌜ r ≡ headMap map ⌝ }
+{
+    if map / 2 % 2 != 1 {
+        return false;
+    }
+    if map / 8 % 2 != 1 {
+        return false;
+    }
+    map / 16 % 2 == 1
+}
+
+// The map and the fields before the segments.
+fn read_head(s: &[u8]) -> HeadRead
+    ensures { λ r. ⌜ headSeen (now (s .entry)) r ≡ headRecord (now (s .entry)) ⌝ }
+{
+    let Field::Value(map, a) = read_field(s, 0, Width::One, 0, 31) else {
+        return HeadRead::Bad;
+    };
+    if head_map(map) {
+        let Field::Value(operational, b) = read_optional(
+            s,
+            a,
+            map / 1 % 2 == 1,
+            4294967295,
+            Width::Four,
+            0,
+            4294967295,
+        ) else {
+            return HeadRead::Bad;
+        };
+        let Field::Value(date, d) = read_field(s, b, Width::Two, 0, 32767) else {
+            return HeadRead::Bad;
+        };
+        let Field::Value(seconds, e) = read_field(s, d, Width::Four, 0, 4294967295) else {
+            return HeadRead::Bad;
+        };
+        let Field::Value(counter, f) = read_field(s, e, Width::One, 0, 255) else {
+            return HeadRead::Bad;
+        };
+        let Field::Value(atots, next) = read_optional(
+            s,
+            f,
+            map / 4 % 2 == 1,
+            16384,
+            Width::Two,
+            0,
+            16383,
+        ) else {
+            return HeadRead::Bad;
+        };
+        let head = Head {
+            operational: operational,
+            date: date as u16,
+            seconds: seconds,
+            counter: counter as u8,
+            atots: atots as u16,
+        };
+        HeadRead::Read(head, next)
+    } else {
+        HeadRead::Bad
+    }
+}
+
+// The count and the names behind it.
+fn read_names(s: &[u8], at: usize) -> Names
+    ensures { λ r. ⌜ NamesTold (now (s .entry)) at r ⌝ }
+{
+    let blank = Name { nidc: 0, nidsp: 0 };
+    let mut names = [blank; 40];
+    let Field::Value(n, start) = read_field(s, at, Width::One, 1, 40) else {
+        return Names {
+            ok: false,
+            next: at,
+            count: 0,
+            names: names,
+        };
+    };
+    let mut p = start;
+    let mut i: usize = 0;
+    while i < (n as usize) {
+        let NameRead::Read(name, next) = read_name(s, p) else {
+            return Names {
+                ok: false,
+                next: p,
+                count: 0,
+                names: names,
+            };
+        };
+        names[i] = name;
+        p = next;
+        i += 1;
+    }
+    Names {
+        ok: true,
+        next: p,
+        count: n as u8,
+        names: names,
+    }
+}
+
+// The count and the points behind it.
+fn read_points(s: &[u8], at: usize) -> Points
+    ensures { λ r. ⌜ PointsTold (now (s .entry)) at r ⌝ }
+{
+    let blank = JourneyPoint {
+        nidtp: 0,
+        index: 0,
+        alignment: 0,
+        stopping: 0,
+        stop: false,
+        trackside: false,
+        end: false,
+    };
+    let mut points = [blank; 64];
+    let Field::Value(n, start) = read_field(s, at, Width::One, 1, 64) else {
+        return Points {
+            ok: false,
+            next: at,
+            count: 0,
+            points: points,
+        };
+    };
+    let mut p = start;
+    let mut i: usize = 0;
+    while i < (n as usize) {
+        let PointRead::Read(point, next) = read_point(s, p) else {
+            return Points {
+                ok: false,
+                next: p,
+                count: 0,
+                points: points,
+            };
+        };
+        points[i] = point;
+        p = next;
+        i += 1;
+    }
+    Points {
+        ok: true,
+        next: p,
+        count: n as u8,
+        points: points,
+    }
+}
+
+// A journey that is refused has no value beside the number.
+fn refused(number: u8) -> Journey
+    ensures { λ r. ⌜ r ≡ refusedBy number ⌝ }
+{
+    let name = Name { nidc: 0, nidsp: 0 };
+    let point = JourneyPoint {
+        nidtp: 0,
+        index: 0,
+        alignment: 0,
+        stopping: 0,
+        stop: false,
+        trackside: false,
+        end: false,
+    };
+    let head = Head {
+        operational: 0,
+        date: 0,
+        seconds: 0,
+        counter: 0,
+        atots: 0,
+    };
+    let names = [name; 40];
+    let points = [point; 64];
+    Journey {
+        number: number,
+        head: head,
+        namecount: 0,
+        names: names,
+        pointcount: 0,
+        points: points,
+    }
+}
+
+// A journey to the last byte of the slice.
+pub fn read_journey(s: &[u8]) -> Journey
+    ensures { λ r. ⌜ JourneyTold (now (s .entry)) r ⌝ }
+{
+    let HeadRead::Read(head, a) = read_head(s) else {
+        return refused(9);
+    };
+    let ns = read_names(s, a);
+    if !ns.ok {
+        return refused(9);
+    }
+    let ps = read_points(s, ns.next);
+    if !ps.ok {
+        return refused(9);
+    }
+    if ps.next < s.len() {
+        return refused(9);
+    }
+    let names = ns.names;
+    let points = ps.points;
+    Journey {
+        number: 0,
+        head: head,
+        namecount: ns.count,
+        names: names,
+        pointcount: ps.count,
+        points: points,
+    }
+}

@@ -1,0 +1,8 @@
+-- The meaning of a call.
+pub mod Packets
+pub mod Effect
+pub mod Call
+pub mod Shown
+pub mod Laws
+pub mod Computed
+pub mod Trials

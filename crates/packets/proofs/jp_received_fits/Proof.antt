@@ -1,0 +1,12 @@
+use borrow.Author.Needs.{needs}
+use Rattle.packets.proofs.jp_received_fits.Statement.{statement}
+use Rattle.packets.proofs.jp_received_fits.Tie as tie
+
+header-fits-requires : tie.Need-header-fits-requires
+header-fits-requires c κs = search needs
+
+returns : tie.Need-returns
+returns c = rw (c .before .before .before .before .header-fits .ensures)
+
+pub jp-received-fits-spec : {M : Type 1} → statement M
+jp-received-fits-spec = tie.close (tie.spec header-fits-requires returns)

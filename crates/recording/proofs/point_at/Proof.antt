@@ -1,0 +1,28 @@
+use mathlib.Core.Path.{_≡_, sym, _∙_}
+use native.Mathlib.Omega.{arith}
+use lib.ListN.{length, length-map, List·getD-eq-default}
+use Rattle.data.specs.Engine.{blankPoint}
+use borrow.Author.Needs.{needs}
+use Rattle.recording.proofs.point_at.Statement.{statement}
+use Rattle.recording.proofs.point_at.Tie as tie
+
+mul-result : tie.Need-mul-result
+mul-result c = search needs
+
+element-copy-out-result : tie.Need-element-copy-out-result
+element-copy-out-result c = search needs
+
+returns : tie.Need-returns
+returns c = search needs
+
+blank-point-requires : tie.Need-blank-point-requires
+blank-point-requires c κs = search needs
+
+returns-2 : tie.Need-returns-2
+returns-2 c = let a = c .before .before .args in
+    let z : length (a .t1 .points) ≡ 64 = (sym (length-map (a .t1 .points) _) ∙ c .before .before .good .0 .1 .1 .0 .1 .0 .1) in
+    c .blank-point .ensures ∙ sym (List·getD-eq-default (a .t1 .points) blankPoint {n = a .k} (omega arith))
+
+pub point-at-spec : {M : Type 1} → statement M
+point-at-spec =
+    tie.close (tie.spec mul-result element-copy-out-result returns blank-point-requires returns-2)

@@ -1,0 +1,70 @@
+use Prim.Native.Nat.{_-_, min}
+use mathlib.Core.Path.{_≡_, refl, sym, _∙_}
+use lib.ListN.{drop}
+use native.Mathlib.Omega.{arith}
+use borrow.Author.Needs.{needs}
+use borrow.Author.Tests.{eq-eqb, ne-eqb}
+use Rattle.book.specs.Book.{among}
+use Rattle.journey.specs.Answers.{pointsIn, blankJourneyPoint}
+use Rattle.route.specs.Table.{nidtps}
+use Rattle.route.specs.Loops.{left-more, left-none}
+use Rattle.route.proofs.among_from.Statement.{statement}
+use Rattle.route.proofs.among_from.Tie as tie
+
+abbrev Inv-loop : tie.InvT-loop
+Inv-loop from nidtp j n i₀ i = among nidtp (nidtps (drop from (pointsIn j))) ≡ among nidtp (nidtps (drop i (pointsIn j)))
+
+abbrev μ-loop : tie.MeasureT-loop
+μ-loop from nidtp j n i₀ i = n - i
+
+point-count-requires : tie.Need-point-count-requires Inv-loop μ-loop
+point-count-requires c κs = search needs
+
+loop-holds : tie.Need-loop-holds Inv-loop μ-loop
+loop-holds c = refl
+
+mul-p : tie.Need-mul-p Inv-loop μ-loop
+mul-p c = omega arith
+
+element-copy-out-p : tie.Need-element-copy-out-p Inv-loop μ-loop
+element-copy-out-p c = omega arith
+
+returns : tie.Need-returns Inv-loop μ-loop
+returns c =
+    let w = c .before .before .before .before .loop in
+    let j = c .before .before .before .before .before .before .args .t1 in
+    sym (w .inv ∙ rw (left-more blankJourneyPoint (min (j .pointcount) 64) (w .i) (j .points) (omega arith) (omega arith), eq-eqb _ _ (c .if1 .taken)))
+
+add-i : tie.Need-add-i Inv-loop μ-loop
+add-i c = omega arith
+
+loop-less : tie.Need-loop-less Inv-loop μ-loop
+loop-less c = omega arith
+
+loop-again : tie.Need-loop-again Inv-loop μ-loop
+loop-again c =
+    let w = c .before .before .before .before .loop in
+    let j = c .before .before .before .before .before .before .args .t1 in
+    w .inv ∙ rw (left-more blankJourneyPoint (min (j .pointcount) 64) (w .i) (j .points) (omega arith) (omega arith), ne-eqb _ _ (c .if1 .left))
+
+returns-2 : tie.Need-returns-2 Inv-loop μ-loop
+returns-2 c =
+    let w = c .before .loop in
+    let j = c .before .before .before .args .t1 in
+    sym (w .inv ∙ rw (left-none blankJourneyPoint (min (j .pointcount) 64) (w .i) (j .points) (omega arith)))
+
+pub among-from-spec : {M : Type 1} → statement M
+among-from-spec =
+    tie.close
+    (tie.spec
+    Inv-loop
+    μ-loop
+    point-count-requires
+    loop-holds
+    mul-p
+    element-copy-out-p
+    returns
+    add-i
+    loop-less
+    loop-again
+    returns-2)

@@ -1,0 +1,69 @@
+use Prim.Native.Nat.{_+_, _-_, _≤_, min}
+use mathlib.Core.Path.{_≡_}
+use lib.ListN.{drop}
+use native.Mathlib.Omega.{arith}
+use borrow.Author.Needs.{needs}
+use Rattle.journey.specs.Answers.{pointsIn, blankJourneyPoint}
+use Rattle.route.specs.Table.{ends}
+use Rattle.route.specs.Loops.{left-more, left-none}
+use Rattle.route.proofs.end_count.Statement.{statement}
+use Rattle.route.proofs.end_count.Tie as tie
+
+abbrev Inv-loop : tie.InvT-loop
+Inv-loop j n sum₀ i₀ sum i = (sum ≤ i) × (ends (pointsIn j) ≡ sum + ends (drop i (pointsIn j)))
+
+abbrev μ-loop : tie.MeasureT-loop
+μ-loop j n sum₀ i₀ sum i = n - i
+
+point-count-requires : tie.Need-point-count-requires Inv-loop μ-loop
+point-count-requires c κs = search needs
+
+loop-holds : tie.Need-loop-holds Inv-loop μ-loop
+loop-holds c = (omega arith, omega arith)
+
+mul-p : tie.Need-mul-p Inv-loop μ-loop
+mul-p c = omega arith
+
+element-copy-out-p : tie.Need-element-copy-out-p Inv-loop μ-loop
+element-copy-out-p c = omega arith
+
+one-if-requires : tie.Need-one-if-requires Inv-loop μ-loop
+one-if-requires c κs = search needs
+
+add-sum : tie.Need-add-sum Inv-loop μ-loop
+add-sum c = omega arith
+
+add-i : tie.Need-add-i Inv-loop μ-loop
+add-i c = omega arith
+
+loop-less : tie.Need-loop-less Inv-loop μ-loop
+loop-less c = omega arith
+
+loop-again : tie.Need-loop-again Inv-loop μ-loop
+loop-again c =
+    let w = c .before .before .before .loop in
+    let j = c .before .before .before .before .before .args .t1 in
+    let e : ends (drop (w .i) (pointsIn j)) ≡ c .one-if .result + ends (drop (w .i + 1) (pointsIn j)) = rw (left-more blankJourneyPoint (min (j .pointcount) 64) (w .i) (j .points) (omega arith) (omega arith), c .one-if .ensures .0) in (omega arith, omega arith)
+
+returns : tie.Need-returns Inv-loop μ-loop
+returns c =
+    let w = c .before .loop in
+    let j = c .before .before .before .args .t1 in
+    let e : ends (drop (w .i) (pointsIn j)) ≡ 0 = rw (left-none blankJourneyPoint (min (j .pointcount) 64) (w .i) (j .points) (omega arith)) in omega arith
+
+pub end-count-spec : {M : Type 1} → statement M
+end-count-spec =
+    tie.close
+    (tie.spec
+    Inv-loop
+    μ-loop
+    point-count-requires
+    loop-holds
+    mul-p
+    element-copy-out-p
+    one-if-requires
+    add-sum
+    add-i
+    loop-less
+    loop-again
+    returns)

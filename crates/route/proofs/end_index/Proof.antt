@@ -1,0 +1,76 @@
+use Prim.Native.Nat.{_+_, _-_, _≤_, min}
+use mathlib.Core.Path.{_≡_}
+use lib.ListN.{drop}
+use native.Mathlib.Omega.{arith}
+use borrow.Author.Needs.{needs}
+use Rattle.journey.specs.Answers.{pointsIn, blankJourneyPoint}
+use Rattle.route.specs.Route.{endingOf}
+use Rattle.route.specs.Loops.{left-more, left-none}
+use Rattle.route.proofs.end_index.Statement.{statement}
+use Rattle.route.proofs.end_index.Tie as tie
+
+abbrev Inv-loop : tie.InvT-loop
+Inv-loop j n i₀ i = (i ≤ n) × (endingOf (pointsIn j) ≡ i + endingOf (drop i (pointsIn j)))
+
+abbrev μ-loop : tie.MeasureT-loop
+μ-loop j n i₀ i = n - i
+
+point-count-requires : tie.Need-point-count-requires Inv-loop μ-loop
+point-count-requires c κs = search needs
+
+loop-holds : tie.Need-loop-holds Inv-loop μ-loop
+loop-holds c = (omega arith, omega arith)
+
+mul-p : tie.Need-mul-p Inv-loop μ-loop
+mul-p c = omega arith
+
+element-copy-out-p : tie.Need-element-copy-out-p Inv-loop μ-loop
+element-copy-out-p c = omega arith
+
+cast-result : tie.Need-cast-result Inv-loop μ-loop
+cast-result c = omega arith
+
+returns : tie.Need-returns Inv-loop μ-loop
+returns c =
+    let w = c .before .before .before .loop in
+    let j = c .before .before .before .before .before .args .t1 in
+    let e : endingOf (drop (w .i) (pointsIn j)) ≡ 0 = rw (left-more blankJourneyPoint (min (j .pointcount) 64) (w .i) (j .points) (omega arith) (omega arith), c .if1 .taken) in omega arith
+
+add-i : tie.Need-add-i Inv-loop μ-loop
+add-i c = omega arith
+
+loop-less : tie.Need-loop-less Inv-loop μ-loop
+loop-less c = omega arith
+
+loop-again : tie.Need-loop-again Inv-loop μ-loop
+loop-again c =
+    let w = c .before .before .before .loop in
+    let j = c .before .before .before .before .before .args .t1 in
+    let e : endingOf (drop (w .i) (pointsIn j)) ≡ endingOf (drop (w .i + 1) (pointsIn j)) + 1 = rw (left-more blankJourneyPoint (min (j .pointcount) 64) (w .i) (j .points) (omega arith) (omega arith), c .if1 .left) in (omega arith, omega arith)
+
+cast-result-2 : tie.Need-cast-result-2 Inv-loop μ-loop
+cast-result-2 c = omega arith
+
+returns-2 : tie.Need-returns-2 Inv-loop μ-loop
+returns-2 c =
+    let w = c .before .loop in
+    let j = c .before .before .before .args .t1 in
+    let e : endingOf (drop (w .i) (pointsIn j)) ≡ 0 = rw (left-none blankJourneyPoint (min (j .pointcount) 64) (w .i) (j .points) (omega arith)) in omega arith
+
+pub end-index-spec : {M : Type 1} → statement M
+end-index-spec =
+    tie.close
+    (tie.spec
+    Inv-loop
+    μ-loop
+    point-count-requires
+    loop-holds
+    mul-p
+    element-copy-out-p
+    cast-result
+    returns
+    add-i
+    loop-less
+    loop-again
+    cast-result-2
+    returns-2)

@@ -1,0 +1,18 @@
+use borrow.Author.Needs.{needs}
+use Rattle.route.proofs.goes_on.Statement.{statement}
+use Rattle.route.proofs.goes_on.Tie as tie
+
+enum-told : tie.Need-enum-told
+enum-told c = search needs
+
+enum-told-2 : tie.Need-enum-told-2
+enum-told-2 c = search needs
+
+returns : tie.Need-returns
+returns c = λ s. rw (c .enum-told .given .1)
+
+returns-2 : tie.Need-returns-2
+returns-2 c = λ s. rw (c .enum-told2 .given .1)
+
+pub goes-on-spec : {M : Type 1} → statement M
+goes-on-spec = tie.close (tie.spec enum-told enum-told-2 returns returns-2)

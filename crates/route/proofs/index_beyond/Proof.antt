@@ -1,0 +1,79 @@
+use Prim.Native.Nat.{_-_, _<_, _≤_, min}
+use mathlib.Core.Path.{_≡_, refl, sym, _∙_}
+use lib.ListN.{length, drop, getD, length-take}
+use native.Mathlib.Omega.{arith}
+use borrow.Author.Needs.{needs}
+use borrow.Author.Tests.{le-leb, lt-leb}
+use Rattle.journey.specs.Answers.{namesIn, pointsIn, blankJourneyPoint}
+use Rattle.route.specs.Table.{indexBeyond}
+use Rattle.route.specs.Loops.{left-more, left-none}
+use Rattle.route.proofs.index_beyond.Statement.{statement}
+use Rattle.route.proofs.index_beyond.Tie as tie
+
+abbrev Inv-loop : tie.InvT-loop
+Inv-loop j segments n i₀ i = indexBeyond (length (namesIn j)) (pointsIn j) ≡ indexBeyond (length (namesIn j)) (drop i (pointsIn j))
+
+abbrev μ-loop : tie.MeasureT-loop
+μ-loop j segments n i₀ i = n - i
+
+name-count-requires : tie.Need-name-count-requires Inv-loop μ-loop
+name-count-requires c κs = search needs
+
+point-count-requires : tie.Need-point-count-requires Inv-loop μ-loop
+point-count-requires c κs = search needs
+
+loop-holds : tie.Need-loop-holds Inv-loop μ-loop
+loop-holds c = refl
+
+mul-p : tie.Need-mul-p Inv-loop μ-loop
+mul-p c = omega arith
+
+element-copy-out-p : tie.Need-element-copy-out-p Inv-loop μ-loop
+element-copy-out-p c = omega arith
+
+cast-if1 : tie.Need-cast-if1 Inv-loop μ-loop
+cast-if1 c = omega arith
+
+returns : tie.Need-returns Inv-loop μ-loop
+returns c =
+    let w = c .before .before .before .before .loop in
+    let j = c .before .before .before .before .before .before .before .args .t1 in
+    let e : length (namesIn j) ≤ getD (j .points) (w .i) blankJourneyPoint .index = rw length-take (omega arith) in
+    sym (w .inv ∙ rw (left-more blankJourneyPoint (min (j .pointcount) 64) (w .i) (j .points) (omega arith) (omega arith), le-leb _ _ e))
+
+add-i : tie.Need-add-i Inv-loop μ-loop
+add-i c = omega arith
+
+loop-less : tie.Need-loop-less Inv-loop μ-loop
+loop-less c = omega arith
+
+loop-again : tie.Need-loop-again Inv-loop μ-loop
+loop-again c =
+    let w = c .before .before .before .before .loop in
+    let j = c .before .before .before .before .before .before .before .args .t1 in
+    let e : getD (j .points) (w .i) blankJourneyPoint .index < length (namesIn j) = rw length-take (omega arith) in
+    w .inv ∙ rw (left-more blankJourneyPoint (min (j .pointcount) 64) (w .i) (j .points) (omega arith) (omega arith), lt-leb _ _ e)
+
+returns-2 : tie.Need-returns-2 Inv-loop μ-loop
+returns-2 c =
+    let w = c .before .loop in
+    let j = c .before .before .before .before .args .t1 in
+    sym (w .inv ∙ rw (left-none blankJourneyPoint (min (j .pointcount) 64) (w .i) (j .points) (omega arith)))
+
+pub index-beyond-spec : {M : Type 1} → statement M
+index-beyond-spec =
+    tie.close
+    (tie.spec
+    Inv-loop
+    μ-loop
+    name-count-requires
+    point-count-requires
+    loop-holds
+    mul-p
+    element-copy-out-p
+    cast-if1
+    returns
+    add-i
+    loop-less
+    loop-again
+    returns-2)

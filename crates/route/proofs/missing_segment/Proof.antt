@@ -1,0 +1,11 @@
+use mathlib.Core.Path.{refl}
+use Rattle.route.specs.Placing.{segmentOf}
+use Rattle.route.proofs.missing_segment.Statement.{statement}
+use Rattle.route.proofs.missing_segment.Tie as tie
+
+returns : tie.Need-returns
+unfolding segmentOf
+returns c = λ before start. refl
+
+pub missing-segment-spec : {M : Type 1} → statement M
+missing-segment-spec = tie.close (tie.spec returns)

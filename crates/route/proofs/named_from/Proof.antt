@@ -1,0 +1,72 @@
+use Prim.Native.Nat.{_-_, min}
+use lib.ListN.{drop}
+use mathlib.Core.Path.{_≡_, refl, sym, _∙_}
+use native.Mathlib.Omega.{arith}
+use borrow.Author.Needs.{needs}
+use Rattle.journey.specs.Answers.{namesIn, blankName}
+use Rattle.route.specs.Table.{named}
+use Rattle.route.specs.Loops.{left-more, left-none}
+use Rattle.route.proofs.named_from.Statement.{statement}
+use Rattle.route.proofs.named_from.Tie as tie
+
+abbrev Inv-loop : tie.InvT-loop
+Inv-loop from nidc nidsp j n i₀ i = named nidc nidsp (drop from (namesIn j)) ≡ named nidc nidsp (drop i (namesIn j))
+
+abbrev μ-loop : tie.MeasureT-loop
+μ-loop from nidc nidsp j n i₀ i = n - i
+
+name-count-requires : tie.Need-name-count-requires Inv-loop μ-loop
+name-count-requires c κs = search needs
+
+loop-holds : tie.Need-loop-holds Inv-loop μ-loop
+loop-holds c = refl
+
+mul-name : tie.Need-mul-name Inv-loop μ-loop
+mul-name c = omega arith
+
+element-copy-out-name : tie.Need-element-copy-out-name Inv-loop μ-loop
+element-copy-out-name c = omega arith
+
+is-named-requires : tie.Need-is-named-requires Inv-loop μ-loop
+is-named-requires c κs = search needs
+
+returns : tie.Need-returns Inv-loop μ-loop
+returns c =
+    let w = c .before .before .before .before .loop in
+    let j = c .before .before .before .before .before .before .args .t1 in
+    sym (w .inv ∙ rw (left-more blankName (min (j .namecount) 40) (w .i) (j .names) (omega arith) (omega arith), sym (c .before .is-named .ensures) ∙ c .if1 .taken))
+
+add-i : tie.Need-add-i Inv-loop μ-loop
+add-i c = omega arith
+
+loop-less : tie.Need-loop-less Inv-loop μ-loop
+loop-less c = omega arith
+
+loop-again : tie.Need-loop-again Inv-loop μ-loop
+loop-again c =
+    let w = c .before .before .before .before .loop in
+    let j = c .before .before .before .before .before .before .args .t1 in
+    w .inv ∙ rw (left-more blankName (min (j .namecount) 40) (w .i) (j .names) (omega arith) (omega arith), sym (c .before .is-named .ensures) ∙ c .if1 .left)
+
+returns-2 : tie.Need-returns-2 Inv-loop μ-loop
+returns-2 c =
+    let w = c .before .loop in
+    let j = c .before .before .before .args .t1 in
+    sym (w .inv ∙ rw (left-none blankName (min (j .namecount) 40) (w .i) (j .names) (omega arith)))
+
+pub named-from-spec : {M : Type 1} → statement M
+named-from-spec =
+    tie.close
+    (tie.spec
+    Inv-loop
+    μ-loop
+    name-count-requires
+    loop-holds
+    mul-name
+    element-copy-out-name
+    is-named-requires
+    returns
+    add-i
+    loop-less
+    loop-again
+    returns-2)

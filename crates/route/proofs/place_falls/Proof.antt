@@ -1,0 +1,83 @@
+use Prim.Native.Nat.{_-_, min}
+use mathlib.Core.Path.{_≡_, refl, sym, _∙_}
+use lib.ListN.{length, drop, take}
+use native.Mathlib.Omega.{arith}
+use borrow.Author.Needs.{needs}
+use Rattle.route.specs.Table.{placeFalls}
+use Rattle.route.specs.Loops.{left-more, left-none}
+use Rattle.data.specs.Engine.{blankPoint}
+use Rattle.route.proofs.place_falls.Statement.{statement}
+use Rattle.route.proofs.place_falls.Tie as tie
+
+abbrev Inv-loop : tie.InvT-loop
+Inv-loop n points least₀ i₀ least i = placeFalls 0 (take (min n 64) points) ≡ placeFalls least (drop i (take (min n 64) points))
+
+abbrev μ-loop : tie.MeasureT-loop
+μ-loop n points least₀ i₀ least i = 64 - i
+
+loop-holds : tie.Need-loop-holds Inv-loop μ-loop
+loop-holds c = refl
+
+returns : tie.Need-returns Inv-loop μ-loop
+returns c =
+    let w = c .before .before .loop in
+    let a = c .before .before .before .args in
+    let z : length (a .t1) ≡ 64 = c .before .before .before .good .0 .1 .0 .1 in
+    sym (w .inv ∙ rw (left-none blankPoint (min (a .n) 64) (w .i) (a .t1) (omega arith)))
+
+mul-p : tie.Need-mul-p Inv-loop μ-loop
+mul-p c = omega arith
+
+array-copy-out-p : tie.Need-array-copy-out-p Inv-loop μ-loop
+array-copy-out-p c = omega arith
+
+falls-requires : tie.Need-falls-requires Inv-loop μ-loop
+falls-requires c κs = search needs
+
+returns-2 : tie.Need-returns-2 Inv-loop μ-loop
+returns-2 c =
+    let w = c .before .before .before .before .before .loop in
+    let a = c .before .before .before .before .before .before .args in
+    let z : length (a .t1) ≡ 64 = c .before .before .before .before .before .before .good .0 .1 .0 .1 in
+    sym (w .inv ∙ rw (left-more blankPoint (min (a .n) 64) (w .i) (a .t1) (omega arith) (omega arith), sym (c .before .falls .ensures) ∙ c .if2 .taken))
+
+least-after-requires : tie.Need-least-after-requires Inv-loop μ-loop
+least-after-requires c κs = search needs
+
+add-i : tie.Need-add-i Inv-loop μ-loop
+add-i c = omega arith
+
+loop-less : tie.Need-loop-less Inv-loop μ-loop
+loop-less c = omega arith
+
+loop-again : tie.Need-loop-again Inv-loop μ-loop
+loop-again c =
+    let w = c .before .before .before .before .before .before .loop in
+    let a = c .before .before .before .before .before .before .before .args in
+    let z : length (a .t1) ≡ 64 = c .before .before .before .before .before .before .before .good .0 .1 .0 .1 in
+    w .inv ∙ rw (left-more blankPoint (min (a .n) 64) (w .i) (a .t1) (omega arith) (omega arith), sym (c .before .before .falls .ensures) ∙ c .before .if2 .left, c .least-after .ensures)
+
+returns-3 : tie.Need-returns-3 Inv-loop μ-loop
+returns-3 c =
+    let w = c .before .loop in
+    let a = c .before .before .args in
+    let z : length (a .t1) ≡ 64 = c .before .before .good .0 .1 .0 .1 in
+    sym (w .inv ∙ rw (left-none blankPoint (min (a .n) 64) (w .i) (a .t1) (omega arith)))
+
+pub place-falls-spec : {M : Type 1} → statement M
+place-falls-spec =
+    tie.close
+    (tie.spec
+    Inv-loop
+    μ-loop
+    loop-holds
+    returns
+    mul-p
+    array-copy-out-p
+    falls-requires
+    returns-2
+    least-after-requires
+    add-i
+    loop-less
+    loop-again
+    returns-3)

@@ -1,0 +1,124 @@
+use Prim.Native.Nat.{_-_, _<_, _≤_, min}
+use lib.ListN.{length, getD, length-take}
+use native.Mathlib.Omega.{arith}
+use borrow.Author.Needs.{needs}
+use Rattle.journey.specs.Answers.{namesIn, blankName}
+use Rattle.route.specs.Loops.{left-more, left-none}
+use denote.Ref.{now}
+use Rattle.book.specs.Answers.{segmentsIn}
+use Rattle.route.specs.Laws.{Placed, placed-none, placed-more, placed-end, next-length}
+use Rattle.route.proofs.place_segments.Statement.{statement}
+use Rattle.route.proofs.place_segments.Tie as tie
+
+abbrev Inv-loop : tie.InvT-loop
+Inv-loop b s j n segments₀ entries₀ before₀ start₀ i₀ segments entries before start i = Placed s (segmentsIn s b) (namesIn j) i segments entries before start
+
+abbrev μ-loop : tie.MeasureT-loop
+μ-loop b s j n segments₀ entries₀ before₀ start₀ i₀ segments entries before start i = n - i
+
+name-count-requires : tie.Need-name-count-requires Inv-loop μ-loop
+name-count-requires c κs = search needs
+
+blank-segment-requires : tie.Need-blank-segment-requires Inv-loop μ-loop
+blank-segment-requires c κs = search needs
+
+blank-entry-requires : tie.Need-blank-entry-requires Inv-loop μ-loop
+blank-entry-requires c κs = search needs
+
+loop-holds : tie.Need-loop-holds Inv-loop μ-loop
+loop-holds c =
+    let a = c .before .before .before .before .args in
+    let j = a .t1 in
+    let n : length (namesIn j) ≤ 40 = rw length-take (omega arith) in
+    rw (c .before .blank-segment .ensures, c .blank-entry .ensures) (placed-none (now (a .s)) (segmentsIn (now (a .s)) (a .b)) (namesIn j) n)
+
+mul-name : tie.Need-mul-name Inv-loop μ-loop
+mul-name c = omega arith
+
+element-copy-out-name : tie.Need-element-copy-out-name Inv-loop μ-loop
+element-copy-out-name c = omega arith
+
+record-of-requires : tie.Need-record-of-requires Inv-loop μ-loop
+record-of-requires c κs = search needs
+
+entry-in-requires : tie.Need-entry-in-requires Inv-loop μ-loop
+entry-in-requires c κs = search needs
+
+segment-of-requires : tie.Need-segment-of-requires Inv-loop μ-loop
+segment-of-requires c κs = search needs
+
+mul-segments : tie.Need-mul-segments Inv-loop μ-loop
+mul-segments c = omega arith
+
+array-set-from-segments : tie.Need-array-set-from-segments Inv-loop μ-loop
+array-set-from-segments c = omega arith
+
+mul-entries : tie.Need-mul-entries Inv-loop μ-loop
+mul-entries c = omega arith
+
+array-set-from-entries : tie.Need-array-set-from-entries Inv-loop μ-loop
+array-set-from-entries c = omega arith
+
+goes-on-requires : tie.Need-goes-on-requires Inv-loop μ-loop
+goes-on-requires c κs = search needs
+
+add-start : tie.Need-add-start Inv-loop μ-loop
+add-start c =
+    let w = c .before .before .before .before .before .before .before .loop in
+    let a = c .before .before .before .before .before .before .before .before .before .before .before .before .args in
+    let j = a .t1 in
+    let s = now (a .s) in
+    let e = next-length s (segmentsIn s (a .b)) (namesIn j) (getD (j .names) (w .i) blankName) (c .before .before .before .before .record-of .result) (c .before .before .before .before .before .before .before .before .before .before .before .before .pre) (c .before .before .before .before .record-of .ensures s) in
+    let f : c .before .before .before .entry-in .result .length ≤ 16777214 = rw (c .before .before .before .entry-in .ensures) e in
+    omega (arith, f, w .inv .sum)
+
+add-i : tie.Need-add-i Inv-loop μ-loop
+add-i c = omega arith
+
+loop-less : tie.Need-loop-less Inv-loop μ-loop
+loop-less c = omega arith
+
+loop-again : tie.Need-loop-again Inv-loop μ-loop
+loop-again c =
+    let w = c .before .before .before .before .before .before .before .loop in
+    let a = c .before .before .before .before .before .before .before .before .before .before .before .before .args in
+    let j = a .t1 in
+    let s = now (a .s) in
+    let n : w .i < length (namesIn j) = rw length-take (omega arith) in
+    placed-more s (segmentsIn s (a .b)) (namesIn j) (w .i) (w .segments) (w .entries) (w .before) (w .start) (getD (j .names) (w .i) blankName) (c .before .before .before .before .record-of .result) _ _ _ (c .before .before .before .before .before .before .before .before .before .before .before .before .pre) n
+    (left-more blankName (min (j .namecount) 40) (w .i) (j .names) (omega arith) (omega arith)) (c .before .before .before .before .record-of .ensures s) (c .before .before .before .entry-in .ensures) (c .before .before .segment-of .ensures) (c .before .goes-on .ensures s) (w .inv)
+
+returns : tie.Need-returns Inv-loop μ-loop
+returns c =
+    let w = c .before .loop in
+    let a = c .before .before .before .before .before .before .args in
+    let j = a .t1 in
+    let s = now (a .s) in
+    let n : length (namesIn j) ≤ w .i = rw length-take (omega arith) in
+    placed-end s (segmentsIn s (a .b)) (namesIn j) (w .i) (w .segments) (w .entries) (w .before) (w .start) (c .before .before .before .before .before .before .pre) n (left-none blankName (min (j .namecount) 40) (w .i) (j .names) (omega arith)) (w .inv)
+
+pub place-segments-spec : {M : Type 1} → statement M
+place-segments-spec =
+    tie.close
+    (tie.spec
+    Inv-loop
+    μ-loop
+    name-count-requires
+    blank-segment-requires
+    blank-entry-requires
+    loop-holds
+    mul-name
+    element-copy-out-name
+    record-of-requires
+    entry-in-requires
+    segment-of-requires
+    mul-segments
+    array-set-from-segments
+    mul-entries
+    array-set-from-entries
+    goes-on-requires
+    add-start
+    add-i
+    loop-less
+    loop-again
+    returns)

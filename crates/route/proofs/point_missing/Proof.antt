@@ -1,0 +1,73 @@
+use Prim.Native.Nat.{_-_, min}
+use mathlib.Core.Path.{_≡_, refl, sym, _∙_}
+use lib.ListN.{drop}
+use native.Mathlib.Omega.{arith}
+use borrow.Author.Needs.{needs}
+use Rattle.journey.specs.Answers.{pointsIn, blankJourneyPoint}
+use Rattle.route.specs.Table.{pointMissing}
+use Rattle.route.specs.Loops.{left-more, left-none}
+use Rattle.route.specs.Answers.{recordsIn}
+use Rattle.route.proofs.point_missing.Statement.{statement}
+use Rattle.route.proofs.point_missing.Tie as tie
+
+abbrev Inv-loop : tie.InvT-loop
+Inv-loop m s j n i₀ i = pointMissing (m .segments) (recordsIn s m) (pointsIn j) ≡ pointMissing (m .segments) (recordsIn s m) (drop i (pointsIn j))
+
+abbrev μ-loop : tie.MeasureT-loop
+μ-loop m s j n i₀ i = n - i
+
+point-count-requires : tie.Need-point-count-requires Inv-loop μ-loop
+point-count-requires c κs = search needs
+
+loop-holds : tie.Need-loop-holds Inv-loop μ-loop
+loop-holds c = refl
+
+mul-p : tie.Need-mul-p Inv-loop μ-loop
+mul-p c = omega arith
+
+element-copy-out-p : tie.Need-element-copy-out-p Inv-loop μ-loop
+element-copy-out-p c = omega arith
+
+lacks-requires : tie.Need-lacks-requires Inv-loop μ-loop
+lacks-requires c κs = search needs
+
+returns : tie.Need-returns Inv-loop μ-loop
+returns c =
+    let w = c .before .before .before .before .loop in
+    let j = c .before .before .before .before .before .before .before .args .t1 in
+    sym (w .inv ∙ rw (left-more blankJourneyPoint (min (j .pointcount) 64) (w .i) (j .points) (omega arith) (omega arith), sym (c .before .lacks .ensures) ∙ c .if1 .taken))
+
+add-i : tie.Need-add-i Inv-loop μ-loop
+add-i c = omega arith
+
+loop-less : tie.Need-loop-less Inv-loop μ-loop
+loop-less c = omega arith
+
+loop-again : tie.Need-loop-again Inv-loop μ-loop
+loop-again c =
+    let w = c .before .before .before .before .loop in
+    let j = c .before .before .before .before .before .before .before .args .t1 in
+    w .inv ∙ rw (left-more blankJourneyPoint (min (j .pointcount) 64) (w .i) (j .points) (omega arith) (omega arith), sym (c .before .lacks .ensures) ∙ c .if1 .left)
+
+returns-2 : tie.Need-returns-2 Inv-loop μ-loop
+returns-2 c =
+    let w = c .before .loop in
+    let j = c .before .before .before .before .args .t1 in
+    sym (w .inv ∙ rw (left-none blankJourneyPoint (min (j .pointcount) 64) (w .i) (j .points) (omega arith)))
+
+pub point-missing-spec : {M : Type 1} → statement M
+point-missing-spec =
+    tie.close
+    (tie.spec
+    Inv-loop
+    μ-loop
+    point-count-requires
+    loop-holds
+    mul-p
+    element-copy-out-p
+    lacks-requires
+    returns
+    add-i
+    loop-less
+    loop-again
+    returns-2)

@@ -1,0 +1,56 @@
+-- What the answers of the route's functions say of the book's bytes s.
+use Prim.Native.Nat.{ℕ, _+_, _^_, _<_}
+use mathlib.Core.Path.{_≡_}
+use mathlib.Core.List.{List, [], map}
+use mathlib.Core.Option.{Option, none, some}
+use lib.ListN.{getD}
+use Rattle.wire.specs.Judged.{Judged, thenJudge}
+use Rattle.wire.specs.Judged.Judged.{accept}
+use Rattle.data.specs.Engine.{blankSegment, filled}
+use Rattle.book.specs.Book.{BookPoint, BookSegment, lookupPoint}
+use Rattle.book.specs.Answers.{entrySegment, blankEntry}
+use Rattle.book.specs.declared.Entry.{Entry}
+use Rattle.journey.specs.Journey.{JourneyValue}
+use Rattle.journey.specs.declared.Name.{Name}
+use Rattle.route.specs.Placing.{segmentsOf, recordPoints, placeIn}
+use Rattle.route.specs.Table.{checked}
+use Rattle.route.specs.Route.{LoadValue, loadValue, loadSeen, loadHeld, loadOf}
+use Rattle.route.specs.declared.Recorded.{Recorded}
+use Rattle.route.specs.declared.Placing.{Placing}
+use Rattle.route.specs.declared.Loaded.{Loaded}
+
+-- the record of the book that was found
+abbrev pub recordSeen : List ℕ → Recorded → Option BookSegment
+recordSeen s (Recorded.Record e) = some (entrySegment s e)
+recordSeen s Recorded.Missing = none
+
+-- the entry, blank where there is none: its length is then 0, and its lists are empty
+abbrev pub entryIn : Recorded → Entry
+entryIn (Recorded.Record e) = e
+entryIn Recorded.Missing = blankEntry
+
+-- the points of the book's record of each segment of the journey
+abbrev pub recordsIn : List ℕ → Placing → List (List BookPoint)
+recordsIn s m = map (λ (e : Entry). entrySegment s e .points) (m .entries)
+
+-- each place from the journey's start is a number of four bytes
+abbrev pub PlacesFit : List ℕ → Placing → Type 0
+PlacesFit s m = (k t : ℕ) → getD (m .segments) k blankSegment .start + placeIn (lookupPoint t (getD (recordsIn s m) k [])) < 2 ^ 32
+
+-- the journey's segments by the book, and the records of those that are in it
+pub record PlacingTold (s : List ℕ) (book : List BookSegment) (names : List Name) (m : Placing) : Type 0 where
+  pub segments : m .segments ≡ filled 40 blankSegment (segmentsOf book names)
+  pub records : (k : ℕ) → getD (recordsIn s m) k [] ≡ getD (recordPoints book names) k []
+  pub fit : PlacesFit s m
+
+-- the rows 10 to 12, and what is then loaded
+abbrev pub placedBy : List BookSegment → JourneyValue → Judged LoadValue
+placedBy book v = thenJudge (checked book v) (λ j. accept (loadValue book j))
+
+-- an answer for an outcome: what it says, and that nothing stands beside the number of a refusal
+pub record Told (x : Judged LoadValue) (r : Loaded) : Type 0 where
+  pub seen : loadSeen r ≡ x
+  pub held : r ≡ loadHeld (loadSeen r)
+
+abbrev pub LoadTold : List ℕ → List ℕ → Loaded → Type 0
+LoadTold journey bytes r = Told (loadOf journey bytes) r

@@ -1,0 +1,621 @@
+// Journeys against a book (10 to 12), and what a load takes from both.
+use book::Book;
+use book::Entry;
+use book::Found;
+use book::PointFound;
+use data::Load;
+use data::Point;
+use data::Segment;
+use data::Zone;
+use journey::Head;
+use journey::Journey;
+use journey::JourneyPoint;
+use journey::Name;
+ghost use mathlib.Core.Path.{_≡_};
+ghost use mathlib.Core.List.{List};
+ghost use mathlib.Core.Bool.{Bool, _&&_};
+ghost use mathlib.Core.Option.{none, some};
+ghost use Prim.Native.Nat.{ℕ, _+_, _^_, _<_, _≤_, min};
+ghost use lib.ListN.{length, getD, drop, take};
+ghost use lib.Dec.{ltb};
+ghost use Rattle.wire.specs.Numbers.{flag, if_then_else_};
+ghost use Rattle.data.specs.Engine.{blankSegment, blankPoint, filled};
+ghost use Rattle.book.specs.Book.{among, twice, lookup, isSome};
+ghost use Rattle.book.specs.Answers.{entrySegment, segmentsIn, blankEntry, pointSeen};
+ghost use Rattle.journey.specs.Answers.{namesIn, pointsIn, valueIn};
+ghost use Rattle.route.specs.Placing.{segmentOf, placeIn, reachIn, pointOf, recordPoint, pointsFrom};
+ghost use Rattle.route.specs.Table.{isNamed, named, nameTwice, indexBeyond, nidtps, ends, lacks, pointMissing, indexFalls, placeFalls, mismatched, disordered};
+ghost use Rattle.route.specs.Route.{endingOf, loadGroup, refusedBy};
+ghost use Rattle.route.specs.Answers.{recordSeen, entryIn, recordsIn, PlacesFit, PlacingTold, placedBy, Told, LoadTold};
+ghost use Rattle.route.specs.Limits.{Sound};
+
+// What a load takes; number is 0, or that of the row that refuses.
+pub struct Loaded {
+    pub number: u8,
+    pub load: Load,
+    pub points: [Point; 64],
+    pub segments: [Segment; 40],
+    pub head: Head,
+}
+
+// The book's entry of a segment of the journey.
+enum Recorded {
+    Record(Entry),
+    Missing,
+}
+
+// The journey's segments, and beside each the book's entry, blank where there is none.
+struct Placing {
+    segments: [Segment; 40],
+    entries: [Entry; 40],
+}
+
+// How many names there are; the caller learns the length of their array.
+fn name_count(j: Journey) -> usize
+    ensures { λ r. ⌜ (r ≡ min (j .namecount) 40) × (length (j .names) ≡ 40) ⌝ }
+{
+    let n = j.namecount as usize;
+    if n < 40 { n } else { 40 }
+}
+
+fn point_count(j: Journey) -> usize
+    ensures { λ r. ⌜ (r ≡ min (j .pointcount) 64) × (length (j .points) ≡ 64) ⌝ }
+{
+    let n = j.pointcount as usize;
+    if n < 64 { n } else { 64 }
+}
+
+fn is_named(n: Name, nidc: u16, nidsp: u32) -> bool
+    ensures { λ r. ⌜ r ≡ isNamed nidc nidsp n ⌝ }
+{
+    n.nidc == nidc && n.nidsp == nidsp
+}
+
+// A name is among those from an index on.
+fn named_from(j: Journey, from: usize, nidc: u16, nidsp: u32) -> bool
+    ensures { λ r. ⌜ r ≡ named nidc nidsp (drop from (namesIn j)) ⌝ }
+{
+    let n = name_count(j);
+    let mut i = from;
+    while i < n {
+        let name = j.names[i];
+        if is_named(name, nidc, nidsp) {
+            return true;
+        }
+        i += 1;
+    }
+    false
+}
+
+fn name_twice(j: Journey) -> bool
+    ensures { λ r. ⌜ r ≡ nameTwice (namesIn j) ⌝ }
+{
+    let n = name_count(j);
+    let mut i: usize = 0;
+    while i < n {
+        let name = j.names[i];
+        i += 1;
+        if named_from(j, i, name.nidc, name.nidsp) {
+            return true;
+        }
+    }
+    false
+}
+
+// A point's index is not that of a segment.
+fn index_beyond(j: Journey) -> bool
+    ensures { λ r. ⌜ r ≡ indexBeyond (length (namesIn j)) (pointsIn j) ⌝ }
+{
+    let segments = name_count(j);
+    let n = point_count(j);
+    let mut i: usize = 0;
+    while i < n {
+        let p = j.points[i];
+        if segments <= (p.index as usize) {
+            return true;
+        }
+        i += 1;
+    }
+    false
+}
+
+// An NID_TP is among those from an index on.
+fn among_from(j: Journey, from: usize, nidtp: u32) -> bool
+    ensures { λ r. ⌜ r ≡ among nidtp (nidtps (drop from (pointsIn j))) ⌝ }
+{
+    let n = point_count(j);
+    let mut i = from;
+    while i < n {
+        let p = j.points[i];
+        if p.nidtp == nidtp {
+            return true;
+        }
+        i += 1;
+    }
+    false
+}
+
+fn point_twice(j: Journey) -> bool
+    ensures { λ r. ⌜ r ≡ twice (nidtps (pointsIn j)) ⌝ }
+{
+    let n = point_count(j);
+    let mut i: usize = 0;
+    while i < n {
+        let p = j.points[i];
+        i += 1;
+        if among_from(j, i, p.nidtp) {
+            return true;
+        }
+    }
+    false
+}
+
+// A test as a number.
+fn one_if(b: bool) -> usize
+    ensures { λ r. ⌜ (r ≡ flag b) × (r ≤ 1) ⌝ }
+{
+    if b { 1 } else { 0 }
+}
+
+// How many End of Journey there are.
+fn end_count(j: Journey) -> usize
+    ensures { λ r. ⌜ r ≡ ends (pointsIn j) ⌝ }
+{
+    let n = point_count(j);
+    let mut sum: usize = 0;
+    let mut i: usize = 0;
+    while i < n {
+        let p = j.points[i];
+        sum += one_if(p.end);
+        i += 1;
+    }
+    sum
+}
+
+fn index_falls(j: Journey) -> bool
+    ensures { λ r. ⌜ r ≡ indexFalls 0 (pointsIn j) ⌝ }
+{
+    let n = point_count(j);
+    let mut last: u8 = 0;
+    let mut i: usize = 0;
+    while i < n {
+        let p = j.points[i];
+        if p.index < last {
+            return true;
+        }
+        last = p.index;
+        i += 1;
+    }
+    false
+}
+
+// Where the End of Journey stands.
+fn end_index(j: Journey) -> u8
+    ensures { λ r. ⌜ r ≡ endingOf (pointsIn j) ⌝ }
+{
+    let n = point_count(j);
+    let mut i: usize = 0;
+    while i < n {
+        let p = j.points[i];
+        if p.end {
+            return i as u8;
+        }
+        i += 1;
+    }
+    n as u8
+}
+
+fn blank_entry() -> Entry
+    ensures { λ r. ⌜ r ≡ blankEntry ⌝ }
+{
+    Entry {
+        nidc: 0,
+        nidsp: 0,
+        length: 0,
+        points: 0,
+        pointsat: 0,
+        zones: 0,
+        zonesat: 0,
+    }
+}
+
+fn record_of(b: Book, n: Name) -> Recorded
+    ensures { λ r. ⌜ ((s : List ℕ) → recordSeen s r ≡ lookup (n .nidc) (n .nidsp) (segmentsIn s b)) ⌝ }
+{
+    let Found::At(k) = book::find_segment(b, n.nidc, n.nidsp) else {
+        return Recorded::Missing;
+    };
+    Recorded::Record(b.entries[k])
+}
+
+fn entry_in(r: Recorded) -> Entry
+    ensures { λ e. ⌜ e ≡ entryIn r ⌝ }
+{
+    match r {
+        Recorded::Record(e) => e,
+        Recorded::Missing => blank_entry(),
+    }
+}
+
+// A segment is in the book, and all before it are.
+fn goes_on(before: bool, r: Recorded) -> bool
+    ensures { λ b. ⌜ ((s : List ℕ) → b ≡ (isSome (recordSeen s r) && before)) ⌝ }
+{
+    match r {
+        Recorded::Record(_) => before,
+        Recorded::Missing => false,
+    }
+}
+
+fn start_if(placed: bool, start: u32) -> u32
+    ensures { λ r. ⌜ r ≡ (if placed then start else 0) ⌝ }
+{
+    if placed { start } else { 0 }
+}
+
+// A segment that is in the book.
+fn booked_segment(s: &[u8], n: Name, before: bool, start: u32, e: Entry) -> Segment
+    ensures { λ r. ⌜ r ≡ segmentOf n before start (some (entrySegment (now (s .entry)) e)) ⌝ }
+{
+    let z = book::zones_of(s, e);
+    let zones = z.zones;
+    let from = start_if(before, start);
+    Segment {
+        nidc: n.nidc,
+        nidsp: n.nidsp,
+        booked: true,
+        placed: before,
+        start: from,
+        length: e.length,
+        zonecount: z.count,
+        zones: zones,
+    }
+}
+
+// A segment that is not.
+fn missing_segment(n: Name) -> Segment
+    ensures { λ r. ⌜ ((before : Bool) (start : ℕ) → r ≡ segmentOf n before start none) ⌝ }
+{
+    let zone = Zone { start: 0, end: 0 };
+    let zones = [zone; 4];
+    Segment {
+        nidc: n.nidc,
+        nidsp: n.nidsp,
+        booked: false,
+        placed: false,
+        start: 0,
+        length: 0,
+        zonecount: 0,
+        zones: zones,
+    }
+}
+
+fn segment_of(s: &[u8], n: Name, before: bool, start: u32, r: Recorded) -> Segment
+    ensures { λ g. ⌜ g ≡ segmentOf n before start (recordSeen (now (s .entry)) r) ⌝ }
+{
+    match r {
+        Recorded::Record(e) => booked_segment(s, n, before, start, e),
+        Recorded::Missing => missing_segment(n),
+    }
+}
+
+// Each segment of the journey by the book. The lengths of an accepted book add up within four bytes.
+fn place_segments(j: Journey, b: Book, s: &[u8]) -> Placing
+    requires { ⌜ Sound (segmentsIn (now s) b) ⌝ }
+    ensures { λ r. ⌜ PlacingTold (now (s .entry)) (segmentsIn (now (s .entry)) b) (namesIn j) r ⌝ }
+{
+    let n = name_count(j);
+    let blank = data::blank_segment();
+    let none = blank_entry();
+    let mut segments = [blank; 40];
+    let mut entries = [none; 40];
+    let mut before = true;
+    let mut start: u32 = 0;
+    let mut i: usize = 0;
+    while i < n {
+        let name = j.names[i];
+        let r = record_of(b, name);
+        let e = entry_in(r);
+        let g = segment_of(s, name, before, start, r);
+        segments[i] = g;
+        entries[i] = e;
+        before = goes_on(before, r);
+        start += e.length;
+        i += 1;
+    }
+    Placing {
+        segments: segments,
+        entries: entries,
+    }
+}
+
+// The segment of an index, and the book's entry beside it; blank beyond the arrays.
+fn segment_at(m: Placing, k: u8) -> Segment
+    ensures { λ r. ⌜ r ≡ getD (m .segments) k blankSegment ⌝ }
+{
+    let i = k as usize;
+    if i < 40 {
+        return m.segments[i];
+    }
+    data::blank_segment()
+}
+
+fn entry_at(m: Placing, k: u8) -> Entry
+    ensures { λ r. ⌜ r ≡ getD (m .entries) k blankEntry ⌝ }
+{
+    let i = k as usize;
+    if i < 40 {
+        return m.entries[i];
+    }
+    blank_entry()
+}
+
+// The record's point that bears the name of a point of the journey.
+fn point_in(m: Placing, s: &[u8], p: JourneyPoint) -> PointFound
+    ensures { λ r. ⌜ pointSeen (p .nidtp) r ≡ recordPoint (recordsIn (now (s .entry)) m) p ⌝ }
+{
+    let e = entry_at(m, p.index);
+    book::find_point(s, e, p.nidtp)
+}
+
+// The segment is in the book, and its record lacks the point.
+fn lacks(m: Placing, s: &[u8], p: JourneyPoint) -> bool
+    ensures { λ r. ⌜ r ≡ lacks (m .segments) (recordsIn (now (s .entry)) m) p ⌝ }
+{
+    let g = segment_at(m, p.index);
+    if !g.booked {
+        return false;
+    }
+    match point_in(m, s, p) {
+        PointFound::Found { place: _, reach: _ } => false,
+        PointFound::Missing => true,
+    }
+}
+
+fn point_missing(j: Journey, m: Placing, s: &[u8]) -> bool
+    ensures { λ r. ⌜ r ≡ pointMissing (m .segments) (recordsIn (now (s .entry)) m) (pointsIn j) ⌝ }
+{
+    let n = point_count(j);
+    let mut i: usize = 0;
+    while i < n {
+        let p = j.points[i];
+        if lacks(m, s, p) {
+            return true;
+        }
+        i += 1;
+    }
+    false
+}
+
+fn place_in(f: PointFound) -> u32
+    ensures { λ r. ⌜ ((t : ℕ) → r ≡ placeIn (pointSeen t f)) ⌝ }
+{
+    match f {
+        PointFound::Found { place, reach: _ } => place,
+        PointFound::Missing => 0,
+    }
+}
+
+fn reach_in(f: PointFound) -> u16
+    ensures { λ r. ⌜ ((t : ℕ) → r ≡ reachIn (pointSeen t f)) ⌝ }
+{
+    match f {
+        PointFound::Found { place: _, reach } => reach,
+        PointFound::Missing => 0,
+    }
+}
+
+fn point_of(p: JourneyPoint, g: Segment, f: PointFound) -> Point
+    requires { ⌜ g .start + placeIn (pointSeen (p .nidtp) f) < 2 ^ 32 ⌝ }
+    ensures { λ r. ⌜ r ≡ pointOf p g (pointSeen (p .nidtp) f) ⌝ }
+{
+    let place = place_in(f);
+    let reach = reach_in(f);
+    if g.placed {
+        return Point {
+            nidtp: p.nidtp,
+            nidc: g.nidc,
+            alignment: p.alignment,
+            stopping: p.stopping,
+            stop: p.stop,
+            trackside: p.trackside,
+            placed: true,
+            place: g.start + place,
+            reach: reach,
+        };
+    }
+    Point {
+        nidtp: p.nidtp,
+        nidc: g.nidc,
+        alignment: p.alignment,
+        stopping: p.stopping,
+        stop: p.stop,
+        trackside: p.trackside,
+        placed: false,
+        place: 0,
+        reach: 0,
+    }
+}
+
+fn point_at(m: Placing, s: &[u8], p: JourneyPoint) -> Point
+    requires { ⌜ PlacesFit (now s) m ⌝ }
+    ensures { λ r. ⌜ r ≡ pointOf p (getD (m .segments) (p .index) blankSegment) (recordPoint (recordsIn (now (s .entry)) m) p) ⌝ }
+{
+    let g = segment_at(m, p.index);
+    let f = point_in(m, s, p);
+    point_of(p, g, f)
+}
+
+// Each point of the journey by the segments.
+fn place_points(j: Journey, m: Placing, s: &[u8]) -> [Point; 64]
+    requires { ⌜ PlacesFit (now s) m ⌝ }
+    ensures { λ r. ⌜ r ≡ filled 64 blankPoint (pointsFrom (m .segments) (recordsIn (now (s .entry)) m) (pointsIn j)) ⌝ }
+{
+    let n = point_count(j);
+    let blank = data::blank_point();
+    let mut points = [blank; 64];
+    let mut i: usize = 0;
+    while i < n {
+        let p = j.points[i];
+        let q = point_at(m, s, p);
+        points[i] = q;
+        i += 1;
+    }
+    points
+}
+
+// The place of a placed point is below the least one that is left to it.
+fn falls(p: Point, least: u64) -> bool
+    ensures { λ r. ⌜ r ≡ (p .placed && ltb (p .place) least) ⌝ }
+{
+    let below = (p.place as u64) < least;
+    if p.placed { below } else { false }
+}
+
+// The least place that is left to the next point.
+fn least_after(p: Point, least: u64) -> u64
+    ensures { λ r. ⌜ r ≡ (if p .placed then p .place + 1 else least) ⌝ }
+{
+    if p.placed {
+        return p.place as u64 + 1;
+    }
+    least
+}
+
+fn place_falls(points: [Point; 64], n: usize) -> bool
+    ensures { λ r. ⌜ r ≡ placeFalls 0 (take (min n 64) points) ⌝ }
+{
+    let mut least: u64 = 0;
+    let mut i: usize = 0;
+    while i < 64 {
+        if n <= i {
+            return false;
+        }
+        let p = points[i];
+        if falls(p, least) {
+            return true;
+        }
+        least = least_after(p, least);
+        i += 1;
+    }
+    false
+}
+
+// 11.
+fn mismatched(j: Journey, m: Placing, s: &[u8]) -> bool
+    ensures { λ r. ⌜ r ≡ mismatched (m .segments) (recordsIn (now (s .entry)) m) (valueIn j) ⌝ }
+{
+    if index_beyond(j) {
+        return true;
+    }
+    if point_twice(j) {
+        return true;
+    }
+    if end_count(j) != 1 {
+        return true;
+    }
+    point_missing(j, m, s)
+}
+
+// 12.
+fn disordered(j: Journey, points: [Point; 64]) -> bool
+    ensures { λ r. ⌜ r ≡ disordered (take (length (pointsIn j)) points) (valueIn j) ⌝ }
+{
+    if index_falls(j) {
+        return true;
+    }
+    let n = point_count(j);
+    place_falls(points, n)
+}
+
+fn load_of(j: Journey) -> Load
+    ensures { λ r. ⌜ r ≡ loadGroup (valueIn j) ⌝ }
+{
+    let ending = end_index(j);
+    let points = point_count(j);
+    let segments = name_count(j);
+    Load {
+        valid: true,
+        operational: j.head.operational,
+        ending: ending,
+        pointcount: points as u8,
+        segmentcount: segments as u8,
+    }
+}
+
+// A load that is refused has no value beside the number.
+fn refused(number: u8) -> Loaded
+    ensures { λ r. ⌜ r ≡ refusedBy number ⌝ }
+{
+    let point = data::blank_point();
+    let segment = data::blank_segment();
+    let points = [point; 64];
+    let segments = [segment; 40];
+    let load = Load {
+        valid: false,
+        operational: 4294967295,
+        ending: 0,
+        pointcount: 0,
+        segmentcount: 0,
+    };
+    let head = Head {
+        operational: 0,
+        date: 0,
+        seconds: 0,
+        counter: 0,
+        atots: 0,
+    };
+    Loaded {
+        number: number,
+        load: load,
+        points: points,
+        segments: segments,
+        head: head,
+    }
+}
+
+// A journey that was read, by a book that was read: the rows 10 to 12 in their order.
+fn place(j: Journey, b: Book, s: &[u8]) -> Loaded
+    requires { ⌜ Sound (segmentsIn (now s) b) ⌝ }
+    ensures { λ r. ⌜ Told (placedBy (segmentsIn (now (s .entry)) b) (valueIn j)) r ⌝ }
+{
+    let m = place_segments(j, b, s);
+    let points = place_points(j, m, s);
+    let twice = name_twice(j);
+    let mismatch = mismatched(j, m, s);
+    let disorder = disordered(j, points);
+    if twice {
+        return refused(10);
+    }
+    if mismatch {
+        return refused(11);
+    }
+    if disorder {
+        return refused(12);
+    }
+    let load = load_of(j);
+    let segments = m.segments;
+    let head = j.head;
+    Loaded {
+        number: 0,
+        load: load,
+        points: points,
+        segments: segments,
+        head: head,
+    }
+}
+
+// The journey and the book that come with a load: the book's rows, then the journey's.
+pub fn load_route(journey: &[u8], book: &[u8]) -> Loaded
+    ensures { λ r. ⌜ LoadTold (now (journey .entry)) (now (book .entry)) r ⌝ }
+{
+    let b = book::read_book(book);
+    if b.number != 0 {
+        return refused(b.number);
+    }
+    let j = journey::read_journey(journey);
+    if j.number != 0 {
+        return refused(j.number);
+    }
+    place(j, b, book)
+}

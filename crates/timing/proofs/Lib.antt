@@ -1,0 +1,6 @@
+pub mod Signed
+pub mod Laws
+pub mod Steps
+pub mod Rule
+pub mod Moments
+pub mod Changes

@@ -1,0 +1,226 @@
+-- Each point stands, after any list of reports, where the history rule puts it: the rule as a function.
+use Prim.Native.Nat.{ℕ, zero, suc, _-_, _<_, _≤_}
+use mathlib.Core.Path.{_≡_, refl, sym, ap, _∙_}
+use mathlib.Core.Logic.{_↔_, _⊎_, inl, inr}
+use mathlib.Core.List.{List, [], _∷_}
+use mathlib.Core.Bool.{Bool, true, false, not, false≢true}
+use native.Mathlib.Omega.{arith}
+use native.Mathlib.Nat.{eq-or-lt-of-le}
+use lib.Dec.{ltb, eqb}
+use borrow.Author.Tests.{ltb-true, ltb-false, lt-ltb, le-ltb, eq-eqb, ne-eqb, eqb-true, not-true}
+use Rattle.data.specs.Engine.{Route, progress}
+use Rattle.data.specs.declared.Progress.{Progress}
+use Rattle.timing.specs.declared.Standing.the-variants.{Unused, Targeted, Reached, Passed}
+use Rattle.timing.specs.Position.{pointCount, placed, known}
+use Rattle.timing.specs.Distance.{Report, beyond, atStop, moving}
+use Rattle.timing.specs.Standing.{standing}
+use Rattle.timing.specs.Report.{looked, lookedFrom, stays, reported, becameReached, run}
+use Rattle.wire.specs.ParseLaws.{and-left, and-right}
+use Rattle.timing.specs.History.{settles}
+use Rattle.timing.specs.Rule.{Fate, departing, through, after, fate, shown, standingBy}
+use Rattle.timing.specs.Rule.Fate.{passes, reaches, waits, unlooked}
+use Rattle.timing.proofs.Steps.{look-stops, look-passes, look-judges, reported-stays, reported-departs, reported-looks, following-is, InRange, looked-range, reported-range, started, run-up}
+
+zero-one : _≡_ {A = ℕ} 0 1 → ⊥
+zero-one e = omega arith
+
+-- ---- standings of a progress
+
+pub standing-passed : (p : Progress) (k : ℕ) → k < p .next → standing p k ≡ Passed
+standing-passed p k h = rw (lt-ltb k (p .next) h)
+
+pub standing-unused : (p : Progress) (k : ℕ) → p .next < k → standing p k ≡ Unused
+standing-unused p k h = rw (le-ltb k (p .next) (omega arith), ne-eqb k (p .next) (λ q. omega arith))
+
+standing-at : (p : Progress) → p .reached ≡ true → standing p (p .next) ≡ Reached
+standing-at p e = rw (le-ltb (p .next) (p .next) (omega arith), eq-eqb (p .next) (p .next) refl, e)
+
+pub standing-reached : (k : ℕ) → standing (progress k true) k ≡ Reached
+standing-reached k = rw (le-ltb k k (omega arith), eq-eqb k k refl)
+
+pub standing-targeted : (k : ℕ) → standing (progress k false) k ≡ Targeted
+standing-targeted k = rw (le-ltb k k (omega arith), eq-eqb k k refl)
+
+pub reached-only : (p : Progress) (k : ℕ) → standing p k ≡ Reached → (k ≡ p .next) × (p .reached ≡ true)
+reached-only p k e = go _ refl _ refl _ refl
+  where
+    go : (a : Bool) → ltb k (p .next) ≡ a → (b : Bool) → eqb k (p .next) ≡ b → (c : Bool) → p .reached ≡ c → (k ≡ p .next) × (p .reached ≡ true)
+    go true x b y c z = absurd (zero-one (cc))
+    go false x false y c z = absurd (zero-one (cc))
+    go false x true y false z = absurd (zero-one (cc))
+    go false x true y true z = (eqb-true k (p .next) y, z)
+
+-- ---- the rule by case
+
+module _ (j : Route) (k : ℕ) (r : Report) (rs : List Report) where
+  pub through-on : settles j r k ≡ false → through j k (r ∷ rs) ≡ through j k rs
+  unfolding through
+  through-on e = rw e
+
+  pub through-passes : settles j r k ≡ true → beyond j r k ≡ true → through j k (r ∷ rs) ≡ passes (r ∷ rs)
+  unfolding through
+  through-passes e b = rw (e, b)
+
+  pub through-reaches : settles j r k ≡ true → beyond j r k ≡ false → through j k (r ∷ rs) ≡ departing rs
+  unfolding through
+  through-reaches e b = rw (e, b)
+
+module _ (r : Report) (rs : List Report) where
+  pub departing-on : moving r ≡ false → departing (r ∷ rs) ≡ departing rs
+  unfolding departing
+  departing-on e = rw e
+
+  pub departing-passes : moving r ≡ true → departing (r ∷ rs) ≡ passes (r ∷ rs)
+  unfolding departing
+  departing-passes e = rw e
+
+run-more : (j : Route) (p : Progress) (r : Report) (rs : List Report) → run j p (r ∷ rs) ≡ run j (reported j r p) rs
+unfolding run
+run-more j p r rs = refl
+
+-- ---- what came of point k says of the progress at the end
+module _ (j : Route) where
+  abbrev Told : Progress → ℕ → Fate → Type 0
+  Told p k (passes rs) = p ≡ run j (progress (suc k) false) rs
+  Told p k reaches = p ≡ progress k true
+  Told p k waits = p ≡ progress k false
+  Told p k unlooked = p .next < k
+
+  told-is : (k : ℕ) {p q : Progress} {f g : Fate} → p ≡ q → f ≡ g → Told q k g → Told p k f
+  told-is k e d t = rw (e, d) t
+
+  module _ (k : ℕ) (h : k < pointCount j) where
+    -- looking at the next point in the same report is starting at that report
+    onward : (r : Report) (rs : List Report) (p : Progress) → reported j r p ≡ lookedFrom j r (suc k) → run j p (r ∷ rs) ≡ run j (progress (suc k) false) (r ∷ rs)
+    onward r rs p e =
+        run-more j p r rs ∙ ap (λ q. run j q rs) (e ∙ sym (reported-looks j r (progress (suc k) false) refl)) ∙ sym (run-more j (progress (suc k) false) r rs)
+
+    departing-told : (rs : List Report) → Told (run j (progress k true) rs) k (departing rs)
+    unfolding run departing
+    departing-told [] = refl
+    departing-told (r ∷ rs) = go _ refl (departing-told rs)
+      where
+        go : (b : Bool) → moving r ≡ b → Told (run j (progress k true) rs) k (departing rs) → Told (run j (progress k true) (r ∷ rs)) k (departing (r ∷ rs))
+        go false e t = told-is k (ap (λ q. run j q rs) (reported-stays j r (progress k true) refl e)) (departing-on r rs e) t
+        go true e t = told-is k (onward r rs (progress k true) (reported-departs j r (progress k true) refl e ∙ ap (lookedFrom j r) (following-is j k h))) (departing-passes r rs e) refl
+
+    left : pointCount j - k ≡ suc (pointCount j - suc k)
+    left = omega arith
+
+    through-told : (rs : List Report) → Told (run j (progress k false) rs) k (through j k rs)
+    unfolding run through
+    through-told [] = refl
+    through-told (r ∷ rs) = go _ refl _ refl _ refl _ refl (through-told rs)
+      where
+        looks : reported j r (progress k false) ≡ lookedFrom j r k
+        looks = reported-looks j r (progress k false) refl
+
+        at-k : lookedFrom j r k ≡ looked j r (suc (pointCount j - suc k)) k
+        at-k = ap (λ n. looked j r n k) left
+
+        -- the report leaves the point targeted, and settles nothing
+        idle : looked j r (suc (pointCount j - suc k)) k ≡ progress k false → settles j r k ≡ false → Told (run j (progress k false) rs) k (through j k rs)
+            → Told (run j (progress k false) (r ∷ rs)) k (through j k (r ∷ rs))
+        idle l s t = told-is k (ap (λ q. run j q rs) (looks ∙ at-k ∙ l)) (through-on j k r rs s) t
+
+        go : (a : Bool) → known j (r .position) ≡ a → (b : Bool) → placed j k ≡ b → (c : Bool) → beyond j r k ≡ c → (d : Bool) → atStop j r k ≡ d
+            → Told (run j (progress k false) rs) k (through j k rs) → Told (run j (progress k false) (r ∷ rs)) k (through j k (r ∷ rs))
+        go false e b f c g d i t = idle (look-stops j r _ k (rw e)) (rw e) t
+        go true e false f c g d i t = idle (look-stops j r _ k (rw (e, f))) (rw (e, f)) t
+        go true e true f false g false i t = idle (look-judges j r _ k (rw (e, f)) g ∙ ap (progress k) i) (rw (e, f, g, i)) t
+        go true e true f false g true i t =
+            told-is k
+            (ap (λ q. run j q rs) (looks ∙ at-k ∙ look-judges j r _ k (rw (e, f)) g ∙ ap (progress k) i))
+            (through-reaches j k r rs (rw (e, f, g, i)) g)
+            (departing-told rs)
+        go true e true f true g d i t =
+            told-is k
+            (onward r rs (progress k false) (looks ∙ at-k ∙ look-passes j r _ k (rw (e, f)) g))
+            (through-passes j k r rs (rw (e, f, g)) g)
+            refl
+
+  told-next : (p : Progress) (k : ℕ) → suc k < pointCount j → (f : Fate) → Told p k f → Told p (suc k) (after j (suc k) f)
+  told-next p k h (passes l) t = rw t (through-told (suc k) h l)
+  told-next p k h reaches t = rw t (omega arith)
+  told-next p k h waits t = rw t (omega arith)
+  told-next p k h unlooked t = omega arith
+
+  stood : (p : Progress) (k : ℕ) → k < pointCount j → (f : Fate) → Told p k f → standing p k ≡ shown f
+  stood p k h (passes l) t = rw t (standing-passed (run j (progress (suc k) false) l) k (run-up j l (progress (suc k) false) (started j (suc k) h)))
+  stood p k h reaches t = rw t (standing-reached k)
+  stood p k h waits t = rw t (standing-targeted k)
+  stood p k h unlooked t = standing-unused p k t
+
+  module _ (start : ℕ) (reports : List Report) where
+    -- the load is the passing moment of what it put behind
+    pub fate-behind : (k : ℕ) → k < start → fate j start reports k ≡ passes reports
+    unfolding fate
+    fate-behind zero h = rw (lt-ltb zero start h)
+    fate-behind (suc k) h = rw (lt-ltb (suc k) start h)
+
+    pub fate-first : start ≤ zero → fate j start reports zero ≡ through j zero reports
+    unfolding fate
+    fate-first h = rw (le-ltb zero start h)
+
+    pub fate-next : (k : ℕ) → start ≤ suc k → fate j start reports (suc k) ≡ after j (suc k) (fate j start reports k)
+    unfolding fate
+    fate-next k h = rw (le-ltb (suc k) start h)
+
+    abbrev end : Progress
+    end = run j (progress start false) reports
+
+    -- the first point that the load did not put behind
+    from-load : (k : ℕ) → start ≡ k → k < pointCount j → Told end k (through j k reports)
+    from-load k e h = rw e (through-told k h reports)
+
+    told : (k : ℕ) → start ≤ k → k < pointCount j → Told end k (fate j start reports k)
+    told zero s h = told-is zero refl (fate-first s) (from-load zero (omega arith) h)
+    told (suc k) s h = go (eq-or-lt-of-le s) (λ q. told k q (omega arith))
+      where
+        go : (start ≡ suc k) ⊎ (start < suc k) → (start ≤ k → Told end k (fate j start reports k)) → Told end (suc k) (fate j start reports (suc k))
+        go (inl e) f = told-is (suc k) refl (fate-next k s ∙ ap (after j (suc k)) (fate-behind k (omega arith))) (from-load (suc k) e h)
+        go (inr l) f = told-is (suc k) refl (fate-next k s) (told-next end k h (fate j start reports k) (f (omega arith)))
+
+    -- every point stands where the history rule puts it
+    pub as-rule : start ≤ pointCount j → (k : ℕ) → k < pointCount j → standing end k ≡ standingBy j start reports k
+    unfolding standingBy
+    as-rule within k h = go _ refl
+      where
+        go : (b : Bool) → ltb k start ≡ b → standing end k ≡ shown (fate j start reports k)
+        go true e = standing-passed end k (omega (arith, ltb-true k start e, run-up j reports (progress start false) (started j start within))) ∙ sym (ap shown (fate-behind k (ltb-true _ _ e)))
+        go false e = stood end k h (fate j start reports k) (told k (ltb-false _ _ e) h)
+
+-- ---- "A point became reached at a report if the history rule has it so after, not before, that report."
+module _ (j : Route) (r : Report) (p : Progress) (h : InRange j p) where
+  abbrev pub Became : ℕ → Type 0
+  Became k = (standing (reported j r p) k ≡ Reached) × (standing p k ≡ Reached → ⊥)
+
+  stayed : stays r p ≡ true → reported j r p ≡ p
+  unfolding reported
+  stayed e = rw e
+
+  -- a point that was reached, and is no longer waited at, is passed
+  gone-on : p .reached ≡ true → stays r p ≡ false → p .next < reported j r p .next
+  gone-on e s = go _ refl
+    where
+      go : (b : Bool) → moving r ≡ b → p .next < reported j r p .next
+      go true m =
+          let l : p .next < pointCount j = h .reached-one e in
+          rw (reported-departs j r p e m, following-is j (p .next) l) (looked-range j r (suc (p .next)) l .0)
+      go false m = absurd (false≢true (sym s ∙ rw (e, m)))
+
+  pub became-reached : (becameReached j r p ≡ true) ↔ ((k : ℕ) × (k < pointCount j) × Became k)
+  became-reached = (there, back)
+    where
+      there : becameReached j r p ≡ true → (k : ℕ) × (k < pointCount j) × Became k
+      there e =
+          let a : stays r p ≡ false = not-true _ (and-left (not (stays r p)) _ e) in
+          let b : reported j r p .reached ≡ true = and-right (not (stays r p)) _ e in
+          (reported j r p .next, reported-range j r p h .reached-one b, (standing-at (reported j r p) b, λ s. let z = reached-only p _ s in let l : p .next < reported j r p .next = gone-on (z .1) a in omega (arith, z .0)))
+
+      back : (k : ℕ) × (k < pointCount j) × Became k → becameReached j r p ≡ true
+      back (k, l, (s, n)) = go _ refl
+        where
+          go : (b : Bool) → stays r p ≡ b → becameReached j r p ≡ true
+          go true e = absurd (n (rw (stayed e) at s))
+          go false e = rw (e, reached-only (reported j r p) k s .1)

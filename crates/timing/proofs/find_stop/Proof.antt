@@ -1,0 +1,68 @@
+use Prim.Native.Nat.{_-_}
+use mathlib.Core.Path.{_≡_, sym, _∙_}
+use mathlib.Core.Logic.{⊎-elim}
+use native.Mathlib.Omega.{arith}
+use borrow.Author.Needs.{needs}
+use Rattle.data.specs.Engine.{routeIn}
+use Rattle.timing.specs.Skips.{stopFrom, stopNamed}
+use Rattle.timing.proofs.Laws.{left-all, stop-none, stop-hit, stop-miss}
+use Rattle.timing.proofs.find_stop.Statement.{statement}
+use Rattle.timing.proofs.find_stop.Tie as tie
+
+-- what is left of the search from i answers the whole search
+abbrev Inv-loop : tie.InvT-loop
+Inv-loop nidtp e n i₀ i = stopFrom (e .points) (n - i) i nidtp ≡ stopNamed (routeIn e) nidtp
+
+abbrev μ-loop : tie.MeasureT-loop
+μ-loop nidtp e n i₀ i = n - i
+
+at-most-requires : tie.Need-at-most-requires Inv-loop μ-loop
+at-most-requires c κs = search needs
+
+cast-n : tie.Need-cast-n Inv-loop μ-loop
+cast-n c = search needs
+
+loop-holds : tie.Need-loop-holds Inv-loop μ-loop
+loop-holds c = rw (left-all, c .at-most .ensures)
+
+mul-p : tie.Need-mul-p Inv-loop μ-loop
+mul-p c = omega arith
+
+element-copy-out-p : tie.Need-element-copy-out-p Inv-loop μ-loop
+element-copy-out-p c = omega arith
+
+returns : tie.Need-returns Inv-loop μ-loop
+returns c = let s = c .before .before .before .before .before in
+    (sym (stop-hit _ _ _ _ (omega arith) (rw (c .before .before .if1 .taken, c .if2 .taken))) ∙ s .loop .inv, omega arith)
+
+add-i : tie.Need-add-i Inv-loop μ-loop
+add-i c = omega arith
+
+loop-less : tie.Need-loop-less Inv-loop μ-loop
+loop-less c = omega arith
+
+loop-again : tie.Need-loop-again Inv-loop μ-loop
+loop-again c = let s = c .before .before .before in
+    ⊎-elim (λ w. sym (stop-miss _ _ _ _ (omega arith) (rw (w .0 .taken, w .2 .left))) ∙ s .loop .inv)
+    (λ w. sym (stop-miss _ _ _ _ (omega arith) (rw (w .left))) ∙ s .loop .inv)
+    (c .if1 .came)
+
+returns-2 : tie.Need-returns-2 Inv-loop μ-loop
+returns-2 c = (sym (stop-none _ _ _ _ (omega arith)) ∙ c .before .loop .inv, tt)
+
+pub find-stop-spec : {M : Type 1} → statement M
+find-stop-spec =
+    tie.close
+    (tie.spec
+    Inv-loop
+    μ-loop
+    at-most-requires
+    cast-n
+    loop-holds
+    mul-p
+    element-copy-out-p
+    returns
+    add-i
+    loop-less
+    loop-again
+    returns-2)

@@ -1,0 +1,21 @@
+-- Driver skips: "14 no stop of that name".
+use Prim.Native.Nat.{ℕ, zero, suc, _+_}
+use mathlib.Core.List.{List}
+use mathlib.Core.Bool.{_&&_}
+use lib.ListN.{getD}
+use lib.Dec.{eqb}
+use Rattle.wire.specs.Numbers.{if_then_else_}
+use Rattle.data.specs.Engine.{Route, blankPoint}
+use Rattle.data.specs.declared.Point.{Point}
+use Rattle.timing.specs.Position.{pointCount}
+use Rattle.timing.specs.declared.Found.{Found}
+use Rattle.timing.specs.declared.Found.the-variants.{At, Nothing}
+
+-- the first of n points from k on that is a stop of that name
+unfoldable pub stopFrom : List Point → ℕ → ℕ → ℕ → Found
+stopFrom l zero k t = Nothing
+stopFrom l (suc n) k t =
+    if getD l k blankPoint .stop && eqb (getD l k blankPoint .nidtp) t then At k else stopFrom l n (k + 1) t
+
+abbrev pub stopNamed : Route → ℕ → Found
+stopNamed j t = stopFrom (j .points) (pointCount j) 0 t

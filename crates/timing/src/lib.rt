@@ -1,0 +1,312 @@
+// Timing points: where the train's front is, which points pass, and where each point stands.
+use data::Engine;
+use data::Point;
+use data::Progress;
+ghost use mathlib.Core.Path.{_≡_};
+ghost use Prim.Native.Nat.{_<_, _^_, min};
+ghost use lib.IntN.{pos, negℤ};
+ghost use lib.Signed.{ltZ, leZ};
+ghost use Rattle.data.specs.Engine.{routeIn};
+ghost use Rattle.timing.specs.Position.{pointCount, segmentNamed, front, IndexBelow, FrontBelow};
+ghost use Rattle.timing.specs.Distance.{reportIn, back, distance, unskipped, margin, exceeds, stopsAt};
+ghost use Rattle.timing.specs.Standing.{standing, standingCode, following};
+ghost use Rattle.timing.specs.Load.{target};
+ghost use Rattle.timing.specs.Report.{lookedFrom, reportOf};
+ghost use Rattle.timing.specs.Skips.{stopNamed};
+
+// The index of a segment or a point of the journey.
+pub enum Found {
+    At(usize),
+    Nothing,
+}
+
+// Where the train's front is, from the journey's start.
+pub enum Front {
+    Known(u64),
+    Unknown,
+}
+
+// Where a timing point stands.
+pub enum Standing {
+    Unused,
+    Targeted,
+    Reached,
+    Passed,
+}
+
+// What a position report brings: the progress after it, the first point looked at, whether one departed before that, and whether
+// one became reached. Points from `from` to the new `next`, without it, are passed.
+pub struct Reported {
+    pub progress: Progress,
+    pub from: u8,
+    pub departed: bool,
+    pub reached: bool,
+}
+
+// ---- where the train is
+
+fn at_most(n: u8, most: u8) -> u8
+    ensures { λ r. ⌜ r ≡ min n most ⌝ }
+{
+    if n < most { n } else { most }
+}
+
+// A number, widened: the caller learns its bound.
+fn wide(x: u32) -> u64
+    ensures { λ r. ⌜ (r ≡ x) × (r < 2 ^ 32) ⌝ }
+{
+    x as u64
+}
+
+// The journey segment that the train's position names.
+pub fn find_segment(e: Engine) -> Found
+    ensures { λ r. ⌜ (r ≡ segmentNamed (routeIn e) (e .train .position)) × IndexBelow 40 r ⌝ }
+{
+    let nidc = e.train.position.nidc;
+    let nidsp = e.train.position.nidsp;
+    let n = at_most(e.load.segmentcount, 40) as usize;
+    let mut i: usize = 0;
+    while i < n {
+        let s = e.segments[i];
+        if s.nidc == nidc && s.nidsp == nidsp {
+            return Found::At(i);
+        }
+        i += 1;
+    }
+    Found::Nothing
+}
+
+// Where the front is, if the position is known.
+pub fn front_position(e: Engine) -> Front
+    ensures { λ r. ⌜ (r ≡ front (routeIn e) (e .train .position)) × FrontBelow (2 ^ 33) r ⌝ }
+{
+    let offset = e.train.position.offset;
+    if offset == 16777215 {
+        return Front::Unknown;
+    }
+    let Found::At(k) = find_segment(e) else {
+        return Front::Unknown;
+    };
+    let s = e.segments[k];
+    if s.placed && offset <= s.length {
+        return Front::Known(wide(s.start) + wide(offset));
+    }
+    Front::Unknown
+}
+
+// ---- d and margin
+
+// How far behind the front the aligned part of the train is.
+pub fn back(length: u32, alignment: u8) -> u64
+    ensures { λ r. ⌜ (r ≡ back length alignment) × (r < 2 ^ 32) ⌝ }
+{
+    if alignment == 0 {
+        return 0;
+    }
+    if alignment == 1 {
+        return wide(length / 2);
+    }
+    wide(length)
+}
+
+// d: how far the aligned part of the train is beyond the point.
+fn distance(front: u64, length: u32, p: Point) -> i64
+    requires { ⌜ front < 2 ^ 33 ⌝ }
+    ensures { λ r. ⌜ r ≡ distance front length p ⌝ }
+{
+    let behind = back(length, p.alignment);
+    (front as i64) - (behind as i64) - (p.place as i64)
+}
+
+// A stop that neither the trackside nor the driver skips.
+pub fn unskipped(p: Point, driver: bool) -> bool
+    ensures { λ r. ⌜ r ≡ unskipped p driver ⌝ }
+{
+    p.stop && !p.trackside && !driver
+}
+
+pub fn margin(p: Point, driver: bool) -> u16
+    ensures { λ r. ⌜ r ≡ margin p driver ⌝ }
+{
+    if unskipped(p, driver) { p.reach } else { 0 }
+}
+
+// d > margin
+fn exceeds(front: u64, length: u32, p: Point, driver: bool) -> bool
+    requires { ⌜ front < 2 ^ 33 ⌝ }
+    ensures { λ r. ⌜ r ≡ exceeds front length p driver ⌝ }
+{
+    distance(front, length, p) > (margin(p, driver) as i64)
+}
+
+// An unskipped stop at speed 0 with d ≥ −R.
+fn stops_at(front: u64, length: u32, speed: u16, p: Point, driver: bool) -> bool
+    requires { ⌜ front < 2 ^ 33 ⌝ }
+    ensures { λ r. ⌜ r ≡ stopsAt front length speed p driver ⌝ }
+{
+    unskipped(p, driver) && speed == 0 && distance(front, length, p) >= -(p.reach as i64)
+}
+
+// ---- the load
+
+// The first target, from the front on: the first point that is unplaced or has d ≤ margin.
+fn first_ahead(e: Engine, at: u64) -> u8
+    requires { ⌜ (front (routeIn e) (e .train .position) ≡ Front.Known at) × (at < 2 ^ 33) ⌝ }
+    ensures { λ r. ⌜ r ≡ target (routeIn e) (e .train .position) (e .train .length) ⌝ }
+{
+    let length = e.train.length;
+    let n = at_most(e.load.pointcount, 64);
+    let mut i: u8 = 0;
+    'points: while i < n {
+        let k = i as usize;
+        let p = e.points[k];
+        if !p.placed {
+            break 'points;
+        }
+        if !exceeds(at, length, p, false) {
+            break 'points;
+        }
+        i += 1;
+    }
+    i
+}
+
+// The point that a load targets; where it puts all behind, their number.
+pub fn target(e: Engine) -> u8
+    ensures { λ r. ⌜ r ≡ target (routeIn e) (e .train .position) (e .train .length) ⌝ }
+{
+    match front_position(e) {
+        Front::Known(f) => first_ahead(e, f),
+        Front::Unknown => 0,
+    }
+}
+
+// ---- the position report
+
+// (b) with the front known: points from `from` on pass, to the first that is unplaced or does not pass, and that may be reached.
+fn look(e: Engine, at: u64, from: u8) -> Progress
+    requires { ⌜ (front (routeIn e) (e .train .position) ≡ Front.Known at) × (at < 2 ^ 33) ⌝ }
+    ensures { λ r. ⌜ r ≡ lookedFrom (routeIn e) (reportIn e) from ⌝ }
+{
+    let length = e.train.length;
+    let speed = e.train.position.speed;
+    let count = at_most(e.load.pointcount, 64);
+    let mut next = from;
+    let mut reached = false;
+    'points: while next < count {
+        let k = next as usize;
+        let point = e.points[k];
+        let driver = e.skips[k];
+        if !point.placed {
+            break 'points;
+        }
+        if !exceeds(at, length, point, driver) {
+            reached = stops_at(at, length, speed, point, driver);
+            break 'points;
+        }
+        next += 1;
+    }
+    Progress {
+        next: next,
+        reached: reached,
+    }
+}
+
+// (b)
+fn look_from(e: Engine, from: u8) -> Progress
+    ensures { λ r. ⌜ r ≡ lookedFrom (routeIn e) (reportIn e) from ⌝ }
+{
+    match front_position(e) {
+        Front::Known(f) => look(e, f, from),
+        Front::Unknown => Progress {
+            next: from,
+            reached: false,
+        },
+    }
+}
+
+// The point after one.
+fn following(k: u8) -> u8
+    ensures { λ r. ⌜ r ≡ following k ⌝ }
+{
+    if k < 64 { k + 1 } else { 64 }
+}
+
+// The position report that the engine holds: (a), then (b).
+pub fn report(e: Engine) -> Reported
+    ensures { λ r. ⌜ r ≡ reportOf (routeIn e) (reportIn e) (e .progress) ⌝ }
+{
+    let before = e.progress;
+    let next = before.next;
+    if before.reached {
+        if e.train.position.speed == 0 {
+            return Reported {
+                progress: before,
+                from: next,
+                departed: false,
+                reached: false,
+            };
+        }
+        let from = following(next);
+        let progress = look_from(e, from);
+        return Reported {
+            progress: progress,
+            from: from,
+            departed: true,
+            reached: progress.reached,
+        };
+    }
+    let progress = look_from(e, next);
+    Reported {
+        progress: progress,
+        from: next,
+        departed: false,
+        reached: progress.reached,
+    }
+}
+
+// ---- driver skips and standings
+
+// The stop of that name.
+pub fn find_stop(e: Engine, nidtp: u32) -> Found
+    ensures { λ r. ⌜ (r ≡ stopNamed (routeIn e) nidtp) × IndexBelow 64 r ⌝ }
+{
+    let n = at_most(e.load.pointcount, 64) as usize;
+    let mut i: usize = 0;
+    while i < n {
+        let p = e.points[i];
+        if p.stop && p.nidtp == nidtp {
+            return Found::At(i);
+        }
+        i += 1;
+    }
+    Found::Nothing
+}
+
+// Where point k stands.
+pub fn standing_of(p: Progress, k: u8) -> Standing
+    ensures { λ r. ⌜ r ≡ standing p k ⌝ }
+{
+    if k < p.next {
+        return Standing::Passed;
+    }
+    if p.next < k {
+        return Standing::Unused;
+    }
+    if p.reached {
+        return Standing::Reached;
+    }
+    Standing::Targeted
+}
+
+// The number of a standing.
+pub fn standing_code(s: Standing) -> u8
+    ensures { λ r. ⌜ r ≡ standingCode s ⌝ }
+{
+    match s {
+        Standing::Unused => 0,
+        Standing::Targeted => 1,
+        Standing::Reached => 2,
+        Standing::Passed => 3,
+    }
+}
