@@ -12,7 +12,7 @@ use Rattle.data.specs.declared.Zone.{Zone}
 use Rattle.wire.specs.Numbers.{number, bit}
 use Rattle.wire.specs.Parse.{Parse, Reader, andThen, field, many, counted, listed, must, give}
 use Rattle.wire.specs.Parse.Parse.{bad, good}
-use Rattle.wire.specs.ParseLaws.{then-inv, Told, field-inv}
+use Rattle.wire.specs.ParseLaws.{then-inv, FieldRead, field-inv}
 use Rattle.book.specs.Book.{BookPoint, bookPoint, zoneRecord, segmentRecord}
 use Rattle.book.specs.Answers.{items, pointOf, zoneOf}
 use Rattle.book.specs.Parts.{bare, checked, skip, most, Extent, extent}
@@ -50,7 +50,7 @@ point-parts : (l r₁ r₂ r₃ : List ℕ) (t p d : ℕ) (a : BookPoint) (r : L
 unfolding pointOf
 point-parts l r₁ r₂ r₃ t p d a r f₁ f₂ f₃ e = (cc (drop-drop 4 4 l), cc (drop-drop 4 4 l, drop-drop 2 8 l))
 
-parts : {w low high : ℕ} {l : List ℕ} {n : ℕ} {r : List ℕ} → Told w low high l n r → (n ≡ number w l) × (r ≡ drop w l)
+parts : {w low high : ℕ} {l : List ℕ} {n : ℕ} {r : List ℕ} → FieldRead w low high l n r → (n ≡ number w l) × (r ≡ drop w l)
 parts t = (t .value, t .rest)
 
 pub point-fixed : (len : ℕ) → Fixed (bookPoint len) pointOf 10

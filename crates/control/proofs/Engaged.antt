@@ -11,7 +11,9 @@ use Rattle.event.specs.Events.{kindOf}
 use Rattle.event.specs.declared.Event.{Event}
 use Rattle.event.specs.declared.Event.the-variants.{PowerOn, Configured, PowerOff, Fault, Reports, Mode, Lever, Press, Report, Length, Load, Skip, Revoke}
 use Rattle.control.specs.Codes.{is}
-use Rattle.control.specs.States.{Values, Machine, machine, U, fromRE, fromEG, fromDE, byState, settled}
+use Rattle.control.specs.States.{machine, U, fromRE, fromEG, fromDE, byState, settled}
+use Rattle.control.specs.declared.Values.{Values}
+use Rattle.control.specs.declared.Machine.{Machine}
 use Rattle.control.specs.Numbers.{powerRows, stateRow}
 use Rattle.control.specs.Engagement.{Waiting, Ready, Driving, Engagement}
 use Rattle.control.specs.Run.{Run}

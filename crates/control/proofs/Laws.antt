@@ -29,7 +29,9 @@ use Rattle.event.specs.declared.Event.the-variants.{PowerOn, Configured, PowerO
 use Rattle.control.specs.Codes.{code, is, isAD}
 use Rattle.control.specs.Conditions.{etcsFulfilled, noEmergencyBrake, noInconsistency, dataValid, located, outsideZones, conditions}
 use Rattle.control.specs.Conditions.{endAhead, lastAhead, firstAhead, profilesThere, tooFar, countsIn, counts, inZones, outsideIn}
-use Rattle.control.specs.States.{Values, Machine, machine, N, U, fromRE, byState, settled, given}
+use Rattle.control.specs.States.{machine, N, U, fromRE, byState, settled, given}
+use Rattle.control.specs.declared.Values.{Values}
+use Rattle.control.specs.declared.Machine.{Machine}
 use Rattle.control.specs.Settled.{controlOf}
 use Rattle.control.specs.declared.State.the-variants.{RE}
 

@@ -8,7 +8,9 @@ use native.Mathlib.Nat.{eq-or-lt-of-le}
 use Rattle.event.specs.declared.Event.{Event}
 use Rattle.event.specs.declared.Event.the-variants.{PowerOn, Configured, PowerOff, Fault, Reports, Mode, Lever, Press, Report, Length, Load, Skip, Revoke}
 use Rattle.control.specs.Codes.{isAD}
-use Rattle.control.specs.States.{Values, Machine, machine, U, fromRE, fromEG, fromDE, byState, settled, wanted, given}
+use Rattle.control.specs.States.{machine, U, fromRE, fromEG, fromDE, byState, settled, wanted, given}
+use Rattle.control.specs.declared.Values.{Values}
+use Rattle.control.specs.declared.Machine.{Machine}
 use Rattle.control.specs.Engagement.{Waiting}
 use Rattle.control.specs.Run.{Run, Requested, Holds}
 use Rattle.control.specs.declared.State.{State}

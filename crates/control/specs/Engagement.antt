@@ -5,7 +5,7 @@ use mathlib.Core.Bool.{true}
 use Prim.Native.Nat.{ℕ, suc, _≤_, _<_}
 use Rattle.event.specs.declared.Event.{Event}
 use Rattle.event.specs.declared.Event.the-variants.{PowerOn, Configured, Fault, Press, Mode}
-use Rattle.control.specs.States.{Values}
+use Rattle.control.specs.declared.Values.{Values}
 use Rattle.control.specs.declared.EtcsMode.the-variants.{Other, AD}
 use Rattle.control.specs.declared.DriverLever.the-variants.{Neutral, Brake}
 

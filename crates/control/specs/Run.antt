@@ -7,7 +7,9 @@ use Rattle.wire.specs.Judged.Judged.{accept}
 use Rattle.event.specs.Events.{kindOf}
 use Rattle.event.specs.declared.Event.{Event}
 use Rattle.event.specs.declared.Event.the-variants.{PowerOff, Mode}
-use Rattle.control.specs.States.{Values, Machine, machine, settled, wanted, given}
+use Rattle.control.specs.States.{machine, settled, wanted, given}
+use Rattle.control.specs.declared.Values.{Values}
+use Rattle.control.specs.declared.Machine.{Machine}
 use Rattle.control.specs.Numbers.{powerRows, stateRow}
 use Rattle.control.specs.Engagement.{Waiting, Engagement}
 use Rattle.control.specs.declared.State.the-variants.{NP, RE, EG, DE}

@@ -6,7 +6,9 @@ use Rattle.data.specs.declared.Control.{Control}
 use Rattle.event.specs.declared.Event.{Event}
 use Rattle.control.specs.Codes.{code, stateAt, modeAt, leverAt}
 use Rattle.control.specs.Conditions.{T}
-use Rattle.control.specs.States.{Values, Machine, machine, settled, given}
+use Rattle.control.specs.States.{machine, settled, given}
+use Rattle.control.specs.declared.Values.{Values}
+use Rattle.control.specs.declared.Machine.{Machine}
 
 -- "O means all nine": the conditions' number is then 511, all nine bits
 abbrev pub allNine : ℕ → Bool

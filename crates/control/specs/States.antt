@@ -6,9 +6,8 @@ use Rattle.event.specs.declared.Event.the-variants.{PowerOn, Configured, PowerO
 use Rattle.control.specs.Codes.{is, isAD, isNeutral, isBrake}
 use Rattle.control.specs.declared.State.{State}
 use Rattle.control.specs.declared.State.the-variants.{NP, CO, NA, AV, RE, EG, DE, FA}
--- what the rows look at, after an event; the state, and whether a press is pending
-pub use Rattle.control.specs.declared.Values.{Values}
-pub use Rattle.control.specs.declared.Machine.{Machine}
+use Rattle.control.specs.declared.Values.{Values}
+use Rattle.control.specs.declared.Machine.{Machine}
 
 abbrev pub machine : State → Bool → Machine
 machine s p = record { state = s; press = p }

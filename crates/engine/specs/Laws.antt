@@ -1,16 +1,13 @@
 -- Laws of the parts of a call.
 use Prim.Native.Nat.{ℕ, _+_, _≤_, _<_}
 use mathlib.Core.Path.{_≡_, refl, sym, ap, subst, _∙_}
-use mathlib.Core.List.{List, [], _∷_, _++_}
-use mathlib.Core.Bool.{Bool, true, false, not, _&&_, _||_}
-use mathlib.Core.Option.{Option, none, some}
+use mathlib.Core.List.{List, _++_}
+use mathlib.Core.Bool.{Bool, true, false}
 use lib.ListN.{length, getD, set, drop}
-use lib.Dec.{eqb, ltb}
 use lib.Seq.{sets, sets-eq}
 use borrow.Author.Tests.{lt-ltb, le-ltb, eq-eqb, ne-eqb}
 use native.Mathlib.Omega.{arith}
-use Rattle.wire.specs.Numbers.{if_then_else_}
-use Rattle.wire.specs.Judged.{Judged, thenJudge, row}
+use Rattle.wire.specs.Judged.{Judged, thenJudge}
 use Rattle.wire.specs.Judged.Judged.{refuse, accept}
 use Rattle.data.specs.Engine.{Route, routeIn, undefined, progress, withRoute, withSkips, withProgress, withControl, withPosition}
 use Rattle.data.specs.declared.Position.{Position}
@@ -26,7 +23,7 @@ use Rattle.timing.specs.Load.{target}
 use Rattle.timing.specs.Report.{reportOf}
 use Rattle.timing.specs.Changes.{passings, reportChanges}
 use Rattle.timing.specs.declared.Found.{Found}
-use Rattle.timing.specs.declared.Found.the-variants.{At, Nothing}
+use Rattle.timing.specs.declared.Found.the-variants.{At}
 use Rattle.timing.specs.declared.Reported.{Reported}
 use Rattle.control.specs.Codes.{stateAt}
 use Rattle.control.specs.Conditions.{conditions}
@@ -42,16 +39,16 @@ use Rattle.recording.specs.declared.Writes.{Writes}
 use Rattle.journey.specs.declared.Head.{Head}
 use Rattle.model.specs.Packets.{statusDue}
 use Rattle.model.specs.Effect as model
-use Rattle.model.specs.Effect.{quiet, beyondIn, offsetBeyond, reportedIn, positionEffect, loadedIn, loadEffect, sameBool, skippedIn, skipEffect}
+use Rattle.model.specs.Effect.{quiet, beyondIn, offsetBeyond, positionEffect, loadedIn, loadEffect, sameBool, skipEffect}
 use Rattle.model.specs.Call as call
 use Rattle.model.specs.Call.{Call, Step, conditionsIn, statusIn, stepBy, outcomeOf}
 use Rattle.engine.specs.declared.Effect.{Effect}
 use Rattle.engine.specs.declared.Stepped.{Stepped}
-use Rattle.engine.specs.Seen.{noChanges, oneChange, changesOf, skipStatus, routeBy, refusedEffect, effectIn, effectSeen, outputRow, laterRows, refusedStep, acceptedStep, shownOf, writesOf, Steps}
+use Rattle.engine.specs.Seen.{noChanges, oneChange, changesOf, skipStatus, routeBy, plainEffect, effectIn, effectSeen, outputRow, laterRows, refusedStep, acceptedStep, shownOf, writesOf, Steps}
 
 -- ---- effects
 
-pub seen-quiet : (m : Engine) → effectSeen (refusedEffect m 0) ≡ accept (quiet m)
+pub seen-quiet : (m : Engine) → effectSeen (plainEffect m 0) ≡ accept (quiet m)
 unfolding passings
 seen-quiet m = refl
 
@@ -80,7 +77,7 @@ module _ (e : Engine) (x : Position) where
   pub position-reported : (m : Engine) (t : Reported) (ch : Changes) (head : Head) → offsetBeyond (routeIn e) x ≡ false → m ≡ withPosition e x
       → t ≡ reportOf (routeIn m) (reportIn m) (m .progress) → ch ≡ changesOf (m .progress .next) t
       → effectSeen (record { number = 0; engine = withProgress m (t .progress); loaded = false; head = head; changes = ch; reached = t .reached })
-        ≡ positionEffect e x
+      ≡ positionEffect e x
   unfolding positionEffect reportChanges
   position-reported m t ch head h a q c = rw (h, c, q, a)
 

@@ -3,11 +3,11 @@ use Prim.Native.Nat.{ℕ}
 use mathlib.Core.Path.{_≡_}
 use mathlib.Core.List.{List}
 use mathlib.Core.Bool.{Bool, true, false}
-use mathlib.Core.Option.{Option, none, some}
+use mathlib.Core.Option.{none, some}
 use lib.ListN.{length}
 use lib.Dec.{eqb, ltb}
 use Rattle.wire.specs.Numbers.{if_then_else_}
-use Rattle.wire.specs.Judged.{Judged, thenJudge, row, _>>=_, _>>_}
+use Rattle.wire.specs.Judged.{Judged, row, _>>=_, _>>_}
 use Rattle.wire.specs.Judged.Judged.{refuse, accept}
 use Rattle.data.specs.Engine.{Route, progress}
 use Rattle.data.specs.declared.Progress.{Progress}
@@ -50,8 +50,8 @@ skipStatus on = if on then statusSkipped else statusRevoked
 abbrev pub routeBy : Loaded → Route
 routeBy l = record { load = l .load; points = l .points; segments = l .segments }
 
-abbrev pub refusedEffect : Engine → ℕ → Effect
-refusedEffect e n = record { number = n; engine = e; loaded = false; head = blankHead; changes = noChanges; reached = false }
+abbrev pub plainEffect : Engine → ℕ → Effect
+plainEffect e n = record { number = n; engine = e; loaded = false; head = blankHead; changes = noChanges; reached = false }
 
 abbrev pub effectIn : Effect → model.Effect
 effectIn f = record {

@@ -28,16 +28,17 @@ ghost use Rattle.timing.specs.declared.Found.the-variants.{At};
 ghost use Rattle.control.specs.Settled.{controlAfter};
 ghost use Rattle.model.specs.Effect.{quiet, withMode, withLever, withReports, offsetBeyond, positionEffect, loadEffect, sameBool, skipEffect, effect};
 ghost use Rattle.model.specs.Call.{stepBy, outcomeOf, stepOf};
-ghost use Rattle.engine.specs.Seen.{noChanges, oneChange, changesOf, skipStatus, routeBy, refusedEffect, effectIn, effectSeen, outputRow, laterRows, call, refusedStep, acceptedStep, shownOf, writesOf, Steps};
+ghost use Rattle.engine.specs.Seen.{noChanges, oneChange, changesOf, skipStatus, routeBy, plainEffect, effectIn, effectSeen, outputRow, laterRows, call, refusedStep, acceptedStep, shownOf, writesOf, Steps};
 
-// What an event does before the rows of the states; number is 0, or that of the row that refuses.
-pub struct Effect {
-    pub number: u8,
-    pub engine: Engine,
-    pub loaded: bool,
-    pub head: Head,
-    pub changes: Changes,
-    pub reached: bool,
+// What an event does before the rows of the states: the engine with its values, the head of a journey that was loaded, the points that
+// changed, and whether one became reached. `number` is 0, or that of the row that refuses.
+struct Effect {
+    number: u8,
+    engine: Engine,
+    loaded: bool,
+    head: Head,
+    changes: Changes,
+    reached: bool,
 }
 
 // What a call answers, and the engine that it leaves.
@@ -92,9 +93,9 @@ fn one_change(index: u8, status: u8, after: Progress) -> Changes
     }
 }
 
-// The number of the row that refuses, beside an engine that does not count.
-fn no_effect(e: Engine, number: u8) -> Effect
-    ensures { λ r. ⌜ r ≡ refusedEffect e number ⌝ }
+// An engine with nothing loaded and no point changed; the engine does not count where a row refuses.
+fn plain(e: Engine, number: u8) -> Effect
+    ensures { λ r. ⌜ r ≡ plainEffect e number ⌝ }
 {
     let head = no_head();
     let changes = no_changes();
@@ -108,11 +109,11 @@ fn no_effect(e: Engine, number: u8) -> Effect
     }
 }
 
-// Nothing but the engine's values changes.
+// Only the engine's values change.
 fn quiet(m: Engine) -> Effect
     ensures { λ r. ⌜ effectSeen r ≡ accept (quiet m) ⌝ }
 {
-    no_effect(m, 0)
+    plain(m, 0)
 }
 
 fn with_mode(e: Engine, n: u8) -> Engine
@@ -198,7 +199,7 @@ fn position(e: Engine, x: Position) -> Effect
 {
     let mut m = with_position(e, x);
     if offset_beyond(m) {
-        return no_effect(m, 13);
+        return plain(m, 13);
     }
     let t = timing::report(m);
     let head = no_head();
@@ -250,7 +251,7 @@ fn load(e: Engine, journey: &[u8], book: &[u8]) -> Effect
 {
     let l = route::load_route(journey, book);
     if l.number != 0 {
-        return no_effect(e, l.number);
+        return plain(e, l.number);
     }
     let m = with_target(with_route(e, l));
     let head = l.head;
@@ -305,11 +306,11 @@ fn skip_at(e: Engine, k: usize, on: bool) -> Effect
 {
     let index = k as u8;
     if is_behind(e.progress, index) {
-        return no_effect(e, 15);
+        return plain(e, 15);
     }
     let given = e.skips[k];
     if same(given, on) {
-        return no_effect(e, 15);
+        return plain(e, 15);
     }
     let m = with_skip(e, k, on);
     let head = no_head();
@@ -328,7 +329,7 @@ fn skip(e: Engine, nidtp: u32, on: bool) -> Effect
     ensures { λ r. ⌜ effectSeen r ≡ skipEffect e on (stopNamed (routeIn e) nidtp) ⌝ }
 {
     let Found::At(k) = timing::find_stop(e, nidtp) else {
-        return no_effect(e, 14);
+        return plain(e, 14);
     };
     skip_at(e, k, on)
 }

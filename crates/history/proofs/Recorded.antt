@@ -20,7 +20,7 @@ use Rattle.packets.specs.declared.Packet.{Packet}
 use Rattle.timing.specs.Changes.{Change, when}
 use Rattle.model.specs.Packets.{header, timingPoint, jpReceived, atoStatus, Status, statusDue, received, packetsOf}
 use Rattle.history.specs.Recorded.{sizeBy, cut, packetsIn, newest}
-use Rattle.history.specs.WholeList.{bytesOfEach, Tells}
+use Rattle.history.specs.WholeList.{bytesOfEach, StatusPacket}
 
 -- ---- packets one after the other
 
@@ -111,7 +111,7 @@ pub record Ranged (j : Route) (x : Position) : Type 0 where
   pub speed : x .speed ≤ max2
   pub operational : j .load .operational ≤ max4
 
-pub status-tells : (j : Route) (x : Position) (state conditions : ℕ) → Ranged j x → state ≤ 7 → conditions ≤ 511 → Tells (packetBytes (atoStatus j x state conditions)) state conditions
+pub status-tells : (j : Route) (x : Position) (state conditions : ℕ) → Ranged j x → state ≤ 7 → conditions ≤ 511 → StatusPacket (packetBytes (atoStatus j x state conditions)) state conditions
 unfolding atoStatus
 status-tells j x state conditions r s c =
     record {

@@ -18,7 +18,7 @@ use Rattle.history.specs.Values.{History, positionOf, routeOf}
 use Rattle.history.specs.Rules.{conditionsOf, stateOf, machineOf}
 use Rattle.history.specs.Table.{headIn, changesBy, statusOf, packetsBy}
 use Rattle.history.specs.Recorded.{newest}
-use Rattle.history.specs.WholeList.{bytesOfEach, Tells}
+use Rattle.history.specs.WholeList.{bytesOfEach, StatusPacket}
 use Rattle.history.proofs.Recorded.{newest-is, status-tells}
 use Rattle.history.proofs.Decoded.{ranged}
 
@@ -45,7 +45,7 @@ module _ (before after : Status) where
 abbrev pub statusPacket : History → List ℕ
 statusPacket h = packetBytes (atoStatus (routeOf h) (positionOf h) (code (stateOf h)) (conditionsOf h))
 
-pub packet-tells : (h : History) → Tells (statusPacket h) (code (stateOf h)) (conditionsOf h)
+pub packet-tells : (h : History) → StatusPacket (statusPacket h) (code (stateOf h)) (conditionsOf h)
 unfolding conditionsOf
 packet-tells h = status-tells (routeOf h) (positionOf h) (code (stateOf h)) (conditionsOf h) (ranged h) (code-most (stateOf h)) (conditions-most _ _ _ _)
 
@@ -58,7 +58,7 @@ module _ (o : Option (List ℕ)) (h : History) (c : Call) where
 pub record Names (o : Option (List ℕ)) (h : History) : Type 0 where
   pub packet : List ℕ
   pub is-last : o ≡ some packet
-  pub tells : Tells packet (code (stateOf h)) (conditionsOf h)
+  pub tells : StatusPacket packet (code (stateOf h)) (conditionsOf h)
 
 named-now : (o : Option (List ℕ)) (h : History) (c : Call) → statusDue (statusOf h) (statusOf (c ∷ h)) ≡ true → Names (newest o (bytesOfEach (packetsBy h c))) (c ∷ h)
 named-now o h c e = record { packet = statusPacket (c ∷ h); is-last = newest-by o h c ∙ rw e; tells = packet-tells (c ∷ h) }

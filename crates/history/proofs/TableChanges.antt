@@ -77,7 +77,7 @@ module _ (j : Route) (r : Report) (p : Progress) (range : InRange j p) where
 
   -- the three ways of a report: nothing is done at a reached point; it is departed; or none is reached
   data Way : Type 0 where
-    waits : p .reached ≡ true → stays r p ≡ true → departs r p ≡ false → F ≡ p .next → q ≡ p → Way
+    notSettled : p .reached ≡ true → stays r p ≡ true → departs r p ≡ false → F ≡ p .next → q ≡ p → Way
     leaves : p .reached ≡ true → stays r p ≡ false → departs r p ≡ true → F ≡ suc (p .next) → p .next < q .next → Way
     looks : p .reached ≡ false → stays r p ≡ false → departs r p ≡ false → F ≡ p .next → Way
 
@@ -85,7 +85,7 @@ module _ (j : Route) (r : Report) (p : Progress) (range : InRange j p) where
   way = go _ refl _ refl
     where
       go : (x : Bool) → p .reached ≡ x → (y : Bool) → moving r ≡ y → Way
-      go true e false f = let s : stays r p ≡ true = rw (e, f) in waits e s (rw (e, f)) (rw (e, f)) (stayed s)
+      go true e false f = let s : stays r p ≡ true = rw (e, f) in notSettled e s (rw (e, f)) (rw (e, f)) (stayed s)
       go true e true f =
           let l : p .next < pointCount j = range .reached-one e in
           let s : stays r p ≡ false = rw (e, f) in
@@ -98,7 +98,7 @@ module _ (j : Route) (r : Report) (p : Progress) (range : InRange j p) where
   first-up = go way
     where
       go : Way → (p .next ≤ F) × (F ≤ q .next)
-      go (waits e s d g z) = rw (g, z) (omega arith, omega arith)
+      go (notSettled e s d g z) = rw (g, z) (omega arith, omega arith)
       go (leaves e s d g l) = rw g (omega arith, omega arith)
       go (looks e s d g) = rw g (omega arith, reported-up j r p range)
 
@@ -116,7 +116,7 @@ module _ (j : Route) (r : Report) (p : Progress) (range : InRange j p) where
       none-looked e = omega arith
 
       go : Way → changesFrom (standing p) (standing q) (F - p .next) (p .next) ≡ when (departs r p) (change (p .next) statusDeparted (progress F false))
-      go (waits e s d g z) = rw (none-looked g, d)
+      go (notSettled e s d g z) = rw (none-looked g, d)
       go (looks e s d g) = rw (none-looked g, d)
       go (leaves e s d g l) =
           let one : F - p .next ≡ 1 = omega arith in
@@ -132,7 +132,7 @@ module _ (j : Route) (r : Report) (p : Progress) (range : InRange j p) where
     where
       go : Way → (p .next ≡ i) ⊎ (p .next < i) → change-at i ≡ change i statusPassed (progress (i + 1) false) ∷ []
       go w (inr n) = changed i (standing-unused p i n) (standing-passed q i m)
-      go (waits e s d g z) (inl n) = let y : q .next ≡ p .next = ap (λ x. x .next) z in absurd (omega arith)
+      go (notSettled e s d g z) (inl n) = let y : q .next ≡ p .next = ap (λ x. x .next) z in absurd (omega arith)
       go (leaves e s d g y) (inl n) = absurd (omega arith)
       go (looks e s d g) (inl n) = changed i (ap (standing p) (sym n) ∙ standing-targeted p e) (standing-passed q i m)
 
@@ -159,12 +159,12 @@ module _ (j : Route) (r : Report) (p : Progress) (range : InRange j p) where
       before s e n = ap (standing p) (sym n) ∙ e
 
       go : (b : Bool) → q .reached ≡ b → Way → (p .next ≡ q .next) ⊎ (p .next < q .next) → change-at (q .next) ≡ when (becameReached j r p) (change (q .next) statusStopped q)
-      go b x (waits e s d g z) (inr n) = let y : q .next ≡ p .next = ap (λ x. x .next) z in absurd (omega arith)
+      go b x (notSettled e s d g z) (inr n) = let y : q .next ≡ p .next = ap (λ x. x .next) z in absurd (omega arith)
       go true x (leaves e s d g y) (inr n) = reached-there Unused (standing-unused p (q .next) n) x s refl
       go true x (looks e s d g) (inr n) = reached-there Unused (standing-unused p (q .next) n) x s refl
       go false x (leaves e s d g y) (inr n) = targeted-there Unused (standing-unused p (q .next) n) x s refl
       go false x (looks e s d g) (inr n) = targeted-there Unused (standing-unused p (q .next) n) x s refl
-      go b x (waits e s d g z) (inl n) =
+      go b x (notSettled e s d g z) (inl n) =
           as-before false (ap (λ b. not b && q .reached) s)
           (changed (q .next) (before Reached (standing-reached p e) n) (standing-reached q (ap (λ x. x .reached) z ∙ e)))
       go b x (leaves e s d g y) (inl n) = absurd (omega arith)

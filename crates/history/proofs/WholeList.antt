@@ -29,9 +29,9 @@ use Rattle.model.specs.Laws.{memory-length}
 use Rattle.history.specs.Values.{History, eventIn, latest, routeOf, reportsSince, behindAtLoad}
 use Rattle.history.specs.Rules.{conditionsOf, machineOf, stateOf, requestOf, Engaged}
 use Rattle.history.specs.Table.{packetsBy, answerBy, tableOf}
-use Rattle.history.specs.Calls.{play, engineAfter, trace, heard, acceptedIn, historyOf, laterAnswer, lastAnswer, keep, acceptedCalls}
+use Rattle.history.specs.Calls.{play, engineAfter, trace, withAccepted, acceptedIn, historyOf, laterAnswer, lastAnswer, keep, acceptedCalls}
 use Rattle.history.specs.Recorded.{written, cut, packetsIn, newest, lastStatus}
-use Rattle.history.specs.WholeList.{EngagedExactly, PointsStand, bytesOfEach, Tells, StatusWritten, JudgedByTable, WholeList, NothingAhead, NoTrace, RequestExactly}
+use Rattle.history.specs.WholeList.{EngagedExactly, PointsStand, bytesOfEach, StatusPacket, StatusWritten, JudgedByTable, WholeList, NothingAhead, NoTrace, RequestExactly}
 use Rattle.history.proofs.Fields.{skipsOf, progressBy, engineOf, stands-at}
 use Rattle.history.proofs.FieldsControl.{conditions-in}
 use Rattle.history.proofs.TableRows.{ruled, judged-is}
@@ -144,7 +144,7 @@ named-more (x ∷ h) c o e n = names-next o (x ∷ h) c n
 
 -- the call's outcome in the trace
 abbrev Next : Call → History → Option (List ℕ) → Option Accepted → Outcome → Type 0
-Next c h o a r = Kept (r .engine) (heard (r .answer) c h) (newest o (packetsIn (written (r .answer)) (r .memory))) (laterAnswer (r .answer) a)
+Next c h o a r = Kept (r .engine) (withAccepted (r .answer) c h) (newest o (packetsIn (written (r .answer)) (r .memory))) (laterAnswer (r .answer) a)
 
 keeps-one : (h : History) (o : Option (List ℕ)) (a : Option Accepted) (c : Call) → Good h → Named h o → Answered h a → Next c h o a (stepOf (engineOf h) c)
 unfolding packetsIn cut newest
@@ -210,7 +210,7 @@ named-before : (h : History) (o : Option (List ℕ)) → Named h o → h ≡ [] 
 named-before [] o n e = n
 named-before (c ∷ h) o n e = absurd (zero-one (cc))
 
-named-since : (h : History) (o : Option (List ℕ)) → Named h o → h ≢ [] → (packet : List ℕ) × (o ≡ some packet) × Tells packet (code (stateOf h)) (conditionsOf h)
+named-since : (h : History) (o : Option (List ℕ)) → Named h o → h ≢ [] → (packet : List ℕ) × (o ≡ some packet) × StatusPacket packet (code (stateOf h)) (conditionsOf h)
 named-since [] o n e = absurd (e refl)
 named-since (c ∷ h) o n e = (n .packet, n .is-last, n .tells)
 
@@ -263,9 +263,9 @@ untraced (c ∷ calls) e h = go (stepOf e c .answer) refl (untraced calls e h) (
     go : (r : Judged Accepted) → stepOf e c .answer ≡ r
         → (play e (acceptedCalls e calls) ≡ play e calls) × (acceptedIn h (trace e (acceptedCalls e calls)) ≡ acceptedIn h (trace e calls))
         → ((l : History) → (play next (acceptedCalls next calls) ≡ play next calls) × (acceptedIn l (trace next (acceptedCalls next calls)) ≡ acceptedIn l (trace next calls)))
-        → Same next (heard (stepOf e c .answer) c h) (keep (stepOf e c .answer) c (acceptedCalls next calls))
+        → Same next (withAccepted (stepOf e c .answer) c h) (keep (stepOf e c .answer) c (acceptedCalls next calls))
     go (refuse n) q here there = rw q (subst (λ x. Same x h (acceptedCalls x calls)) (sym (left e c n q)) here)
-    go (accept x) q here there = rw q (there h .0, ap (λ r. acceptedIn (heard r c h) (trace next (acceptedCalls next calls))) q ∙ there (c ∷ h) .1)
+    go (accept x) q here there = rw q (there h .0, ap (λ r. acceptedIn (withAccepted r c h) (trace next (acceptedCalls next calls))) q ∙ there (c ∷ h) .1)
 
 pub no-trace : (calls : List Call) → NoTrace calls
 no-trace calls = let z = untraced calls fresh [] in record { same-engine = z .0; same-history = z .1 }

@@ -29,14 +29,14 @@ trace e [] = []
 trace e (c ∷ l) = record { call = c; answer = stepOf e c .answer; memory = stepOf e c .memory } ∷ trace (stepOf e c .engine) l
 
 -- "It is accepted if it answers a state and not a number"
-abbrev pub heard : Judged Accepted → Call → History → History
-heard (refuse n) c h = h
-heard (accept a) c h = c ∷ h
+abbrev pub withAccepted : Judged Accepted → Call → History → History
+withAccepted (refuse n) c h = h
+withAccepted (accept a) c h = c ∷ h
 
 -- "The rules see only the calls' arguments and which were accepted."
 unfoldable pub acceptedIn : History → List Done → History
 acceptedIn h [] = h
-acceptedIn h (d ∷ l) = acceptedIn (heard (d .answer) (d .call) h) l
+acceptedIn h (d ∷ l) = acceptedIn (withAccepted (d .answer) (d .call) h) l
 
 abbrev pub historyOf : List Call → History
 historyOf calls = acceptedIn [] (trace fresh calls)

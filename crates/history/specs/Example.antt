@@ -10,7 +10,7 @@ use Rattle.wire.specs.Judged.Judged.{refuse}
 use Rattle.data.specs.Engine.{fresh}
 use Rattle.data.specs.declared.Engine.{Engine}
 use Rattle.timing.specs.Standing.{standing}
-use Rattle.timing.specs.Rule.{departing, through, fate, standingBy}
+use Rattle.timing.specs.Rule.{departing, through, pointOutcome, standingBy}
 use Rattle.timing.specs.declared.Standing.{Standing}
 use Rattle.timing.specs.declared.Standing.the-variants.{Targeted, Reached, Passed}
 use Rattle.control.specs.Codes.{code}
@@ -69,5 +69,5 @@ pub record Example : Type 0 where
 
 -- for proofs by computation: `unfolding worked` opens the lists of calls, the rules and the meaning of a call
 unfoldable pub worked : List Call → Engine
-unfolding computed O departing through fate standingBy eventIn loadIn latest routeOf skippedAt reportsSince behindAtLoad standingOf conditionsOf valuesOf someBelow becameReachedIn machineOf requestOf changesFrom changesBy packetsBy kindRows tableOf play trace acceptedIn lastAnswer cut packetsIn newest lastStatus
+unfolding computed O departing through pointOutcome standingBy eventIn loadIn latest routeOf skippedAt reportsSince behindAtLoad standingOf conditionsOf valuesOf someBelow becameReachedIn machineOf requestOf changesFrom changesBy packetsBy kindRows tableOf play trace acceptedIn lastAnswer cut packetsIn newest lastStatus
 worked calls = engineAfter calls

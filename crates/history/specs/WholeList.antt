@@ -46,7 +46,7 @@ bytesOfEach [] = []
 bytesOfEach (p ∷ l) = packetBytes p ∷ bytesOfEach l
 
 -- a packet 68 with these values
-pub record Tells (packet : List ℕ) (state conditions : ℕ) : Type 0 where
+pub record StatusPacket (packet : List ℕ) (state conditions : ℕ) : Type 0 where
   pub status : AtoStatus
   pub read : packetOf packet ≡ accept (Packet.AtoStatus status)
   pub state-is : status .state ≡ state
@@ -56,7 +56,7 @@ pub record Tells (packet : List ℕ) (state conditions : ℕ) : Type 0 where
 -- and the rules for the history, and these are the engine's
 pub record StatusWritten (e : Engine) (h : History) (last : Option (List ℕ)) : Type 0 where
   pub before : h ≡ [] → last ≡ none
-  pub since : h ≢ [] → (packet : List ℕ) × (last ≡ some packet) × Tells packet (code (stateOf h)) (conditionsOf h)
+  pub since : h ≢ [] → (packet : List ℕ) × (last ≡ some packet) × StatusPacket packet (code (stateOf h)) (conditionsOf h)
   pub state : e .control .state ≡ code (stateOf h)
   pub conditions : conditionsIn e ≡ conditionsOf h
 

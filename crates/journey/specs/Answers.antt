@@ -45,7 +45,7 @@ blankJourneyPoint = record { nidtp = 0; index = 0; alignment = 0; stopping = 0; 
 abbrev pub namesSeen : List ℕ → Names → Parse (List Name)
 namesSeen s r = if r .ok then good (take (r .count) (r .names)) (drop (r .next) s) else bad
 
-pub record NamesTold (s : List ℕ) (at : ℕ) (r : Names) : Type 0 where
+pub record NamesRead (s : List ℕ) (at : ℕ) (r : Names) : Type 0 where
   pub seen : namesSeen s r ≡ counted 40 nameRecord (drop at s)
   pub most : r .count ≤ 40
   pub array : r .ok ≡ true → r .names ≡ filled 40 blankName (take (r .count) (r .names))
@@ -53,7 +53,7 @@ pub record NamesTold (s : List ℕ) (at : ℕ) (r : Names) : Type 0 where
 abbrev pub pointsSeen : List ℕ → Points → Parse (List JourneyPoint)
 pointsSeen s r = if r .ok then good (take (r .count) (r .points)) (drop (r .next) s) else bad
 
-pub record PointsTold (s : List ℕ) (at : ℕ) (r : Points) : Type 0 where
+pub record PointsRead (s : List ℕ) (at : ℕ) (r : Points) : Type 0 where
   pub seen : pointsSeen s r ≡ counted 64 pointRecord (drop at s)
   pub most : r .count ≤ 64
   pub array : r .ok ≡ true → r .points ≡ filled 64 blankJourneyPoint (take (r .count) (r .points))
@@ -87,6 +87,6 @@ journeyHeld (refuse n) = refusedBy n
 journeyHeld (accept v) =
     record { number = 0; head = v .head; namecount = length (v .names); names = filled 40 blankName (v .names); pointcount = length (v .points); points = filled 64 blankJourneyPoint (v .points) }
 
-pub record JourneyTold (s : List ℕ) (r : Journey) : Type 0 where
+pub record JourneyRead (s : List ℕ) (r : Journey) : Type 0 where
   pub seen : journeySeen r ≡ journeyValue s
   pub held : r ≡ journeyHeld (journeySeen r)

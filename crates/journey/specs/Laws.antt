@@ -12,7 +12,7 @@ use Rattle.wire.specs.Parse.Parse.{bad, good}
 use Rattle.wire.specs.Judged.Judged.{refuse, accept}
 use Rattle.journey.specs.Journey.{nameRecord, pointRecord, headRecord, journeyRecord, journeyValue}
 use Rattle.journey.specs.Filled.{filled-length}
-use Rattle.journey.specs.Answers.{blankName, blankJourneyPoint, namesSeen, pointsSeen, refusedBy, JourneyTold}
+use Rattle.journey.specs.Answers.{blankName, blankJourneyPoint, namesSeen, pointsSeen, refusedBy, JourneyRead}
 use Rattle.journey.specs.declared.Name.{Name}
 use Rattle.journey.specs.declared.JourneyPoint.{JourneyPoint}
 use Rattle.journey.specs.declared.Head.{Head}
@@ -21,7 +21,7 @@ use Rattle.journey.specs.declared.Names.{Names}
 use Rattle.journey.specs.declared.Points.{Points}
 use Rattle.data.specs.Engine.{filled}
 
-pub told-refused : (s : List ℕ) (r : Journey) → r ≡ refusedBy 9 → refuse 9 ≡ journeyValue s → JourneyTold s r
+pub told-refused : (s : List ℕ) (r : Journey) → r ≡ refusedBy 9 → refuse 9 ≡ journeyValue s → JourneyRead s r
 told-refused s r e q = rw e record { seen = q; held = refl }
 
 pub names-bad : (s : List ℕ) (r : Names) → r .ok ≡ false → namesSeen s r ≡ bad
@@ -74,7 +74,7 @@ module _ {A : Type 0} (blank : A) (high n : ℕ) (xs : List A) (h : n ≤ high) 
 pub told-accepted : (s : List ℕ) (h : Head) (n m : ℕ) (ns : List Name) (ps : List JourneyPoint)
     → n ≤ 40 → m ≤ 64 → ns ≡ filled 40 blankName (take n ns) → ps ≡ filled 64 blankJourneyPoint (take m ps)
     → accept (record { head = h; names = take n ns; points = take m ps }) ≡ journeyValue s
-    → JourneyTold s (record { number = 0; head = h; namecount = n; names = ns; pointcount = m; points = ps })
+    → JourneyRead s (record { number = 0; head = h; namecount = n; names = ns; pointcount = m; points = ps })
 told-accepted s h n m ns ps a b f g e =
     let p : min n 40 ≡ n = omega arith in
     let q : min m 64 ≡ m = omega arith in

@@ -6,7 +6,7 @@ use wire::read_optional;
 ghost use mathlib.Core.Path.{_≡_};
 ghost use lib.ListN.{drop};
 ghost use Rattle.journey.specs.Journey.{nameRecord, pointMap, pointRecord, headMap, headRecord};
-ghost use Rattle.journey.specs.Answers.{nameSeen, pointSeen, headSeen, NamesTold, PointsTold, refusedBy, JourneyTold};
+ghost use Rattle.journey.specs.Answers.{nameSeen, pointSeen, headSeen, NamesRead, PointsRead, refusedBy, JourneyRead};
 
 // The name of a segment.
 pub struct Name {
@@ -214,7 +214,7 @@ fn read_head(s: &[u8]) -> HeadRead
 
 // The count and the names behind it.
 fn read_names(s: &[u8], at: usize) -> Names
-    ensures { λ r. ⌜ NamesTold (now (s .entry)) at r ⌝ }
+    ensures { λ r. ⌜ NamesRead (now (s .entry)) at r ⌝ }
 {
     let blank = Name { nidc: 0, nidsp: 0 };
     let mut names = [blank; 40];
@@ -251,7 +251,7 @@ fn read_names(s: &[u8], at: usize) -> Names
 
 // The count and the points behind it.
 fn read_points(s: &[u8], at: usize) -> Points
-    ensures { λ r. ⌜ PointsTold (now (s .entry)) at r ⌝ }
+    ensures { λ r. ⌜ PointsRead (now (s .entry)) at r ⌝ }
 {
     let blank = JourneyPoint {
         nidtp: 0,
@@ -329,7 +329,7 @@ fn refused(number: u8) -> Journey
 
 // A journey to the last byte of the slice.
 pub fn read_journey(s: &[u8]) -> Journey
-    ensures { λ r. ⌜ JourneyTold (now (s .entry)) r ⌝ }
+    ensures { λ r. ⌜ JourneyRead (now (s .entry)) r ⌝ }
 {
     let HeadRead::Read(head, a) = read_head(s) else {
         return refused(9);

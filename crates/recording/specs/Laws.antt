@@ -2,7 +2,7 @@
 use Prim.Native.Nat.{ℕ, zero, suc, _+_, _-_, _*_, _≤_}
 use mathlib.Core.Path.{_≡_, refl, sym, ap, _∙_}
 use mathlib.Core.List.{List, [], _∷_, _++_, map, map-append, append-assoc, append-nil}
-use mathlib.Core.Bool.{Bool, true, false, cond}
+use mathlib.Core.Bool.{Bool, true, false}
 use lib.ListN.{length, length-append}
 use lib.Dec.{eqb}
 use lib.Seq.{sets}
@@ -25,7 +25,6 @@ use Rattle.timing.specs.Changes.{Change, change, passings, when, statusPassed, 
 use Rattle.control.specs.Conditions.{endAhead}
 use Rattle.model.specs.Packets.{Status, statusDue, header, timingPoint, jpReceived, atoStatus, packetsOf}
 use Rattle.recording.specs.Written.{packets62, packets65, packets68, changesIn, firstIn, passingsIn, stoppedIn, loadedIn, packetsIn, sizeIn, Put}
-use Rattle.recording.specs.declared.Changes.{Changes}
 use Rattle.recording.specs.declared.Writes.{Writes}
 
 -- ---- sizes

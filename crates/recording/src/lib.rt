@@ -120,7 +120,11 @@ fn is_known(e: Engine) -> bool
 fn country(e: Engine) -> u16
     ensures { λ r. ⌜ r ≡ (if known (routeIn e) (e .train .position) then e .train .position .nidc else 1024) ⌝ }
 {
-    if is_known(e) { e.train.position.nidc } else { 1024 }
+    if is_known(e) {
+        e.train.position.nidc
+    } else {
+        1024
+    }
 }
 
 // Packet 65 for an accepted load.

@@ -38,7 +38,7 @@ abbrev pub PlacesFit : List ℕ → Placing → Type 0
 PlacesFit s m = (k t : ℕ) → getD (m .segments) k blankSegment .start + placeIn (lookupPoint t (getD (recordsIn s m) k [])) < 2 ^ 32
 
 -- the journey's segments by the book, and the records of those that are in it
-pub record PlacingTold (s : List ℕ) (book : List BookSegment) (names : List Name) (m : Placing) : Type 0 where
+pub record PlacingRead (s : List ℕ) (book : List BookSegment) (names : List Name) (m : Placing) : Type 0 where
   pub segments : m .segments ≡ filled 40 blankSegment (segmentsOf book names)
   pub records : (k : ℕ) → getD (recordsIn s m) k [] ≡ getD (recordPoints book names) k []
   pub fit : PlacesFit s m
@@ -48,9 +48,9 @@ abbrev pub placedBy : List BookSegment → JourneyValue → Judged LoadValue
 placedBy book v = thenJudge (checked book v) (λ j. accept (loadValue book j))
 
 -- an answer for an outcome: what it says, and that nothing stands beside the number of a refusal
-pub record Told (x : Judged LoadValue) (r : Loaded) : Type 0 where
+pub record AnsweredBy (x : Judged LoadValue) (r : Loaded) : Type 0 where
   pub seen : loadSeen r ≡ x
   pub held : r ≡ loadHeld (loadSeen r)
 
-abbrev pub LoadTold : List ℕ → List ℕ → Loaded → Type 0
-LoadTold journey bytes r = Told (loadOf journey bytes) r
+abbrev pub LoadRead : List ℕ → List ℕ → Loaded → Type 0
+LoadRead journey bytes r = AnsweredBy (loadOf journey bytes) r

@@ -26,7 +26,7 @@ use Rattle.journey.specs.declared.Journey.{Journey}
 use Rattle.route.specs.Placing.{recordOf, lengthIn, segmentsFrom, segmentsOf, recordPoints, pointsFrom, pointsOf}
 use Rattle.route.specs.Table.{nameTwice, pointMissing, mismatched, disordered, checked, journeyOf}
 use Rattle.route.specs.Route.{routeOf, loadGroup, LoadValue, loadValue, loadOf, refusedBy}
-use Rattle.route.specs.Answers.{recordsIn, PlacingTold, placedBy, Told}
+use Rattle.route.specs.Answers.{recordsIn, PlacingRead, placedBy, AnsweredBy}
 use Rattle.route.specs.declared.Placing.{Placing}
 use Rattle.route.specs.declared.Loaded.{Loaded}
 
@@ -52,7 +52,7 @@ unfolding pointsFrom
 points-length g r [] = refl
 points-length g r (p ∷ ps) = ap suc (points-length g r ps)
 
-module _ (s : List ℕ) (book : List BookSegment) (v : JourneyValue) (m : Placing) (few : length (v .names) ≤ 40) (h : PlacingTold s book (v .names) m) where
+module _ (s : List ℕ) (book : List BookSegment) (v : JourneyValue) (m : Placing) (few : length (v .names) ≤ 40) (h : PlacingRead s book (v .names) m) where
   segment-same : (k : ℕ) → getD (m .segments) k blankSegment ≡ getD (segmentsOf book (v .names)) k blankSegment
   segment-same k =
       ap (λ (x : List Segment). getD x k blankSegment) (h .segments)
@@ -101,18 +101,18 @@ module _ (book : List BookSegment) (v : JourneyValue) where
 
 -- ---- answers
 
-pub told-refused : (x : Judged LoadValue) (n : ℕ) (r : Loaded) → eqb n 0 ≡ false → r ≡ refusedBy n → x ≡ refuse n → Told x r
+pub told-refused : (x : Judged LoadValue) (n : ℕ) (r : Loaded) → eqb n 0 ≡ false → r ≡ refusedBy n → x ≡ refuse n → AnsweredBy x r
 told-refused x n r t e q = rw (e, q) record { seen = rw t; held = rw t }
 
 pub told-loaded : (book : List BookSegment) (v : JourneyValue) (load : Load) (points : List Point) (segments : List Segment)
     → load ≡ loadGroup v → points ≡ filled 64 blankPoint (pointsOf book (v .names) (v .points)) → segments ≡ filled 40 blankSegment (segmentsOf book (v .names))
-    → placedBy book v ≡ accept (loadValue book v) → Told (placedBy book v) (record { number = 0; load = load; points = points; segments = segments; head = v .head })
+    → placedBy book v ≡ accept (loadValue book v) → AnsweredBy (placedBy book v) (record { number = 0; load = load; points = points; segments = segments; head = v .head })
 unfolding routeOf
 told-loaded book v load points segments a b c e =
     record { seen = (λ i. accept (record { route = record { load = a i; points = b i; segments = c i }; head = v .head })) ∙ sym e; held = refl }
 
 -- what an answer says of the outcome
-module _ (x : Judged LoadValue) (r : Loaded) (h : Told x r) where
+module _ (x : Judged LoadValue) (r : Loaded) (h : AnsweredBy x r) where
   pub is-refused : eqb (r .number) 0 ≡ false → x ≡ refuse (r .number)
   is-refused t = sym (h .seen) ∙ rw t
 

@@ -21,7 +21,7 @@ use Rattle.journey.specs.declared.Name.{Name}
 use Rattle.journey.specs.declared.JourneyPoint.{JourneyPoint}
 use Rattle.route.specs.Placing.{recordOf, lengthIn, pointsOn, segmentOf, segmentsFrom, segmentsOf, recordPoints, placeIn, reachIn, pointOf, recordPoint, pointsFrom}
 use Rattle.route.specs.Table.{lacks}
-use Rattle.route.specs.Answers.{recordSeen, entryIn, recordsIn, PlacesFit, PlacingTold}
+use Rattle.route.specs.Answers.{recordSeen, entryIn, recordsIn, PlacesFit, PlacingRead}
 use Rattle.route.specs.Limits.{Sound, length-limit, starts-limit, places-limit}
 use Rattle.route.specs.declared.Recorded.{Recorded}
 use Rattle.route.specs.declared.Placing.{Placing}
@@ -103,7 +103,7 @@ module _ (s : List ℕ) (book : List BookSegment) (names : List Name) where
       }
 
   pub placed-end : (i : ℕ) (segments : List Segment) (entries : List Entry) (before : Bool) (start : ℕ) → Sound book → length names ≤ i → drop i names ≡ []
-      → Placed s book names i segments entries before start → PlacingTold s book names (record { segments = segments; entries = entries })
+      → Placed s book names i segments entries before start → PlacingRead s book names (record { segments = segments; entries = entries })
   unfolding segmentsFrom
   placed-end i segments entries before start sound h d f = record { segments = segs; records = recs; fit = λ k t. fits k t }
     where

@@ -26,7 +26,7 @@ ghost use Rattle.journey.specs.Answers.{namesIn, pointsIn, valueIn};
 ghost use Rattle.route.specs.Placing.{segmentOf, placeIn, reachIn, pointOf, recordPoint, pointsFrom};
 ghost use Rattle.route.specs.Table.{isNamed, named, nameTwice, indexBeyond, nidtps, ends, lacks, pointMissing, indexFalls, placeFalls, mismatched, disordered};
 ghost use Rattle.route.specs.Route.{endingOf, loadGroup, refusedBy};
-ghost use Rattle.route.specs.Answers.{recordSeen, entryIn, recordsIn, PlacesFit, PlacingTold, placedBy, Told, LoadTold};
+ghost use Rattle.route.specs.Answers.{recordSeen, entryIn, recordsIn, PlacesFit, PlacingRead, placedBy, AnsweredBy, LoadRead};
 ghost use Rattle.route.specs.Limits.{Sound};
 
 // What a load takes; number is 0, or that of the row that refuses.
@@ -302,7 +302,7 @@ fn segment_of(s: &[u8], n: Name, before: bool, start: u32, r: Recorded) -> Segme
 // Each segment of the journey by the book. The lengths of an accepted book add up within four bytes.
 fn place_segments(j: Journey, b: Book, s: &[u8]) -> Placing
     requires { ⌜ Sound (segmentsIn (now s) b) ⌝ }
-    ensures { λ r. ⌜ PlacingTold (now (s .entry)) (segmentsIn (now (s .entry)) b) (namesIn j) r ⌝ }
+    ensures { λ r. ⌜ PlacingRead (now (s .entry)) (segmentsIn (now (s .entry)) b) (namesIn j) r ⌝ }
 {
     let n = name_count(j);
     let blank = data::blank_segment();
@@ -577,7 +577,7 @@ fn refused(number: u8) -> Loaded
 // A journey that was read, by a book that was read: the rows 10 to 12 in their order.
 fn place(j: Journey, b: Book, s: &[u8]) -> Loaded
     requires { ⌜ Sound (segmentsIn (now s) b) ⌝ }
-    ensures { λ r. ⌜ Told (placedBy (segmentsIn (now (s .entry)) b) (valueIn j)) r ⌝ }
+    ensures { λ r. ⌜ AnsweredBy (placedBy (segmentsIn (now (s .entry)) b) (valueIn j)) r ⌝ }
 {
     let m = place_segments(j, b, s);
     let points = place_points(j, m, s);
@@ -607,7 +607,7 @@ fn place(j: Journey, b: Book, s: &[u8]) -> Loaded
 
 // The journey and the book that come with a load: the book's rows, then the journey's.
 pub fn load_route(journey: &[u8], book: &[u8]) -> Loaded
-    ensures { λ r. ⌜ LoadTold (now (journey .entry)) (now (book .entry)) r ⌝ }
+    ensures { λ r. ⌜ LoadRead (now (journey .entry)) (now (book .entry)) r ⌝ }
 {
     let b = book::read_book(book);
     if b.number != 0 {

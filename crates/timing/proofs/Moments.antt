@@ -17,9 +17,9 @@ use Rattle.timing.specs.Distance.{Report, beyond, moving}
 use Rattle.timing.specs.Standing.{standing}
 use Rattle.timing.specs.Report.{run}
 use Rattle.timing.specs.History.{numbered, firstOf, settles, Settled, Departs, Passes, Moment, Before, HasMoment, IsSettled, Stands}
-use Rattle.timing.specs.Rule.{Fate, departing, through, after, fate, shown, standingBy}
-use Rattle.timing.specs.Rule.Fate.{passes, reaches, waits, unlooked}
-use Rattle.timing.proofs.Rule.{through-on, through-passes, through-reaches, departing-on, departing-passes, fate-behind, fate-first, fate-next, as-rule}
+use Rattle.timing.specs.Rule.{PointOutcome, departing, through, after, pointOutcome, standingFor, standingBy}
+use Rattle.timing.specs.Rule.PointOutcome.{passes, reaches, notSettled, notLookedAt}
+use Rattle.timing.proofs.Rule.{through-on, through-passes, through-reaches, departing-on, departing-passes, pointOutcome-behind, pointOutcome-first, pointOutcome-next, as-rule}
 
 zero-one : _≡_ {A = ℕ} 0 1 → ⊥
 zero-one e = omega arith
@@ -56,17 +56,17 @@ module _ (j : Route) (start : ℕ) (reports : List Report) where
       go (inr q) = up u q h
 
   -- what comes of a reached point at the reports a .. B - 1
-  abbrev Dep : ℕ → ℕ → Fate → Type 0
+  abbrev Dep : ℕ → ℕ → PointOutcome → Type 0
   Dep a B (passes l) = (t : ℕ) × (a ≤ t) × (t < B) × (moving (rep t) ≡ true) × ((u : ℕ) → a ≤ u → u < t → moving (rep u) ≡ false) × (l ≡ span rep t (B - t))
   Dep a B reaches = (u : ℕ) → a ≤ u → u < B → moving (rep u) ≡ false
-  Dep a B waits = ⊥
-  Dep a B unlooked = ⊥
+  Dep a B notSettled = ⊥
+  Dep a B notLookedAt = ⊥
 
-  dep-cons : (a B : ℕ) (f : Fate) → moving (rep a) ≡ false → Dep (suc a) B f → Dep a B f
+  dep-cons : (a B : ℕ) (f : PointOutcome) → moving (rep a) ≡ false → Dep (suc a) B f → Dep a B f
   dep-cons a B (passes l) e (t, i, i′, m, n, q) = (t, omega arith, i′, m, from-on (λ u. moving (rep u) ≡ false) a t e n, q)
   dep-cons a B reaches e d = from-on (λ u. moving (rep u) ≡ false) a B e d
-  dep-cons a B waits e d = d
-  dep-cons a B unlooked e d = d
+  dep-cons a B notSettled e d = d
+  dep-cons a B notLookedAt e d = d
 
   cut : (a c B : ℕ) → B ≡ a + c → span rep a c ≡ span rep a (B - a)
   cut a c B z = let e : c ≡ B - a = omega arith in rw (← e) refl
@@ -81,29 +81,29 @@ module _ (j : Route) (start : ℕ) (reports : List Report) where
       go false e d = rw (departing-on (rep a) (span rep (suc a) c) e) (dep-cons a B (departing (span rep (suc a) c)) e d)
 
   -- what comes of point k at the reports a .. B - 1
-  abbrev Thr : ℕ → ℕ → ℕ → Fate → Type 0
+  abbrev Thr : ℕ → ℕ → ℕ → PointOutcome → Type 0
   Thr k a B (passes l) = (t : ℕ) × Passes j start reports k a t × (a ≤ t) × (t < B) × (l ≡ span rep t (B - t))
   Thr k a B reaches = (s : ℕ) × Settled j start reports k a s × (s < B) × (beyond j (rep s) k ≡ false) × ((u : ℕ) → s < u → u < B → moving (rep u) ≡ false)
-  Thr k a B waits = (u : ℕ) → a ≤ u → u < B → settles j (rep u) k ≡ false
-  Thr k a B unlooked = ⊥
+  Thr k a B notSettled = (u : ℕ) → a ≤ u → u < B → settles j (rep u) k ≡ false
+  Thr k a B notLookedAt = ⊥
 
   settled-cons : (k a s : ℕ) → settles j (rep a) k ≡ false → Settled j start reports k (suc a) s → Settled j start reports k a s
   settled-cons k a s e x = record { from = omega arith; settled = x .settled; none-before = from-on (λ u. settles j (rep u) k ≡ false) a s e (x .none-before) }
 
-  thr-cons : (k a B : ℕ) (f : Fate) → settles j (rep a) k ≡ false → Thr k (suc a) B f → Thr k a B f
+  thr-cons : (k a B : ℕ) (f : PointOutcome) → settles j (rep a) k ≡ false → Thr k (suc a) B f → Thr k a B f
   thr-cons k a B (passes l) e (t, (s, x, y), i, i′, q) = (t, (s, settled-cons k a s e x, y), omega arith, i′, q)
   thr-cons k a B reaches e (s, x, i, b, m) = (s, settled-cons k a s e x, i, b, m)
-  thr-cons k a B waits e d = from-on (λ u. settles j (rep u) k ≡ false) a B e d
-  thr-cons k a B unlooked e d = d
+  thr-cons k a B notSettled e d = from-on (λ u. settles j (rep u) k ≡ false) a B e d
+  thr-cons k a B notLookedAt e d = d
 
   here : (k a : ℕ) → settles j (rep a) k ≡ true → Settled j start reports k a a
   here k a e = record { from = omega arith; settled = e; none-before = λ u l h. absurd (omega arith) }
 
-  of-dep : (k a B : ℕ) (f : Fate) → a < B → settles j (rep a) k ≡ true → beyond j (rep a) k ≡ false → Dep (suc a) B f → Thr k a B f
+  of-dep : (k a B : ℕ) (f : PointOutcome) → a < B → settles j (rep a) k ≡ true → beyond j (rep a) k ≡ false → Dep (suc a) B f → Thr k a B f
   of-dep k a B (passes l) z e b (t, i, i′, m, n, q) = (t, (a, here k a e, inr (b, record { later = i; moves = m; none-before = n })), omega arith, i′, q)
   of-dep k a B reaches z e b d = (a, here k a e, z, b, d)
-  of-dep k a B waits z e b d = absurd d
-  of-dep k a B unlooked z e b d = absurd d
+  of-dep k a B notSettled z e b d = absurd d
+  of-dep k a B notLookedAt z e b d = absurd d
 
   thr : (k a c B : ℕ) → B ≡ a + c → Thr k a B (through j k (span rep a c))
   unfolding through
@@ -177,12 +177,12 @@ module _ (j : Route) (start : ℕ) (reports : List Report) where
   abbrev AllBefore : ℕ → Type 0
   AllBefore k = (i : ℕ) → i < k → HasMoment j start reports i
 
-  -- what the fate of point k says, in moments
-  abbrev Says : ℕ → Fate → Type 0
+  -- what the outcome of point k says, in moments
+  abbrev Says : ℕ → PointOutcome → Type 0
   Says k (passes l) = ((t : ℕ) × (t ≤ N) × Moment j start reports k t × (l ≡ span rep (firstOf t) (suc N - firstOf t))) × AllBefore k
   Says k reaches = Stands j start reports k Reached
-  Says k waits = Stands j start reports k Targeted
-  Says k unlooked = Stands j start reports k Unused
+  Says k notSettled = Stands j start reports k Targeted
+  Says k notLookedAt = Stands j start reports k Unused
 
   first-low : (t : ℕ) → firstOf t ≤ suc t
   first-low zero = omega arith
@@ -197,7 +197,7 @@ module _ (j : Route) (start : ℕ) (reports : List Report) where
   first-pos (suc m) = omega arith
 
   -- point k from the moment m of the point before
-  says : (k m : ℕ) (f : Fate) → start ≤ k → Before j start reports k m → AllBefore k → Thr k (firstOf m) (suc N) f → Says k f
+  says : (k m : ℕ) (f : PointOutcome) → start ≤ k → Before j start reports k m → AllBefore k → Thr k (firstOf m) (suc N) f → Says k f
   says k m (passes l) h b all (t, p, i, i′, q) = ((t, omega arith, roll k m t h b p, rw (last-pos t (omega (arith, first-pos m))) q), all)
   says k m reaches h b all (s, x, i, e, w) = (record { itself = never; before = all }, (m, b, (s, omega arith, x)))
     where
@@ -213,7 +213,7 @@ module _ (j : Route) (start : ℕ) (reports : List Report) where
               two : (((beyond j (rep r) k ≡ true) × (t ≡ r)) ⊎ ((beyond j (rep r) k ≡ false) × Departs j start reports r t)) → ⊥
               two (inl (f, g)) = zero-one (cc (same))
               two (inr (f, g)) = zero-one (cc (g .moves, w t (omega (arith, same, g .later)) (omega arith)))
-  says k m waits h b all w = (record { itself = never; before = all }, unsettled)
+  says k m notSettled h b all w = (record { itself = never; before = all }, unsettled)
     where
       unsettled : ¬ IsSettled j start reports k
       unsettled (n, c, (s, l, x)) =
@@ -225,7 +225,7 @@ module _ (j : Route) (start : ℕ) (reports : List Report) where
         where
           go : (n : ℕ) × Before j start reports k n × Passes j start reports k (firstOf n) t → ⊥
           go (n, c, p) = unsettled (n, c, (p .0, omega (arith, passes-up k (firstOf n) t p), p .1))
-  says k m unlooked h b all w = absurd w
+  says k m notLookedAt h b all w = absurd w
 
   -- no moment of the point before, none of this one
   none-next : (k : ℕ) → start ≤ suc k → ¬ HasMoment j start reports k → ¬ HasMoment j start reports (suc k)
@@ -244,37 +244,37 @@ module _ (j : Route) (start : ℕ) (reports : List Report) where
       go (inl e) = rw e it
       go (inr q) = all i q
 
-  says-next : (k : ℕ) (f : Fate) → start ≤ suc k → Says k f → Says (suc k) (after j (suc k) f)
-  says-next k unlooked h s = rest k h (s .0)
+  says-next : (k : ℕ) (f : PointOutcome) → start ≤ suc k → Says k f → Says (suc k) (after j (suc k) f)
+  says-next k notLookedAt h s = rest k h (s .0)
   says-next k reaches h s = rest k h (s .0 .itself)
-  says-next k waits h s = rest k h (s .0 .itself)
+  says-next k notSettled h s = rest k h (s .0 .itself)
   says-next k (passes l) h ((t, i, x, q), all) = rw q (says (suc k) t (through j (suc k) (span rep (firstOf t) (suc N - firstOf t))) h x (with-it k all (t, i, x)) (thr (suc k) (firstOf t) (suc N - firstOf t) (suc N) (omega (arith, first-low t))))
 
   behind-says : (k : ℕ) → k < start → Says k (passes (span rep 1 N))
   behind-says k h = ((0, omega arith, put-behind k h, let e : N ≡ suc N - 1 = omega arith in rw (← e) refl), λ i l. (0, omega arith, put-behind i (omega arith)))
 
-  all-say : (k : ℕ) → Says k (fate j start (span rep 1 N) k)
+  all-say : (k : ℕ) → Says k (pointOutcome j start (span rep 1 N) k)
   all-say zero = go _ refl
     where
-      go : (b : Bool) → ltb zero start ≡ b → Says zero (fate j start (span rep 1 N) zero)
-      go true e = rw (fate-behind j start (span rep 1 N) zero (ltb-true _ _ e)) (behind-says zero (ltb-true _ _ e))
-      go false e = rw (fate-first j start (span rep 1 N) (ltb-false _ _ e)) (says zero zero (through j zero (span rep 1 N)) (ltb-false _ _ e) refl (λ i l. absurd (omega arith)) (thr zero 1 N (suc N) (omega arith)))
+      go : (b : Bool) → ltb zero start ≡ b → Says zero (pointOutcome j start (span rep 1 N) zero)
+      go true e = rw (pointOutcome-behind j start (span rep 1 N) zero (ltb-true _ _ e)) (behind-says zero (ltb-true _ _ e))
+      go false e = rw (pointOutcome-first j start (span rep 1 N) (ltb-false _ _ e)) (says zero zero (through j zero (span rep 1 N)) (ltb-false _ _ e) refl (λ i l. absurd (omega arith)) (thr zero 1 N (suc N) (omega arith)))
   all-say (suc k) = go _ refl (all-say k)
     where
-      go : (b : Bool) → ltb (suc k) start ≡ b → Says k (fate j start (span rep 1 N) k) → Says (suc k) (fate j start (span rep 1 N) (suc k))
-      go true e s = rw (fate-behind j start (span rep 1 N) (suc k) (ltb-true _ _ e)) (behind-says (suc k) (ltb-true _ _ e))
-      go false e s = rw (fate-next j start (span rep 1 N) k (ltb-false _ _ e)) (says-next k (fate j start (span rep 1 N) k) (ltb-false _ _ e) s)
+      go : (b : Bool) → ltb (suc k) start ≡ b → Says k (pointOutcome j start (span rep 1 N) k) → Says (suc k) (pointOutcome j start (span rep 1 N) (suc k))
+      go true e s = rw (pointOutcome-behind j start (span rep 1 N) (suc k) (ltb-true _ _ e)) (behind-says (suc k) (ltb-true _ _ e))
+      go false e s = rw (pointOutcome-next j start (span rep 1 N) k (ltb-false _ _ e)) (says-next k (pointOutcome j start (span rep 1 N) k) (ltb-false _ _ e) s)
 
   -- the two readings of the history rule agree
-  said : (k : ℕ) (f : Fate) → Says k f → Stands j start reports k (shown f)
-  said k unlooked s = s
+  said : (k : ℕ) (f : PointOutcome) → Says k f → Stands j start reports k (standingFor f)
+  said k notLookedAt s = s
   said k (passes l) ((t, i, x, q), all) = (t, i, x)
   said k reaches s = s
-  said k waits s = s
+  said k notSettled s = s
 
   pub stands-so : (k : ℕ) → Stands j start reports k (standingBy j start reports k)
   unfolding standingBy
-  stands-so k = rw span-numbered at (said k (fate j start (span rep 1 N) k) (all-say k))
+  stands-so k = rw span-numbered at (said k (pointOutcome j start (span rep 1 N) k) (all-say k))
 
   -- and a point stands in one way only
   pub one-standing : (k : ℕ) (a b : Standing) → Stands j start reports k a → Stands j start reports k b → a ≡ b

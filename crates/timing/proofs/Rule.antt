@@ -17,8 +17,8 @@ use Rattle.timing.specs.Standing.{standing}
 use Rattle.timing.specs.Report.{looked, lookedFrom, stays, reported, becameReached, run}
 use Rattle.wire.specs.ParseLaws.{and-left, and-right}
 use Rattle.timing.specs.History.{settles}
-use Rattle.timing.specs.Rule.{Fate, departing, through, after, fate, shown, standingBy}
-use Rattle.timing.specs.Rule.Fate.{passes, reaches, waits, unlooked}
+use Rattle.timing.specs.Rule.{PointOutcome, departing, through, after, pointOutcome, standingFor, standingBy}
+use Rattle.timing.specs.Rule.PointOutcome.{passes, reaches, notSettled, notLookedAt}
 use Rattle.timing.proofs.Steps.{look-stops, look-passes, look-judges, reported-stays, reported-departs, reported-looks, following-is, InRange, looked-range, reported-range, started, run-up}
 
 zero-one : _≡_ {A = ℕ} 0 1 → ⊥
@@ -80,13 +80,13 @@ run-more j p r rs = refl
 
 -- ---- what came of point k says of the progress at the end
 module _ (j : Route) where
-  abbrev Told : Progress → ℕ → Fate → Type 0
+  abbrev Told : Progress → ℕ → PointOutcome → Type 0
   Told p k (passes rs) = p ≡ run j (progress (suc k) false) rs
   Told p k reaches = p ≡ progress k true
-  Told p k waits = p ≡ progress k false
-  Told p k unlooked = p .next < k
+  Told p k notSettled = p ≡ progress k false
+  Told p k notLookedAt = p .next < k
 
-  told-is : (k : ℕ) {p q : Progress} {f g : Fate} → p ≡ q → f ≡ g → Told q k g → Told p k f
+  told-is : (k : ℕ) {p q : Progress} {f g : PointOutcome} → p ≡ q → f ≡ g → Told q k g → Told p k f
   told-is k e d t = rw (e, d) t
 
   module _ (k : ℕ) (h : k < pointCount j) where
@@ -139,32 +139,32 @@ module _ (j : Route) where
             (through-passes j k r rs (rw (e, f, g)) g)
             refl
 
-  told-next : (p : Progress) (k : ℕ) → suc k < pointCount j → (f : Fate) → Told p k f → Told p (suc k) (after j (suc k) f)
+  told-next : (p : Progress) (k : ℕ) → suc k < pointCount j → (f : PointOutcome) → Told p k f → Told p (suc k) (after j (suc k) f)
   told-next p k h (passes l) t = rw t (through-told (suc k) h l)
   told-next p k h reaches t = rw t (omega arith)
-  told-next p k h waits t = rw t (omega arith)
-  told-next p k h unlooked t = omega arith
+  told-next p k h notSettled t = rw t (omega arith)
+  told-next p k h notLookedAt t = omega arith
 
-  stood : (p : Progress) (k : ℕ) → k < pointCount j → (f : Fate) → Told p k f → standing p k ≡ shown f
+  stood : (p : Progress) (k : ℕ) → k < pointCount j → (f : PointOutcome) → Told p k f → standing p k ≡ standingFor f
   stood p k h (passes l) t = rw t (standing-passed (run j (progress (suc k) false) l) k (run-up j l (progress (suc k) false) (started j (suc k) h)))
   stood p k h reaches t = rw t (standing-reached k)
-  stood p k h waits t = rw t (standing-targeted k)
-  stood p k h unlooked t = standing-unused p k t
+  stood p k h notSettled t = rw t (standing-targeted k)
+  stood p k h notLookedAt t = standing-unused p k t
 
   module _ (start : ℕ) (reports : List Report) where
     -- the load is the passing moment of what it put behind
-    pub fate-behind : (k : ℕ) → k < start → fate j start reports k ≡ passes reports
-    unfolding fate
-    fate-behind zero h = rw (lt-ltb zero start h)
-    fate-behind (suc k) h = rw (lt-ltb (suc k) start h)
+    pub pointOutcome-behind : (k : ℕ) → k < start → pointOutcome j start reports k ≡ passes reports
+    unfolding pointOutcome
+    pointOutcome-behind zero h = rw (lt-ltb zero start h)
+    pointOutcome-behind (suc k) h = rw (lt-ltb (suc k) start h)
 
-    pub fate-first : start ≤ zero → fate j start reports zero ≡ through j zero reports
-    unfolding fate
-    fate-first h = rw (le-ltb zero start h)
+    pub pointOutcome-first : start ≤ zero → pointOutcome j start reports zero ≡ through j zero reports
+    unfolding pointOutcome
+    pointOutcome-first h = rw (le-ltb zero start h)
 
-    pub fate-next : (k : ℕ) → start ≤ suc k → fate j start reports (suc k) ≡ after j (suc k) (fate j start reports k)
-    unfolding fate
-    fate-next k h = rw (le-ltb (suc k) start h)
+    pub pointOutcome-next : (k : ℕ) → start ≤ suc k → pointOutcome j start reports (suc k) ≡ after j (suc k) (pointOutcome j start reports k)
+    unfolding pointOutcome
+    pointOutcome-next k h = rw (le-ltb (suc k) start h)
 
     abbrev end : Progress
     end = run j (progress start false) reports
@@ -173,22 +173,22 @@ module _ (j : Route) where
     from-load : (k : ℕ) → start ≡ k → k < pointCount j → Told end k (through j k reports)
     from-load k e h = rw e (through-told k h reports)
 
-    told : (k : ℕ) → start ≤ k → k < pointCount j → Told end k (fate j start reports k)
-    told zero s h = told-is zero refl (fate-first s) (from-load zero (omega arith) h)
+    told : (k : ℕ) → start ≤ k → k < pointCount j → Told end k (pointOutcome j start reports k)
+    told zero s h = told-is zero refl (pointOutcome-first s) (from-load zero (omega arith) h)
     told (suc k) s h = go (eq-or-lt-of-le s) (λ q. told k q (omega arith))
       where
-        go : (start ≡ suc k) ⊎ (start < suc k) → (start ≤ k → Told end k (fate j start reports k)) → Told end (suc k) (fate j start reports (suc k))
-        go (inl e) f = told-is (suc k) refl (fate-next k s ∙ ap (after j (suc k)) (fate-behind k (omega arith))) (from-load (suc k) e h)
-        go (inr l) f = told-is (suc k) refl (fate-next k s) (told-next end k h (fate j start reports k) (f (omega arith)))
+        go : (start ≡ suc k) ⊎ (start < suc k) → (start ≤ k → Told end k (pointOutcome j start reports k)) → Told end (suc k) (pointOutcome j start reports (suc k))
+        go (inl e) f = told-is (suc k) refl (pointOutcome-next k s ∙ ap (after j (suc k)) (pointOutcome-behind k (omega arith))) (from-load (suc k) e h)
+        go (inr l) f = told-is (suc k) refl (pointOutcome-next k s) (told-next end k h (pointOutcome j start reports k) (f (omega arith)))
 
     -- every point stands where the history rule puts it
     pub as-rule : start ≤ pointCount j → (k : ℕ) → k < pointCount j → standing end k ≡ standingBy j start reports k
     unfolding standingBy
     as-rule within k h = go _ refl
       where
-        go : (b : Bool) → ltb k start ≡ b → standing end k ≡ shown (fate j start reports k)
-        go true e = standing-passed end k (omega (arith, ltb-true k start e, run-up j reports (progress start false) (started j start within))) ∙ sym (ap shown (fate-behind k (ltb-true _ _ e)))
-        go false e = stood end k h (fate j start reports k) (told k (ltb-false _ _ e) h)
+        go : (b : Bool) → ltb k start ≡ b → standing end k ≡ standingFor (pointOutcome j start reports k)
+        go true e = standing-passed end k (omega (arith, ltb-true k start e, run-up j reports (progress start false) (started j start within))) ∙ sym (ap standingFor (pointOutcome-behind k (ltb-true _ _ e)))
+        go false e = stood end k h (pointOutcome j start reports k) (told k (ltb-false _ _ e) h)
 
 -- ---- "A point became reached at a report if the history rule has it so after, not before, that report."
 module _ (j : Route) (r : Report) (p : Progress) (h : InRange j p) where

@@ -11,38 +11,38 @@ use Rattle.timing.specs.declared.Standing.{Standing}
 use Rattle.timing.specs.declared.Standing.the-variants.{Unused, Targeted, Reached, Passed}
 
 -- what came of a point: passed, with the reports from its passing moment on; reached; not settled; or the point before has no passing moment
-pub data Fate : Type 0 where
-  passes : List Report → Fate
-  reaches waits unlooked : Fate
+pub data PointOutcome : Type 0 where
+  passes : List Report → PointOutcome
+  reaches notSettled notLookedAt : PointOutcome
 
 -- "departs, thus passes, at the first later position report with speed above 0"
-unfoldable pub departing : List Report → Fate
+unfoldable pub departing : List Report → PointOutcome
 departing [] = reaches
 departing (r ∷ rs) = if moving r then passes (r ∷ rs) else departing rs
 
 -- "The first of them with .. settles it. With d > margin the point passes there; otherwise it is reached there"
-unfoldable pub through : Route → ℕ → List Report → Fate
-through j k [] = waits
+unfoldable pub through : Route → ℕ → List Report → PointOutcome
+through j k [] = notSettled
 through j k (r ∷ rs) =
     if settles j r k then (if beyond j r k then passes (r ∷ rs) else departing rs) else through j k rs
 
 -- "go through the accepted position reports from the passing moment of the point before"
-abbrev pub after : Route → ℕ → Fate → Fate
+abbrev pub after : Route → ℕ → PointOutcome → PointOutcome
 after j k (passes rs) = through j k rs
-after j k reaches = unlooked
-after j k waits = unlooked
-after j k unlooked = unlooked
+after j k reaches = notLookedAt
+after j k notSettled = notLookedAt
+after j k notLookedAt = notLookedAt
 
 -- "Where the load put it behind, that is the load."
-unfoldable pub fate : Route → ℕ → List Report → ℕ → Fate
-fate j start reports zero = if ltb zero start then passes reports else through j zero reports
-fate j start reports (suc k) = if ltb (suc k) start then passes reports else after j (suc k) (fate j start reports k)
+unfoldable pub pointOutcome : Route → ℕ → List Report → ℕ → PointOutcome
+pointOutcome j start reports zero = if ltb zero start then passes reports else through j zero reports
+pointOutcome j start reports (suc k) = if ltb (suc k) start then passes reports else after j (suc k) (pointOutcome j start reports k)
 
-abbrev pub shown : Fate → Standing
-shown (passes rs) = Passed
-shown reaches = Reached
-shown waits = Targeted
-shown unlooked = Unused
+abbrev pub standingFor : PointOutcome → Standing
+standingFor (passes rs) = Passed
+standingFor reaches = Reached
+standingFor notSettled = Targeted
+standingFor notLookedAt = Unused
 
 unfoldable pub standingBy : Route → ℕ → List Report → ℕ → Standing
-standingBy j start reports k = shown (fate j start reports k)
+standingBy j start reports k = standingFor (pointOutcome j start reports k)

@@ -56,7 +56,7 @@ same-length : tie.Need-same-length
 same-length c = search needs
 
 returns-2 : tie.Need-returns-2
-returns-2 c = 
+returns-2 c =
     let w = c .before .before .before in
     let i = w .before .before in
     let s = i .before in

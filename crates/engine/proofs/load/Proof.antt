@@ -4,7 +4,7 @@ use mathlib.Core.Path.{ap, _∙_}
 use Rattle.data.specs.Engine.{routeIn, progress, withProgress}
 use Rattle.data.specs.declared.Engine.{Engine}
 use Rattle.timing.specs.Load.{target}
-use Rattle.engine.specs.Seen.{effectSeen, refusedEffect}
+use Rattle.engine.specs.Seen.{effectSeen, plainEffect}
 use Rattle.engine.specs.Laws.{seen-number, load-number, load-taken}
 use borrow.Author.Needs.{needs}
 use Rattle.engine.proofs.load.Statement.{statement}
@@ -13,16 +13,16 @@ use Rattle.engine.proofs.load.Tie as tie
 load-route-requires : tie.Need-load-route-requires
 load-route-requires c κs = search needs
 
-no-effect-requires : tie.Need-no-effect-requires
-no-effect-requires c κs = search needs
+plain-requires : tie.Need-plain-requires
+plain-requires c κs = search needs
 
 returns : tie.Need-returns
-returns c = 
+returns c =
     let l = c .before .before .before in
     let a = l .before .before .before .args in
     let h = c .before .if1 .taken in
-    ap effectSeen (c .no-effect .ensures)
-    ∙ seen-number (refusedEffect (a .e) (l .load-route .result .number)) h
+    ap effectSeen (c .plain .ensures)
+    ∙ seen-number (plainEffect (a .e) (l .load-route .result .number)) h
     ∙ load-number (a .e) (now (a .journey)) (now (a .book)) (l .load-route .result) (l .load-route .ensures .seen) h
 
 with-route-requires : tie.Need-with-route-requires
@@ -35,7 +35,7 @@ no-changes-requires : tie.Need-no-changes-requires
 no-changes-requires c κs = search needs
 
 returns-2 : tie.Need-returns-2
-returns-2 c = 
+returns-2 c =
     let t = c .before .before in
     let r = t .before in
     let l = r .before .before .before in
@@ -49,7 +49,7 @@ load-spec =
     tie.close
     (tie.spec
     load-route-requires
-    no-effect-requires
+    plain-requires
     returns
     with-route-requires
     with-target-requires

@@ -17,11 +17,11 @@ with-position-requires c κs = search needs
 offset-beyond-requires : tie.Need-offset-beyond-requires
 offset-beyond-requires c κs = search needs
 
-no-effect-requires : tie.Need-no-effect-requires
-no-effect-requires c κs = search needs
+plain-requires : tie.Need-plain-requires
+plain-requires c κs = search needs
 
 returns : tie.Need-returns
-returns c = ap effectSeen (c .no-effect .ensures) ∙ sym (position-13 _ _ (sym (tested (c .before .before)) ∙ c .before .if1 .taken))
+returns c = ap effectSeen (c .plain .ensures) ∙ sym (position-13 _ _ (sym (tested (c .before .before)) ∙ c .before .if1 .taken))
 
 report-requires : tie.Need-report-requires
 report-requires c κs = search needs
@@ -33,7 +33,7 @@ changes-of-requires : tie.Need-changes-of-requires
 changes-of-requires c κs = search needs
 
 returns-2 : tie.Need-returns-2
-returns-2 c = 
+returns-2 c =
     let s = c .before in
     let r = s .before .before in
     let t = r .before .before in
@@ -45,7 +45,7 @@ position-spec =
     (tie.spec
     with-position-requires
     offset-beyond-requires
-    no-effect-requires
+    plain-requires
     returns
     report-requires
     no-head-requires

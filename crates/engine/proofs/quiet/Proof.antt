@@ -5,11 +5,11 @@ use borrow.Author.Needs.{needs}
 use Rattle.engine.proofs.quiet.Statement.{statement}
 use Rattle.engine.proofs.quiet.Tie as tie
 
-no-effect-requires : tie.Need-no-effect-requires
-no-effect-requires c κs = search needs
+plain-requires : tie.Need-plain-requires
+plain-requires c κs = search needs
 
 returns : tie.Need-returns
-returns c = ap effectSeen (c .no-effect .ensures) ∙ seen-quiet _
+returns c = ap effectSeen (c .plain .ensures) ∙ seen-quiet _
 
 pub quiet-spec : {M : Type 1} → statement M
-quiet-spec = tie.close (tie.spec no-effect-requires returns)
+quiet-spec = tie.close (tie.spec plain-requires returns)

@@ -15,12 +15,12 @@ enum-known-k c = search needs
 enum-told : tie.Need-enum-told
 enum-told c = search needs
 
-no-effect-requires : tie.Need-no-effect-requires
-no-effect-requires c κs = search needs
+plain-requires : tie.Need-plain-requires
+plain-requires c κs = search needs
 
 returns : tie.Need-returns
 unfolding skipEffect
-returns c = let s = c .before .before .before in ap effectSeen (c .no-effect .ensures) ∙ sym (ap (skipEffect _ _) (sym (s .find-stop .ensures .0) ∙ c .before .enum-told .given .1))
+returns c = let s = c .before .before .before in ap effectSeen (c .plain .ensures) ∙ sym (ap (skipEffect _ _) (sym (s .find-stop .ensures .0) ∙ c .before .enum-told .given .1))
 
 skip-at-requires : tie.Need-skip-at-requires
 skip-at-requires c κs = subst (IndexBelow 64) (c .before .k .given .1) (c .before .before .before .find-stop .ensures .1)
@@ -35,7 +35,7 @@ skip-spec =
     find-stop-requires
     enum-known-k
     enum-told
-    no-effect-requires
+    plain-requires
     returns
     skip-at-requires
     returns-2)

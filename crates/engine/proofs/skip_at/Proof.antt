@@ -12,11 +12,11 @@ cast-index c = search needs
 is-behind-requires : tie.Need-is-behind-requires
 is-behind-requires c κs = search needs
 
-no-effect-requires : tie.Need-no-effect-requires
-no-effect-requires c κs = search needs
+plain-requires : tie.Need-plain-requires
+plain-requires c κs = search needs
 
 returns : tie.Need-returns
-returns c = let b = c .before .before in ap effectSeen (c .no-effect .ensures) ∙ sym (skip-behind _ _ _ (sym (b .is-behind .ensures) ∙ c .before .if1 .taken))
+returns c = let b = c .before .before in ap effectSeen (c .plain .ensures) ∙ sym (skip-behind _ _ _ (sym (b .is-behind .ensures) ∙ c .before .if1 .taken))
 
 element-copy-out-given : tie.Need-element-copy-out-given
 element-copy-out-given c = search needs
@@ -24,14 +24,14 @@ element-copy-out-given c = search needs
 same-requires : tie.Need-same-requires
 same-requires c κs = search needs
 
-no-effect-requires-2 : tie.Need-no-effect-requires-2
-no-effect-requires-2 c κs = search needs
+plain-requires-2 : tie.Need-plain-requires-2
+plain-requires-2 c κs = search needs
 
 returns-2 : tie.Need-returns-2
-returns-2 c = 
+returns-2 c =
     let s = c .before .before in
     let i = s .before .before in
-    ap effectSeen (c .no-effect2 .ensures) ∙ sym (skip-same _ _ _ (sym (i .before .is-behind .ensures) ∙ i .if1 .left) (sym (s .same .ensures) ∙ c .before .if2 .taken))
+    ap effectSeen (c .plain2 .ensures) ∙ sym (skip-same _ _ _ (sym (i .before .is-behind .ensures) ∙ i .if1 .left) (sym (s .same .ensures) ∙ c .before .if2 .taken))
 
 with-skip-requires : tie.Need-with-skip-requires
 with-skip-requires c κs = search needs
@@ -46,7 +46,7 @@ one-change-requires : tie.Need-one-change-requires
 one-change-requires c κs = search needs
 
 returns-3 : tie.Need-returns-3
-returns-3 c = 
+returns-3 c =
     let t = c .before .before in
     let w = t .before .before in
     let s = w .before .before in
@@ -61,11 +61,11 @@ skip-at-spec =
     (tie.spec
     cast-index
     is-behind-requires
-    no-effect-requires
+    plain-requires
     returns
     element-copy-out-given
     same-requires
-    no-effect-requires-2
+    plain-requires-2
     returns-2
     with-skip-requires
     no-head-requires

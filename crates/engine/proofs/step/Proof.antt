@@ -28,7 +28,7 @@ same-length c = search needs
 
 returns : tie.Need-returns
 unfolding stepOf
-returns c = 
+returns c =
     let t = c .before .before in
     let v = t .before .before .before in
     let r = v .before .before in
@@ -37,7 +37,7 @@ returns c =
 
 returns-2 : tie.Need-returns-2
 unfolding stepOf
-returns-2 c = 
+returns-2 c =
     let n = c .before .before in
     let r = n .before .before in
     let a = r .before .before .before .before .before .args in

@@ -24,7 +24,7 @@ refused-requires : tie.Need-refused-requires
 refused-requires c κs = search needs
 
 returns : tie.Need-returns
-returns c = 
+returns c =
     let p = c .before .before in
     let a = p .before .before .before .before .before .before .args in
     steps-refused (a .e) (now (a .out)) _ _ _ (rows-number (a .e) (a .v) (now (a .journey)) (now (a .book)) (now (a .out)) _ (numbered p) (c .before .if1 .taken)) (c .refused .ensures)
@@ -36,7 +36,7 @@ refused-requires-2 : tie.Need-refused-requires-2
 refused-requires-2 c κs = search needs
 
 returns-2 : tie.Need-returns-2
-returns-2 c = 
+returns-2 c =
     let f = c .before .before .before in
     let p = f .before .before in
     let a = p .before .before .before .before .before .before .args in
@@ -51,7 +51,7 @@ same-length : tie.Need-same-length
 same-length c = search needs
 
 returns-3 : tie.Need-returns-3
-returns-3 c = 
+returns-3 c =
     let o = c .before .before in
     let i = o .before .before in
     let f = i .before .before in

@@ -14,7 +14,7 @@ use Rattle.recording.proofs.put_passings.Statement.{statement}
 use Rattle.recording.proofs.put_passings.Tie as tie
 
 abbrev Inv-loop : tie.InvT-loop
-Inv-loop e from to out₀ at k₀ p₀ out k p = 
+Inv-loop e from to out₀ at k₀ p₀ out k p =
     (sets out p (joined (packets62 e (passings (to - k) k))) ≡ sets out₀ at (joined (packets62 e (passings (to - from) from))))
     × ((p + 25 * (to - k) ≡ at + 25 * (to - from)) × (length out ≡ length out₀))
 

@@ -1,6 +1,6 @@
 use borrow.Author.Needs.{needs}
-use Rattle.engine.proofs.no_effect.Statement.{statement}
-use Rattle.engine.proofs.no_effect.Tie as tie
+use Rattle.engine.proofs.plain.Statement.{statement}
+use Rattle.engine.proofs.plain.Tie as tie
 
 no-head-requires : tie.Need-no-head-requires
 no-head-requires c κs = search needs
@@ -11,5 +11,5 @@ no-changes-requires c κs = search needs
 returns : tie.Need-returns
 returns c = rw (c .before .no-head .ensures, c .no-changes .ensures)
 
-pub no-effect-spec : {M : Type 1} → statement M
-no-effect-spec = tie.close (tie.spec no-head-requires no-changes-requires returns)
+pub plain-spec : {M : Type 1} → statement M
+plain-spec = tie.close (tie.spec no-head-requires no-changes-requires returns)

@@ -1,0 +1,2 @@
+-- A call's answer as one plain struct.
+pub mod Plain

@@ -1,0 +1,19 @@
+use borrow.Author.Needs.{needs}
+use Rattle.player.proofs.calls.is_load.Statement.{statement}
+use Rattle.player.proofs.calls.is_load.Tie as tie
+use Rattle.player.proofs.calls.is_load.Reads as reads
+use Rattle.player.proofs.calls.is_load.Lts as lts
+use Rattle.player.proofs.parts.bytes_of.Reads as bytes-of-reads
+use Rattle.wire.proofs.be8.Reads as be8-reads
+
+bytes-of-requires : tie.Need-bytes-of-requires
+bytes-of-requires c κs = search needs
+
+be8-requires : tie.Need-be8-requires
+be8-requires c κs = search needs
+
+returns : tie.Need-returns
+returns c = rw (c .be8 .ensures, c .before .bytes-of .ensures)
+
+pub is-load-spec : {M : Type 1} → statement M
+is-load-spec = tie.close (tie.spec bytes-of-requires be8-requires returns)

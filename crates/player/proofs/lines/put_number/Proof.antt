@@ -1,0 +1,23 @@
+use Rattle.player.specs.Laws.{put-then}
+use borrow.Author.Needs.{needs}
+use Rattle.player.proofs.lines.put_number.Statement.{statement}
+use Rattle.player.proofs.lines.put_number.Tie as tie
+use Rattle.player.proofs.lines.put_number.Reads as reads
+use Rattle.player.proofs.lines.put_number.Lts as lts
+use Rattle.player.proofs.lines.put.Reads as put-reads
+use Rattle.player.proofs.lines.put_decimal.Reads as put-decimal-reads
+
+put-requires : tie.Need-put-requires
+put-requires c κs = search needs
+
+put-decimal-requires : tie.Need-put-decimal-requires
+put-decimal-requires c κs = search needs
+
+same-length : tie.Need-same-length
+same-length c = search needs
+
+returns : tie.Need-returns
+returns c = put-then _ _ (c .before .before .before .before .before .before .put .ensures) (c .before .before .put-decimal .ensures)
+
+pub put-number-spec : {M : Type 1} → statement M
+put-number-spec = tie.close (tie.spec put-requires put-decimal-requires same-length returns)

@@ -1,0 +1,80 @@
+use Prim.Native.Nat.{_-_, _<_}
+use mathlib.Core.Path.{_≡_, sym, ap, _∙_}
+use denote.Ref.{now}
+use lib.ListN.{length, drop, length-drop}
+use native.Mathlib.Omega.{arith}
+use Rattle.player.specs.Calls.{callSeen}
+use Rattle.player.specs.Laws.{call-shorter}
+use borrow.Author.Needs.{needs}
+use Rattle.player.proofs.play_whole.Statement.{statement}
+use Rattle.player.proofs.play_whole.Tie as tie
+use Rattle.player.proofs.play_whole.Reads as reads
+use Rattle.player.proofs.play_whole.Lts as lts
+use Rattle.player.proofs.calls.call_at.Reads as call-at-reads
+use Rattle.player.proofs.flush.Reads as flush-reads
+use Rattle.player.proofs.play.Reads as play-reads
+use Rattle.player.proofs.with_room.Reads as with-room-reads
+
+abbrev Inv-loop : tie.InvT-loop
+Inv-loop s memory₀ text₀ after₀ at₀ used₀ memory text after at used = (length memory ≡ length memory₀) × (length text ≡ length text₀)
+
+abbrev μ-loop : tie.MeasureT-loop
+μ-loop s memory₀ text₀ after₀ at₀ used₀ memory text after at used = length s - at
+
+loop-holds : tie.Need-loop-holds Inv-loop μ-loop
+loop-holds c = search needs
+
+call-at-requires : tie.Need-call-at-requires Inv-loop μ-loop
+call-at-requires c κs = search needs
+
+enum-known-c : tie.Need-enum-known-c Inv-loop μ-loop
+enum-known-c c = search needs
+
+enum-told : tie.Need-enum-told Inv-loop μ-loop
+enum-told c = search needs
+
+with-room-requires : tie.Need-with-room-requires Inv-loop μ-loop
+with-room-requires c κs = search needs
+
+play-requires : tie.Need-play-requires Inv-loop μ-loop
+play-requires c κs = search needs
+
+loop-less : tie.Need-loop-less Inv-loop μ-loop
+loop-less c =
+    let s = now (c .before .before .before .before .before .before .before .before .before .before .before .before .before .before .before .before .before .before .before .args .s) in
+    let h = call-shorter (drop (c .before .before .before .before .before .before .before .before .before .before .before .before .before .before .before .loop .at) s) _ _ (sym (c .before .before .before .before .before .before .before .before .before .before .before .before .before .call-at .ensures) ∙ ap (callSeen s) (c .before .before .before .before .before .before .before .before .before .before .before .c .given .1)) in
+    simp length-drop at h
+
+loop-again : tie.Need-loop-again Inv-loop μ-loop
+loop-again c = search needs
+
+flush-requires : tie.Need-flush-requires Inv-loop μ-loop
+flush-requires c κs = search needs
+
+same-length : tie.Need-same-length Inv-loop μ-loop
+same-length c = c .before .before .before .loop .inv .0
+
+same-length-2 : tie.Need-same-length-2 Inv-loop μ-loop
+same-length-2 c = c .before .before .before .loop .inv .1
+
+returns : tie.Need-returns Inv-loop μ-loop
+returns c = search needs
+
+pub play-whole-spec : {M : Type 1} → statement M
+play-whole-spec =
+    tie.close
+    (tie.spec
+    Inv-loop
+    μ-loop
+    loop-holds
+    call-at-requires
+    enum-known-c
+    enum-told
+    with-room-requires
+    play-requires
+    loop-less
+    loop-again
+    flush-requires
+    same-length
+    same-length-2
+    returns)

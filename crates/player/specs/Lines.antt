@@ -1,0 +1,78 @@
+-- "Each event gives a line: R and the number, or A, state, request, bytes (decimal), then a line of uppercase hexadecimal a packet."
+use Prim.Native.Nat.{ℕ, zero, suc, _+_, _/_, _%_, min, max}
+use mathlib.Core.Path.{_≡_}
+use mathlib.Core.List.{List, [], _∷_, _++_}
+use mathlib.Core.Bool.{Bool, true, false, cond}
+use lib.ListN.{length, take, drop}
+use lib.Seq.{sets}
+use lib.Dec.{eqb, ltb}
+use Rattle.wire.specs.Numbers.{flag, if_then_else_}
+use Rattle.model.specs.declared.Answer.{Answer}
+use Rattle.model.specs.declared.Answer.the-variants.{Accepted, Refused}
+
+-- ---- numbers as text, in ASCII
+
+abbrev pub space : List ℕ
+space = 32 ∷ []
+
+abbrev pub newline : List ℕ
+newline = 10 ∷ []
+
+-- the last digit of n, in uppercase hexadecimal
+abbrev pub digit : ℕ → ℕ
+digit n = if ltb (n % 16) 10 then 48 + n % 16 else 55 + n % 16
+
+abbrev pub hexByte : ℕ → List ℕ
+hexByte b = digit (b / 16) ∷ digit b ∷ []
+
+unfoldable pub hex : List ℕ → List ℕ
+hex [] = []
+hex (b ∷ l) = hexByte b ++ hex l
+
+-- the last k digits of n in decimal, with no zeros in front
+unfoldable pub decimal : ℕ → ℕ → List ℕ
+decimal zero n = []
+decimal (suc k) n = (if ltb n 10 then [] else decimal k (n / 10)) ++ ((48 + n % 10) ∷ [])
+
+-- 64 bits make 20 digits at most
+abbrev pub numbered : ℕ → List ℕ
+numbered n = space ++ decimal 20 n
+
+-- ---- lines
+
+abbrev pub hexLine : List ℕ → List ℕ
+hexLine l = hex l ++ newline
+
+-- the bytes of a packet with this number; with any other number, all that is left
+abbrev pub packetSize : ℕ → ℕ → ℕ
+packetSize number left =
+    if eqb number 62 then 25 else
+    if eqb number 65 then 29 else
+    if eqb number 68 then 19 else left
+
+-- a line a packet, for k packets at most
+unfoldable pub packetLines : ℕ → List ℕ → List ℕ
+packetLines zero l = []
+packetLines (suc k) [] = []
+packetLines (suc k) (b ∷ l) =
+    let n = packetSize b (length (b ∷ l)) in
+    hexLine (take n (b ∷ l)) ++ packetLines k (drop n (b ∷ l))
+
+abbrev pub packetText : List ℕ → List ℕ
+packetText l = packetLines (length l) l
+
+abbrev pub refusedLine : ℕ → List ℕ
+refusedLine n = (82 ∷ []) ++ (numbered n ++ newline)
+
+abbrev pub acceptedLine : ℕ → Bool → ℕ → List ℕ
+acceptedLine state request bytes = (65 ∷ []) ++ (numbered state ++ (numbered (flag request) ++ (numbered bytes ++ newline)))
+
+-- the lines of an event: its answer, and the packets in the output memory m
+unfoldable pub lines : Answer → List ℕ → List ℕ
+lines (Refused n) m = refusedLine n
+lines (Accepted state request bytes) m = acceptedLine state request bytes ++ packetText (take bytes m)
+
+-- ---- a text that grows: l was stored at a position, as far as there is room, and the position behind it is next
+pub record Put (before : List ℕ) (at : ℕ) (l after : List ℕ) (next : ℕ) : Type 0 where
+  pub stored : after ≡ sets before at l
+  pub behind : next ≡ min (at + length l) (max at (length before))

@@ -1,0 +1,104 @@
+// The player: reads events from standard input, hands each to the engine, and writes the lines of its answer.
+mod calls;
+mod lines;
+mod parts;
+
+use calls::Call;
+use calls::Seen;
+use data::Engine;
+use parts::Part;
+
+struct Played {
+    engine: Engine,
+    at: usize,
+}
+
+// One event: the engine after it, and the position behind its lines in the text.
+fn play(e: Engine, s: &[u8], c: Call, memory: &mut [u8], text: &mut [u8], at: usize) -> Played {
+    let event = parts::bytes_of(s, c.event);
+    let journey = parts::bytes_of(s, c.journey);
+    let book = parts::bytes_of(s, c.book);
+    let r = engine::step(e, event, journey, book, memory);
+    let after = r.engine;
+    let answer = r.answer;
+    let next = lines::put_answer(text, at, answer, memory);
+    Played {
+        engine: after,
+        at: next,
+    }
+}
+
+// The text so far is written out.
+fn flush(text: &[u8], used: usize) {
+    io::write_all(libc::STDOUT_FILENO, parts::front(text, used));
+}
+
+// The lines of one event fit into what is left, or else the text is written out first.
+fn with_room(text: &[u8], used: usize) -> usize {
+    if used < text.len() {
+        if 16384 <= text.len() - used {
+            return used;
+        }
+    }
+    flush(text, used);
+    0
+}
+
+// Plays the whole events in s: the engine after them, and the position behind them.
+fn play_whole(e: Engine, s: &[u8], memory: &mut [u8], text: &mut [u8]) -> Played {
+    let mut after = e;
+    let mut at = 0;
+    let mut used = 0;
+    while at < s.len() {
+        let Seen::Whole(c) = calls::call_at(s, at) else {
+            break;
+        };
+        let room = with_room(text, used);
+        let p = play(after, s, c, memory, text, room);
+        after = p.engine;
+        used = p.at;
+        at = c.next;
+    }
+    flush(text, used);
+    Played {
+        engine: after,
+        at: at,
+    }
+}
+
+// Reads on behind the bytes that are kept, and answers how many there are then.
+fn read_more(input: &mut [u8], kept: usize) -> usize {
+    if input.len() < kept {
+        return kept;
+    }
+    let rest = &mut input[kept..];
+    let got = libc::read(libc::STDIN_FILENO, rest);
+    kept + io::count(got, rest)
+}
+
+fn run(input: &mut [u8], memory: &mut [u8], text: &mut [u8]) {
+    let mut e = data::fresh();
+    let mut kept = 0;
+    let mut turns = u64::MAX;
+    while turns > 0 {
+        let end = read_more(input, kept);
+        if end <= kept {
+            return;
+        }
+        let p = play_whole(e, parts::front(input, end), memory, text);
+        e = p.engine;
+        let rest = Part {
+            start: p.at,
+            end: end,
+        };
+        kept = parts::to_front(input, rest);
+        turns -= 1;
+    }
+}
+
+fn main() {
+    let mut input = [0u8; 262144];
+    let mut memory = [0u8; 4096];
+    let mut text = [0u8; 65536];
+    run(&mut input, &mut memory, &mut text);
+}

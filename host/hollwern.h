@@ -1,0 +1,103 @@
+/* The on-board ATO core for a host in C or C++ (Ada and Rust: the same names and layouts). Link target/staticlib/libhost.a, which
+ * `rt staticlib host` writes. Each promise below is proved: crates/host/src/lib.rt has it as a contract.
+ *
+ * The host keeps to this, and to nothing else:
+ * - every pointer is valid, aligned and not null, also where its count is 0; behind it stand as many bytes as the count says, set to some value;
+ * - during a call the engine, `out` and the lent event, journey and book are touched by nobody else, and neither engine nor `out` overlaps any of them;
+ * - an engine's memory is all zero before hollwern_fresh, and from then on is changed by these calls alone.
+ * Everything else is refused by number: any bytes, of any length, may be lent as event, journey and book.
+ * There is no hidden state: a host may keep several engines, copy them, and use each from its own thread. Beside memcpy nothing is linked in.
+ * A call took up to 84 KB of stack (measured, not proved): provide 128. */
+#ifndef HOLLWERN_H
+#define HOLLWERN_H
+#include <assert.h>
+#include <stdbool.h>
+#include <stddef.h>
+#include <stdint.h>
+#ifdef __cplusplus
+extern "C" {
+#endif
+
+/* Layouts as in crates/data/src/lib.rt; a host need not look inside. */
+typedef struct { uint32_t start, end; } Zone;
+typedef struct {
+    uint16_t nidc;
+    uint32_t nidsp;
+    bool booked, placed;
+    uint32_t start, length;
+    uint8_t zonecount;
+    Zone zones[4];
+} Segment;
+typedef struct {
+    uint32_t nidtp;
+    uint16_t nidc;
+    uint8_t alignment, stopping;
+    bool stop, trackside, placed;
+    uint32_t place;
+    uint16_t reach;
+} Point;
+typedef struct {
+    bool valid;
+    uint32_t operational;
+    uint8_t ending, pointcount, segmentcount;
+} Load;
+typedef struct { uint8_t next; bool reached; } Progress;
+typedef struct {
+    uint16_t nidc;
+    uint32_t nidsp, offset;
+    uint16_t speed;
+} Position;
+typedef struct { Position position; uint32_t length; } Train;
+typedef struct { uint8_t state, mode, lever, reports; bool press, request; } Control;
+typedef struct {
+    Point points[64];
+    bool skips[64];
+    Segment segments[40];
+    Load load;
+    Progress progress;
+    Train train;
+    Control control;
+} Engine;
+
+/* Where accepted: number 0, and state, request and bytes written. Where refused: the number of document 01's table, all else 0. */
+typedef struct {
+    bool accepted;
+    uint8_t number, state;
+    bool request;
+    size_t bytes;
+} Answer;
+
+static_assert(sizeof(bool) == 1 && sizeof(size_t) == 8, "x86-64");
+static_assert(sizeof(Segment) == 56 && sizeof(Point) == 20 && sizeof(Load) == 12 && sizeof(Train) == 20, "layout");
+static_assert(offsetof(Engine, load) == 3584 && offsetof(Engine, control) == 3620 && sizeof(Engine) == 3628, "layout");
+static_assert(offsetof(Answer, request) == 3 && offsetof(Answer, bytes) == 8 && sizeof(Answer) == 16, "layout");
+
+/* Makes the engine fresh, whatever it was: NP, no journey, no press, no request.
+ * To be called once before the first event; power off does the same. */
+void hollwern_fresh(Engine *e);
+
+/* Takes one event. Accepted: the engine moves on, the packets stand at the front of `out`, `bytes` long, and the bytes behind are kept.
+ * Refused: engine and `out` stay as they were. No event writes more than 4,096 bytes. */
+Answer hollwern_step(Engine *e, const uint8_t *event, size_t event_n, const uint8_t *journey, size_t journey_n,
+                     const uint8_t *book, size_t book_n, uint8_t *out, size_t out_n);
+
+/* The state: 0 NP, 1 CO, 2 NA, 3 AV, 4 RE, 5 EG, 6 DE, 7 FA.
+ * It is the one that the last accepted event answered. */
+uint8_t hollwern_state(const Engine *e);
+
+/* Whether AD is requested.
+ * It is what the last accepted event answered. */
+bool hollwern_request(const Engine *e);
+
+/* The nine conditions, condition 0 the least significant bit; 511 where all nine stand.
+ * Packet 68 carries 16 times this number plus the state. */
+uint16_t hollwern_conditions(const Engine *e);
+
+/* Where point k of the journey in force stands, counted from 0: 0 not used, 1 targeted, 2 reached, 3 passed.
+ * 0 too where the journey has no such point. */
+uint8_t hollwern_standing(const Engine *e, uint8_t k);
+
+#ifdef __cplusplus
+}
+#endif
+#endif
