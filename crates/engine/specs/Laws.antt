@@ -52,7 +52,7 @@ pub seen-quiet : (m : Engine) → effectSeen (plainEffect m 0) ≡ accept (quiet
 unfolding passings
 seen-quiet m = refl
 
--- what an effect that is not 0 says
+-- an effect with a number other than 0 is a refusal
 pub seen-number : (f : Effect) → (f .number ≡ 0 → ⊥) → effectSeen f ≡ refuse (f .number)
 seen-number f h = rw (ne-eqb (f .number) 0 h)
 

@@ -9,6 +9,7 @@ use Rattle.wire.specs.Parse.{Parse, Reader, andThen, field, give, _>>=_, _>>_}
 use Rattle.wire.specs.Parse.Parse.{bad, good}
 use Rattle.player.specs.Parts.{partOf}
 use Rattle.player.specs.declared.calls.Block.{Block}
+use Rattle.player.specs.declared.calls.Call.{Call}
 use Rattle.player.specs.declared.calls.Seen.{Seen}
 
 -- an event with its profiles
@@ -45,7 +46,9 @@ abbrev pub blockSeen : List ℕ → Block → Parse (List ℕ)
 blockSeen s (Block.Whole p) = good (partOf s p) (drop (p .end) s)
 blockSeen s Block.Short = bad
 
+abbrev pub givenIn : List ℕ → Call → Given
+givenIn s c = record { event = partOf s (c .event); journey = partOf s (c .journey); book = partOf s (c .book) }
+
 abbrev pub callSeen : List ℕ → Seen → Parse Given
-callSeen s (Seen.Whole c) =
-    good (record { event = partOf s (c .event); journey = partOf s (c .journey); book = partOf s (c .book) }) (drop (c .next) s)
+callSeen s (Seen.Whole c) = good (givenIn s c) (drop (c .next) s)
 callSeen s Seen.Short = bad

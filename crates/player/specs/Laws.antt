@@ -17,6 +17,9 @@ use Rattle.wire.specs.Parse.{field}
 use Rattle.wire.specs.Parse.Parse.{bad, good}
 use Rattle.wire.specs.ParseLaws.{field-short, field-good, field-inv, then-inv, cond-good}
 use Rattle.player.specs.Calls.{Given, some, block, profiles, call}
+use Rattle.data.specs.declared.Engine.{Engine}
+use Rattle.model.specs.Call.{stepOf}
+use Rattle.player.specs.Played.{lent, left, run}
 use Rattle.player.specs.Lines.{Put, decimal, hex, hexByte, hexLine, packetSize, packetLines, packetText}
 
 -- ---- texts
@@ -236,3 +239,17 @@ module _ (s : List ℕ) (i : ℕ) where
   packets-more n e h =
       let z : n ≡ packetSize (getD (drop i s) 0 0) (length (drop i s)) = rw (getD-drop, add-zero, length-drop) e in
       rw (← drop-drop n i s, z) (first-packet (drop i s) (rw length-drop (omega arith)))
+
+-- ---- runs
+
+pub run-end : (k : ℕ) (e : Engine) (m l : List ℕ) → call l ≡ bad → left e m l ≡ run k e m l
+unfolding run
+run-end zero e m l h = refl
+run-end (suc k) e m l h = rw h
+
+-- after an event, one event fewer is left
+pub run-next : (k : ℕ) (e : Engine) (m l : List ℕ) (g : Given) (r : List ℕ) → call l ≡ good g r → length l ≤ k
+    → (j : ℕ) × (length r ≤ j) × (run j (stepOf e (lent g m) .engine) (stepOf e (lent g m) .memory) r ≡ run k e m l)
+unfolding run
+run-next zero e m l g r h f = absurd (omega (arith, call-shorter l g r h))
+run-next (suc k) e m l g r h f = (k, omega (arith, call-shorter l g r h), rw h)

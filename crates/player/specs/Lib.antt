@@ -2,4 +2,5 @@
 pub mod Parts
 pub mod Calls
 pub mod Lines
+pub mod Played
 pub mod Laws

@@ -7,8 +7,9 @@ use lib.ListN.{length, take, drop}
 use lib.Seq.{sets}
 use lib.Dec.{eqb, ltb}
 use Rattle.wire.specs.Numbers.{flag, if_then_else_}
-use Rattle.model.specs.declared.Answer.{Answer}
-use Rattle.model.specs.declared.Answer.the-variants.{Accepted, Refused}
+use Rattle.wire.specs.Judged.{Judged}
+use Rattle.wire.specs.Judged.Judged.{refuse, accept}
+use Rattle.model.specs.Call.{Accepted}
 
 -- ---- numbers as text, in ASCII
 
@@ -68,9 +69,9 @@ abbrev pub acceptedLine : ℕ → Bool → ℕ → List ℕ
 acceptedLine state request bytes = (65 ∷ []) ++ (numbered state ++ (numbered (flag request) ++ (numbered bytes ++ newline)))
 
 -- the lines of an event: its answer, and the packets in the output memory m
-unfoldable pub lines : Answer → List ℕ → List ℕ
-lines (Refused n) m = refusedLine n
-lines (Accepted state request bytes) m = acceptedLine state request bytes ++ packetText (take bytes m)
+unfoldable pub lines : Judged Accepted → List ℕ → List ℕ
+lines (refuse n) m = refusedLine n
+lines (accept a) m = acceptedLine (a .state) (a .request) (a .bytes) ++ packetText (take (a .bytes) m)
 
 -- ---- a text that grows: l was stored at a position, as far as there is room, and the position behind it is next
 pub record Put (before : List ℕ) (at : ℕ) (l after : List ℕ) (next : ℕ) : Type 0 where

@@ -2,6 +2,7 @@
 ghost use Prim.Native.Nat.{_+_, _%_};
 ghost use mathlib.Core.Path.{_≡_};
 ghost use mathlib.Core.List.{[], _∷_};
+ghost use Rattle.model.specs.Call.{answerOf};
 ghost use Rattle.player.specs.Lines.{hexByte, hexLine, packetSize, packetText, decimal, numbered, refusedLine, acceptedLine, Put};
 ghost use Rattle.player.specs.Lines.{digit as Lines·digit, lines as Lines·lines};
 use crate::parts::Part;
@@ -121,7 +122,7 @@ fn put_accepted(text: &mut [u8], at: usize, state: u8, request: bool, bytes: usi
 }
 
 pub fn put_answer(text: &mut [u8], at: usize, a: Answer, memory: &[u8]) -> usize
-    ensures { λ r. ⌜ Put (now (text .entry)) at (Lines·lines a (now (memory .entry))) (now (text .exit)) r ⌝ }
+    ensures { λ r. ⌜ Put (now (text .entry)) at (Lines·lines (answerOf a) (now (memory .entry))) (now (text .exit)) r ⌝ }
 {
     match a {
         Answer::Refused(n) => put_refused(text, at, n),

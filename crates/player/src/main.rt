@@ -3,6 +3,12 @@ mod calls;
 mod lines;
 mod parts;
 
+ghost use mathlib.Core.Path.{_≡_};
+ghost use lib.ListN.{length, drop};
+ghost use Rattle.model.specs.Call.{stepOf};
+ghost use Rattle.player.specs.Calls.{givenIn};
+ghost use Rattle.player.specs.Played.{lent, Plays, left};
+ghost use Rattle.player.specs.Played.{run as Played·run};
 use calls::Call;
 use calls::Seen;
 use data::Engine;
@@ -14,7 +20,9 @@ struct Played {
 }
 
 // One event: the engine after it, and the position behind its lines in the text.
-fn play(e: Engine, s: &[u8], c: Call, memory: &mut [u8], text: &mut [u8], at: usize) -> Played {
+fn play(e: Engine, s: &[u8], c: Call, memory: &mut [u8], text: &mut [u8], at: usize) -> Played
+    ensures { λ r. ⌜ Plays (stepOf e (lent (givenIn (now (s .entry)) c) (now (memory .entry)))) (now (text .entry)) at r (now (memory .exit)) (now (text .exit)) ⌝ }
+{
     let event = parts::bytes_of(s, c.event);
     let journey = parts::bytes_of(s, c.journey);
     let book = parts::bytes_of(s, c.book);
@@ -45,24 +53,25 @@ fn with_room(text: &[u8], used: usize) -> usize {
 }
 
 // Plays the whole events in s: the engine after them, and the position behind them.
-fn play_whole(e: Engine, s: &[u8], memory: &mut [u8], text: &mut [u8]) -> Played {
+fn play_whole(e: Engine, s: &[u8], memory: &mut [u8], text: &mut [u8]) -> Played
+    ensures { λ r. ⌜ left (r .engine) (now (memory .exit)) (drop (r .at) (now (s .entry))) ≡ Played·run (length (now (s .entry))) e (now (memory .entry)) (now (s .entry)) ⌝ }
+{
     let mut after = e;
     let mut at = 0;
     let mut used = 0;
-    while at < s.len() {
+    loop {
         let Seen::Whole(c) = calls::call_at(s, at) else {
-            break;
+            flush(text, used);
+            return Played {
+                engine: after,
+                at: at,
+            };
         };
         let room = with_room(text, used);
         let p = play(after, s, c, memory, text, room);
         after = p.engine;
         used = p.at;
         at = c.next;
-    }
-    flush(text, used);
-    Played {
-        engine: after,
-        at: at,
     }
 }
 

@@ -1,10 +1,11 @@
-use Prim.Native.Nat.{_-_, _<_}
-use mathlib.Core.Path.{_≡_, sym, ap, _∙_}
+use Prim.Native.Nat.{ℕ, _-_, _≤_}
+use mathlib.Core.Path.{_≡_, refl, sym, ap, _∙_}
 use denote.Ref.{now}
 use lib.ListN.{length, drop, length-drop}
 use native.Mathlib.Omega.{arith}
-use Rattle.player.specs.Calls.{callSeen}
-use Rattle.player.specs.Laws.{call-shorter}
+use Rattle.player.specs.Calls.{givenIn, callSeen}
+use Rattle.player.specs.Played.{run}
+use Rattle.player.specs.Laws.{put-length, call-shorter, run-end, run-next}
 use borrow.Author.Needs.{needs}
 use Rattle.player.proofs.play_whole.Statement.{statement}
 use Rattle.player.proofs.play_whole.Tie as tie
@@ -16,13 +17,15 @@ use Rattle.player.proofs.play.Reads as play-reads
 use Rattle.player.proofs.with_room.Reads as with-room-reads
 
 abbrev Inv-loop : tie.InvT-loop
-Inv-loop s memory₀ text₀ after₀ at₀ used₀ memory text after at used = (length memory ≡ length memory₀) × (length text ≡ length text₀)
+Inv-loop s memory₀ text₀ after₀ at₀ used₀ memory text after at used =
+    (length memory ≡ length memory₀) × (length text ≡ length text₀)
+    × (k : ℕ) × (length (drop at s) ≤ k) × (run k after memory (drop at s) ≡ run (length s) after₀ memory₀ s)
 
 abbrev μ-loop : tie.MeasureT-loop
 μ-loop s memory₀ text₀ after₀ at₀ used₀ memory text after at used = length s - at
 
 loop-holds : tie.Need-loop-holds Inv-loop μ-loop
-loop-holds c = search needs
+loop-holds c = (refl, refl, length (now (c .before .before .before .args .s)), omega arith, refl)
 
 call-at-requires : tie.Need-call-at-requires Inv-loop μ-loop
 call-at-requires c κs = search needs
@@ -33,6 +36,22 @@ enum-known-c c = search needs
 enum-told : tie.Need-enum-told Inv-loop μ-loop
 enum-told c = search needs
 
+flush-requires : tie.Need-flush-requires Inv-loop μ-loop
+flush-requires c κs = search needs
+
+same-length : tie.Need-same-length Inv-loop μ-loop
+same-length c = c .before .before .before .before .before .loop .inv .0
+
+same-length-2 : tie.Need-same-length-2 Inv-loop μ-loop
+same-length-2 c = c .before .before .before .before .before .loop .inv .1
+
+returns : tie.Need-returns Inv-loop μ-loop
+returns c =
+    let s = now (c .before .before .before .before .before .before .before .before .before .args .s) in
+    let (m, t, k, f, e) = c .before .before .before .before .before .loop .inv in
+    let h = sym (c .before .before .before .before .call-at .ensures) ∙ ap (callSeen s) (c .before .before .enum-told .given .1) in
+    run-end k _ _ _ h ∙ e
+
 with-room-requires : tie.Need-with-room-requires Inv-loop μ-loop
 with-room-requires c κs = search needs
 
@@ -41,24 +60,18 @@ play-requires c κs = search needs
 
 loop-less : tie.Need-loop-less Inv-loop μ-loop
 loop-less c =
-    let s = now (c .before .before .before .before .before .before .before .before .before .before .before .before .before .before .before .before .before .before .before .args .s) in
-    let h = call-shorter (drop (c .before .before .before .before .before .before .before .before .before .before .before .before .before .before .before .loop .at) s) _ _ (sym (c .before .before .before .before .before .before .before .before .before .before .before .before .before .call-at .ensures) ∙ ap (callSeen s) (c .before .before .before .before .before .before .before .before .before .before .before .c .given .1)) in
+    let s = now (c .before .before .before .before .before .before .before .before .before .before .before .before .before .before .before .before .before .before .args .s) in
+    let h = call-shorter (drop (c .before .before .before .before .before .before .before .before .before .before .before .before .before .before .loop .at) s) _ _ (sym (c .before .before .before .before .before .before .before .before .before .before .before .before .before .call-at .ensures) ∙ ap (callSeen s) (c .before .before .before .before .before .before .before .before .before .before .before .c .given .1)) in
     simp length-drop at h
 
 loop-again : tie.Need-loop-again Inv-loop μ-loop
-loop-again c = search needs
-
-flush-requires : tie.Need-flush-requires Inv-loop μ-loop
-flush-requires c κs = search needs
-
-same-length : tie.Need-same-length Inv-loop μ-loop
-same-length c = c .before .before .before .loop .inv .0
-
-same-length-2 : tie.Need-same-length-2 Inv-loop μ-loop
-same-length-2 c = c .before .before .before .loop .inv .1
-
-returns : tie.Need-returns Inv-loop μ-loop
-returns c = search needs
+loop-again c =
+    let s = now (c .before .before .before .before .before .before .before .before .before .before .before .before .before .before .before .before .before .before .args .s) in
+    let (m, t, k, f, e) = c .before .before .before .before .before .before .before .before .before .before .before .before .before .before .loop .inv in
+    let h = sym (c .before .before .before .before .before .before .before .before .before .before .before .before .before .call-at .ensures) ∙ ap (callSeen s) (c .before .before .before .before .before .before .before .before .before .before .before .c .given .1) in
+    let (j, g, q) = run-next k (c .before .before .before .before .before .before .before .before .before .before .before .before .before .before .loop .after) (c .before .before .before .before .before .before .before .before .before .before .before .before .before .before .loop .memory) (drop (c .before .before .before .before .before .before .before .before .before .before .before .before .before .before .loop .at) s) _ _ h f in
+    let p = c .before .before .before .before .before .play .ensures in
+    (search needs, search needs, j, g, rw (p .engine, p .output) (q ∙ e))
 
 pub play-whole-spec : {M : Type 1} → statement M
 play-whole-spec =
@@ -70,11 +83,11 @@ play-whole-spec =
     call-at-requires
     enum-known-c
     enum-told
-    with-room-requires
-    play-requires
-    loop-less
-    loop-again
     flush-requires
     same-length
     same-length-2
-    returns)
+    returns
+    with-room-requires
+    play-requires
+    loop-less
+    loop-again)

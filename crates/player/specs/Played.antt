@@ -1,0 +1,38 @@
+-- The events of the input, one after the other, each with the engine and the output memory that the one before it left.
+use Prim.Native.Nat.{ℕ, zero, suc}
+use mathlib.Core.Path.{_≡_}
+use mathlib.Core.List.{List}
+use Rattle.wire.specs.Parse.{Parse}
+use Rattle.wire.specs.Parse.Parse.{bad, good}
+use Rattle.data.specs.declared.Engine.{Engine}
+use Rattle.model.specs.Call.{Call, Outcome, stepOf}
+use Rattle.player.specs.Calls.{Given, call}
+use Rattle.player.specs.Lines.{lines, Put}
+use Rattle.player.specs.declared.Played.{Played}
+
+abbrev pub lent : Given → List ℕ → Call
+lent g m = record { event = g .event; journey = g .journey; book = g .book; memory = m }
+
+-- one event: its outcome, with its lines in a text that was `before`
+pub record Plays (o : Outcome) (before : List ℕ) (at : ℕ) (r : Played) (memory after : List ℕ) : Type 0 where
+  pub engine : r .engine ≡ o .engine
+  pub output : memory ≡ o .memory
+  pub text : Put before at (lines (o .answer) (o .memory)) after (r .at)
+
+-- what a run leaves: the engine, the output memory, and the input from the first event on that is cut short
+pub record Left : Type 0 where
+  pub engine : Engine
+  pub memory : List ℕ
+  pub input : List ℕ
+
+abbrev pub left : Engine → List ℕ → List ℕ → Left
+left e m l = record { engine = e; memory = m; input = l }
+
+abbrev pub next : Engine → List ℕ → List ℕ → Parse Given → (Engine → List ℕ → List ℕ → Left) → Left
+next e m l bad rest = left e m l
+next e m l (good g r) rest = rest (stepOf e (lent g m) .engine) (stepOf e (lent g m) .memory) r
+
+-- "input cut short ends the run"; k events at most
+unfoldable pub run : ℕ → Engine → List ℕ → List ℕ → Left
+run zero e m l = left e m l
+run (suc k) e m l = next e m l (call l) (run k)
