@@ -1,36 +1,8 @@
 //! A small host in Rust: powers on, drives the journey of document 01's trials, and prints each answer and each packet.
 
-/// `Engine` of hollwern.h, 3,628 bytes, which a host need not look into.
-#[repr(C)]
-struct Engine([u32; 907]);
+mod hollwern;
 
-#[repr(C)]
-struct Answer {
-    accepted: bool,
-    number: u8,
-    state: u8,
-    request: bool,
-    bytes: usize,
-}
-
-extern "C" {
-    fn hollwern_fresh(e: *mut Engine);
-    fn hollwern_step(
-        e: *mut Engine,
-        event: *const u8,
-        event_n: usize,
-        journey: *const u8,
-        journey_n: usize,
-        book: *const u8,
-        book_n: usize,
-        out: *mut u8,
-        out_n: usize,
-    ) -> Answer;
-    fn hollwern_state(e: *const Engine) -> u8;
-    fn hollwern_request(e: *const Engine) -> bool;
-    fn hollwern_conditions(e: *const Engine) -> u16;
-    fn hollwern_standing(e: *const Engine, k: u8) -> u8;
-}
+use hollwern::Engine;
 
 /// Segment 17/500, 100,000 long; stop 7001 at 40,000 with R 150; 7002 at 90,000, End of Journey.
 const JOURNEY: [u8; 28] = [
@@ -41,15 +13,9 @@ const BOOK: [u8; 32] = [
     0x90, 0, 0,
 ];
 
-/// The borrows give what hollwern.h asks: valid memory that nobody else touches.
-fn step(e: &mut Engine, event: &[u8], journey: &[u8], book: &[u8], out: &mut [u8]) -> Answer {
-    let (lent, n) = (out.as_mut_ptr(), out.len());
-    unsafe { hollwern_step(e, event.as_ptr(), event.len(), journey.as_ptr(), journey.len(), book.as_ptr(), book.len(), lent, n) }
-}
-
 fn call(e: &mut Engine, event: &[u8]) {
     let mut out = [0; 4096];
-    let a = step(e, event, &JOURNEY, &BOOK, &mut out);
+    let a = e.step(event, &JOURNEY, &BOOK, &mut out);
     if !a.accepted {
         println!("R {}", a.number);
         return;
@@ -68,14 +34,12 @@ fn position(e: &mut Engine, offset: u32, speed: u16) {
 }
 
 fn show(e: &Engine) {
-    let (state, request, conditions) = unsafe { (hollwern_state(e), hollwern_request(e), hollwern_conditions(e)) };
-    let (first, second) = unsafe { (hollwern_standing(e, 0), hollwern_standing(e, 1)) };
-    println!("state {state} request {} conditions {conditions:03X} points {first} {second}", request as u8);
+    let (request, first, second) = (e.request() as u8, e.standing(0), e.standing(1));
+    println!("state {} request {request} conditions {:03X} points {first} {second}", e.state(), e.conditions());
 }
 
 fn main() {
-    let mut e = Engine([0; 907]);
-    unsafe { hollwern_fresh(&mut e) };
+    let mut e = Engine::fresh();
     call(&mut e, &[1]); // power on
     call(&mut e, &[1]); // once more: refused
     call(&mut e, &[11]); // load

@@ -1,0 +1,233 @@
+//! `bench`: what calls cost through the C interface, beside the model and the copy of one engine by memcpy.
+
+mod calls;
+mod faults;
+mod host;
+mod lists;
+mod measure;
+mod model;
+mod pair;
+mod random;
+mod sizes;
+mod values;
+mod worlds;
+
+use calls::{Call, MEMORY};
+use faults::Profiles;
+use host::{Host, SIZE};
+use measure::{stack_of, Timer};
+use model::packets::Packet;
+use model::{Answer, Engine};
+use pair::{call_model, Memory, Pair};
+use sizes::{largest, point_name, profiles, reversed, segment};
+use std::hint::black_box;
+
+/// What a row may cost. By value, a call has two copies of the engine in any case; two more are left to it.
+#[derive(Clone, Copy)]
+enum Limit {
+    Copies(f64),
+    TimesModel(f64),
+}
+
+const FEW_COPIES: Limit = Limit::Copies(4.0);
+const STACK_MOST: usize = 48 * 1024;
+
+/// The calls that lead to it, and the call that is measured.
+struct Row {
+    name: String,
+    before: Vec<Call>,
+    call: Call,
+    limit: Limit,
+}
+
+struct Cost {
+    answer: Result<Answer, u8>,
+    proved: f64,
+    model: f64,
+    stack: usize,
+}
+
+struct Bench {
+    timer: Timer,
+    /// Nanoseconds of the copy of one engine.
+    copy: f64,
+    over: usize,
+}
+
+fn row(name: &str, before: &[Call], call: Call, limit: Limit) -> Row {
+    Row { name: name.into(), before: before.to_vec(), call, limit }
+}
+
+fn load(profiles: &Profiles) -> Call {
+    Call::load(profiles.journey_bytes(), profiles.book_bytes())
+}
+
+/// At an offset of the k-th segment.
+fn at(k: usize, offset: u32, speed: u16) -> Call {
+    let (nidc, nidsp) = segment(k);
+    Call::position(nidc, nidsp, offset, speed)
+}
+
+fn on() -> Vec<Call> {
+    vec![Call::plain(1), Call::four(10, 20)]
+}
+
+/// Ready, standing at the beginning of the k-th segment.
+fn ready(profiles: &Profiles, k: usize) -> Vec<Call> {
+    let calls = [Call::byte(5, 31), load(profiles), at(k, 500, 0), Call::plain(2)];
+    [on(), calls.to_vec()].concat()
+}
+
+fn rows() -> Vec<Row> {
+    let largest = largest();
+    let (ready_first, ready_last) = (ready(&largest, 0), ready(&largest, 39));
+    let skipped = [&ready_first[..], &[Call::four(12, point_name(39, 0))]].concat();
+    let mut rows = vec![
+        row("quiet position report, segment 1", &ready_first, at(0, 500, 0), FEW_COPIES),
+        row("quiet position report, segment 40", &ready_last, at(39, 500, 0), FEW_COPIES),
+        row("report that passes 64 points", &ready_first, at(39, 9_000, 100), Limit::TimesModel(3.0)),
+        row("largest load, journey order", &on(), load(&largest), Limit::TimesModel(3.0)),
+        row("largest load, reverse order", &on(), load(&reversed(largest.clone())), Limit::TimesModel(3.0)),
+        row("power on", &[], Call::plain(1), FEW_COPIES),
+        row("configured", &ready_first[..5], Call::plain(2), FEW_COPIES),
+        row("power off", &ready_first, Call::plain(3), FEW_COPIES),
+        row("fault", &ready_first, Call::plain(4), FEW_COPIES),
+        row("reports", &ready_first, Call::byte(5, 30), FEW_COPIES),
+        row("mode", &ready_first, Call::byte(6, 1), FEW_COPIES),
+        row("lever", &ready_first, Call::byte(7, 2), FEW_COPIES),
+        row("press", &ready_first, Call::plain(8), FEW_COPIES),
+        row("train length", &ready_first, Call::four(10, 30), FEW_COPIES),
+        row("driver skip of point 63", &ready_first, Call::four(12, point_name(39, 0)), FEW_COPIES),
+        row("its revocation", &skipped, Call::four(13, point_name(39, 0)), FEW_COPIES),
+    ];
+    rows.extend(refused_rows(&largest, &ready_first));
+    rows
+}
+
+fn refused_rows(largest: &Profiles, ready: &[Call]) -> Vec<Row> {
+    let cut = Profiles { book_cut: 1, ..largest.clone() };
+    vec![
+        row("refused: unknown kind", ready, Call::plain(14), FEW_COPIES),
+        row("refused: skip of an unknown name", ready, Call::four(12, 99_999_999), FEW_COPIES),
+        row("refused: largest book cut by a byte", ready, load(&cut), Limit::TimesModel(3.0)),
+    ]
+}
+
+impl Bench {
+    fn new() -> Bench {
+        let timer = Timer::new();
+        let engine = Host::fresh();
+        let copy = timer.time(&engine, |to| to.clone_from(black_box(&engine)));
+        Bench { timer, copy, over: 0 }
+    }
+
+    /// Both engines are first seen to agree.
+    fn cost(&self, before: &[Call], call: &Call) -> Cost {
+        let (mut pair, mut memory) = (Pair::fresh(), Memory::new());
+        let mut agreed =
+            |pair: &mut Pair, call: &Call| pair.call(call, &mut memory).unwrap_or_else(|error| panic!("{error}"));
+        before.iter().for_each(|call| assert!(agreed(&mut pair, call).is_ok()));
+        let answer = agreed(&mut pair.clone(), call);
+        let mut out = [0; MEMORY];
+        let proved = self.timer.time(&*pair.host, |host| host.call(call, &mut out));
+        let model = self.timer.time(&pair.model, |model| call_model(model, call, &mut out));
+        let stack = stack_of(|| pair.host.call(call, &mut out));
+        Cost { answer, proved, model, stack }
+    }
+
+    fn print_row(&mut self, row: &Row) {
+        let Cost { answer, proved, model, stack } = self.cost(&row.before, &row.call);
+        let (copies, ratio) = (proved / self.copy, proved / model);
+        let over = match row.limit {
+            Limit::Copies(most) => copies > most,
+            Limit::TimesModel(most) => ratio > most,
+        } || stack > STACK_MOST;
+        self.over += usize::from(over);
+        let answer = answer.map_or_else(|number| format!("R {number}"), |told| format!("A {}", told.bytes));
+        let mark = if over { "over" } else { "" };
+        println!("{:36} {answer:>6} {proved:>8.0} {model:>8.0} {ratio:>7.1} {copies:>7.1} {stack:>7} {mark}", row.name);
+    }
+
+    fn print_rows(&mut self) {
+        println!("{:36} answer   proved    model   ratio  copies   stack", "nanoseconds");
+        rows().iter().for_each(|row| self.print_row(row));
+        println!(
+            "{} rows over: more than 4 copies, for 64 points and books 3 times the model, or 48 KiB of stack",
+            self.over
+        );
+    }
+
+    /// Two calls in one line of a table, each proved and model.
+    fn print_growth(&self, size: String, calls: [(Vec<Call>, Call); 2]) {
+        let costs = calls.map(|(before, call)| self.cost(&before, &call));
+        let figures =
+            costs.map(|cost| format!("{:>8.0} {:>8.0} {:>7.1}", cost.proved, cost.model, cost.proved / cost.model));
+        println!("{size:>10}   {}", figures.join("   "));
+    }
+
+    fn print_tables(&self) {
+        let columns = "  proved    model   ratio";
+        println!(
+            "\n    points   {:27} load on 40 segments\n             {columns}   {columns}",
+            "report that passes them"
+        );
+        for points in [1, 2, 4, 8, 16, 32, 64] {
+            let of = profiles(40, points, 40);
+            self.print_growth(points.to_string(), [(ready(&of, 0), at(39, 9_000, 100)), (on(), load(&of))]);
+        }
+        println!(
+            "\n  segments   {:27} load with 16 points\n             {columns}   {columns}",
+            "quiet report on the last"
+        );
+        for segments in [1, 2, 4, 8, 16, 32, 40] {
+            let of = profiles(segments, 16, segments);
+            let last = segments - 1;
+            self.print_growth(segments.to_string(), [(ready(&of, last), at(last, 500, 0)), (on(), load(&of))]);
+        }
+        println!(
+            "\nbook bytes   {:27} load, a byte cut (7)\n             {columns}   {columns}",
+            "load (8 above 40 records)"
+        );
+        for records in [5, 10, 20, 40, 80, 160, 319] {
+            let of = profiles(1, 1, records);
+            let cut = Profiles { book_cut: 1, ..of.clone() };
+            self.print_growth(of.book_bytes().len().to_string(), [(on(), load(&of)), (on(), load(&cut))]);
+        }
+    }
+
+    /// Packets read by the model; the C interface has no reader.
+    fn print_reading(&self) {
+        let mut model = Engine::fresh();
+        let mut out = [0; MEMORY];
+        for call in ready(&largest(), 0) {
+            call_model(&mut model, &call, &mut out).unwrap();
+        }
+        let told = call_model(&mut model, &at(39, 9_000, 100), &mut out).unwrap();
+        for packet in [&out[..25], &out[told.bytes - 19..told.bytes]] {
+            let time = self.timer.time(&(), |()| Packet::read(black_box(packet)));
+            println!("packet {} read by the model: {time:.1} ns", packet[0]);
+        }
+    }
+}
+
+/// The deepest stack over guided random lists.
+fn deepest_stack() -> usize {
+    let mut out = [0; MEMORY];
+    let mut host = Host::fresh();
+    let ended = |seed| [lists::new_list(seed), vec![Call::plain(3)]].concat();
+    let calls: Vec<Call> = (0..200).flat_map(ended).collect();
+    stack_of(|| calls.iter().filter(|call| host.call(call, &mut out).is_ok()).count())
+}
+
+fn main() {
+    let mut bench = Bench::new();
+    println!(
+        "engine: {SIZE} bytes; its copy by memcpy: {:.0} ns; the model's engine: {} bytes",
+        bench.copy,
+        size_of::<Engine>()
+    );
+    bench.print_rows();
+    bench.print_reading();
+    println!("deepest stack in 200 random lists: {} bytes", deepest_stack());
+    bench.print_tables();
+}
