@@ -1,11 +1,11 @@
 -- "The player reads standard input: two-byte length, event; after kind 11 also two-byte length and journey, two-byte length and book."
 use Prim.Native.Nat.{ℕ}
 use mathlib.Core.List.{List, []}
-use mathlib.Core.Bool.{Bool, true, false, cond}
+use mathlib.Core.Bool.{Bool, true, false}
 use lib.ListN.{length, take, drop}
 use lib.Dec.{eqb, leb}
 use Rattle.wire.specs.Numbers.{number, if_then_else_}
-use Rattle.wire.specs.Parse.{Parse, Reader, andThen, field, give, _>>=_, _>>_}
+use Rattle.wire.specs.Parse.{Parse, Reader, field, give, _>>=_, _>>_}
 use Rattle.wire.specs.Parse.Parse.{bad, good}
 use Rattle.player.specs.Parts.{partOf}
 use Rattle.player.specs.declared.calls.Block.{Block}

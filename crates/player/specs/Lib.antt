@@ -3,4 +3,3 @@ pub mod Parts
 pub mod Calls
 pub mod Lines
 pub mod Played
-pub mod Laws

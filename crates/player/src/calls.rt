@@ -9,6 +9,7 @@ ghost use Rattle.player.specs.Parts.{partOf};
 use crate::parts::Part;
 use crate::parts::bytes_of;
 
+// A block, or an input that is cut short.
 pub enum Block {
     Whole(Part),
     Short,
@@ -27,7 +28,7 @@ pub enum Seen {
     Short,
 }
 
-// A two-byte length at a position, and as many bytes.
+// The bytes behind a two-byte length at a position.
 fn block_at(s: &[u8], at: usize) -> Block
     ensures { λ r. ⌜ blockSeen (now (s .entry)) r ≡ block (drop at (now (s .entry))) ⌝ }
 {
@@ -48,6 +49,7 @@ fn block_at(s: &[u8], at: usize) -> Block
     })
 }
 
+// The event's first byte is 11.
 fn is_load(s: &[u8], event: Part) -> bool
     ensures { λ r. ⌜ r ≡ eqb (number 1 (partOf (now (s .entry)) event)) 11 ⌝ }
 {
@@ -73,6 +75,7 @@ pub fn call_at(s: &[u8], at: usize) -> Seen
     })
 }
 
+// A load, with the journey and the book behind it.
 fn load_at(s: &[u8], event: Part) -> Seen
     ensures { λ r. ⌜ callSeen (now (s .entry)) r ≡ profiles (partOf (now (s .entry)) event) true (drop (event .end) (now (s .entry))) ⌝ }
 {

@@ -21,6 +21,7 @@ fn put(text: &mut [u8], at: usize, b: u8) -> usize
     at
 }
 
+// The last digit of n, in uppercase hexadecimal.
 fn digit(n: u8) -> u8
     ensures { λ r. ⌜ r ≡ Lines·digit n ⌝ }
 {
@@ -96,6 +97,7 @@ fn put_decimal(text: &mut [u8], at: usize, n: usize, most: usize) -> usize
     put(text, next, last_digit(n))
 }
 
+// A space and n; 64 bits make 20 digits at most.
 fn put_number(text: &mut [u8], at: usize, n: usize) -> usize
     ensures { λ r. ⌜ Put (now (text .entry)) at (numbered n) (now (text .exit)) r ⌝ }
 {
@@ -121,6 +123,7 @@ fn put_accepted(text: &mut [u8], at: usize, state: u8, request: bool, bytes: usi
     put(text, d, b'\n')
 }
 
+// An answer, and the packets in the output memory.
 pub fn put_answer(text: &mut [u8], at: usize, a: Answer, memory: &[u8]) -> usize
     ensures { λ r. ⌜ Put (now (text .entry)) at (Lines·lines (answerOf a) (now (memory .entry))) (now (text .exit)) r ⌝ }
 {

@@ -3,8 +3,9 @@ mod calls;
 mod lines;
 mod parts;
 
+ghost use Prim.Native.Nat.{_+_, _≤_};
 ghost use mathlib.Core.Path.{_≡_};
-ghost use lib.ListN.{length, drop};
+ghost use lib.ListN.{length, take, drop};
 ghost use Rattle.model.specs.Call.{stepOf};
 ghost use Rattle.player.specs.Calls.{givenIn};
 ghost use Rattle.player.specs.Played.{lent, Plays, left};
@@ -14,6 +15,7 @@ use calls::Seen;
 use data::Engine;
 use parts::Part;
 
+// An engine, and a position.
 struct Played {
     engine: Engine,
     at: usize,
@@ -41,8 +43,10 @@ fn flush(text: &[u8], used: usize) {
     io::write_all(libc::STDOUT_FILENO, parts::front(text, used));
 }
 
-// The lines of one event fit into what is left, or else the text is written out first.
-fn with_room(text: &[u8], used: usize) -> usize {
+// The lines of an event, 16,384 bytes at most (`lines-fit` of proofs/Room.antt), fit behind the text, or else it is written out first.
+fn with_room(text: &[u8], used: usize) -> usize
+    ensures { λ r. ⌜ (16384 ≤ length (now (text .entry)) → r + 16384 ≤ length (now (text .entry))) ⌝ }
+{
     if used < text.len() {
         if 16384 <= text.len() - used {
             return used;
@@ -52,7 +56,7 @@ fn with_room(text: &[u8], used: usize) -> usize {
     0
 }
 
-// Plays the whole events in s: the engine after them, and the position behind them.
+// Plays each event in s that is not cut short: the engine after them, and the position behind them.
 fn play_whole(e: Engine, s: &[u8], memory: &mut [u8], text: &mut [u8]) -> Played
     ensures { λ r. ⌜ left (r .engine) (now (memory .exit)) (drop (r .at) (now (s .entry))) ≡ Played·run (length (now (s .entry))) e (now (memory .entry)) (now (s .entry)) ⌝ }
 {
@@ -76,7 +80,9 @@ fn play_whole(e: Engine, s: &[u8], memory: &mut [u8], text: &mut [u8]) -> Played
 }
 
 // Reads on behind the bytes that are kept, and answers how many there are then.
-fn read_more(input: &mut [u8], kept: usize) -> usize {
+fn read_more(input: &mut [u8], kept: usize) -> usize
+    ensures { λ _. ⌜ take kept (now (input .exit)) ≡ take kept (now (input .entry)) ⌝ }
+{
     if input.len() < kept {
         return kept;
     }
@@ -85,6 +91,7 @@ fn read_more(input: &mut [u8], kept: usize) -> usize {
     kept + io::count(got, rest)
 }
 
+// Nothing proves that the input ends, so the turns are counted down from a number that no run uses up.
 fn run(input: &mut [u8], memory: &mut [u8], text: &mut [u8]) {
     let mut e = data::fresh();
     let mut kept = 0;
@@ -105,6 +112,7 @@ fn run(input: &mut [u8], memory: &mut [u8], text: &mut [u8]) {
     }
 }
 
+// An event with its profiles has 196,611 bytes at most (`call-there` of proofs/Room.antt), so that there is always room to read on.
 fn main() {
     let mut input = [0u8; 262144];
     let mut memory = [0u8; 4096];

@@ -1,11 +1,6 @@
 use borrow.Author.Needs.{needs}
 use Rattle.player.proofs.play.Statement.{statement}
 use Rattle.player.proofs.play.Tie as tie
-use Rattle.player.proofs.play.Reads as reads
-use Rattle.player.proofs.play.Lts as lts
-use Rattle.engine.proofs.step.Reads as step-reads
-use Rattle.player.proofs.lines.put_answer.Reads as put-answer-reads
-use Rattle.player.proofs.parts.bytes_of.Reads as bytes-of-reads
 
 bytes-of-requires : tie.Need-bytes-of-requires
 bytes-of-requires c κs = search needs
@@ -30,7 +25,10 @@ same-length-2 c = search needs
 
 returns : tie.Need-returns
 returns c =
-    let st = rw (c .before .before .before .before .before .before .before .before .before .before .before .before .bytes-of .ensures, c .before .before .before .before .before .before .before .before .before .before .before .bytes-of2 .ensures, c .before .before .before .before .before .before .before .before .before .before .bytes-of3 .ensures) at (c .before .before .before .before .before .before .before .before .step .ensures) in
+    let event = c .before .before .before .before .before .before .before .before .before .before .before .before .bytes-of .ensures in
+    let journey = c .before .before .before .before .before .before .before .before .before .before .before .bytes-of2 .ensures in
+    let book = c .before .before .before .before .before .before .before .before .before .before .bytes-of3 .ensures in
+    let st = rw (event, journey, book) at (c .before .before .before .before .before .before .before .before .step .ensures) in
     record { engine = st .engine; output = st .output; text = rw (st .answer, st .output) at (c .before .before .put-answer .ensures) }
 
 pub play-spec : {M : Type 1} → statement M

@@ -1,20 +1,15 @@
+-- What is left of the run answers for the whole; each event leaves less of the input.
 use Prim.Native.Nat.{ℕ, _-_, _≤_}
 use mathlib.Core.Path.{_≡_, refl, sym, ap, _∙_}
 use denote.Ref.{now}
 use lib.ListN.{length, drop, length-drop}
 use native.Mathlib.Omega.{arith}
-use Rattle.player.specs.Calls.{givenIn, callSeen}
+use Rattle.player.specs.Calls.{callSeen}
 use Rattle.player.specs.Played.{run}
-use Rattle.player.specs.Laws.{put-length, call-shorter, run-end, run-next}
+use Rattle.player.proofs.Laws.{call-shorter, run-end, run-next}
 use borrow.Author.Needs.{needs}
 use Rattle.player.proofs.play_whole.Statement.{statement}
 use Rattle.player.proofs.play_whole.Tie as tie
-use Rattle.player.proofs.play_whole.Reads as reads
-use Rattle.player.proofs.play_whole.Lts as lts
-use Rattle.player.proofs.calls.call_at.Reads as call-at-reads
-use Rattle.player.proofs.flush.Reads as flush-reads
-use Rattle.player.proofs.play.Reads as play-reads
-use Rattle.player.proofs.with_room.Reads as with-room-reads
 
 abbrev Inv-loop : tie.InvT-loop
 Inv-loop s memory₀ text₀ after₀ at₀ used₀ memory text after at used =
@@ -48,9 +43,9 @@ same-length-2 c = c .before .before .before .before .before .loop .inv .1
 returns : tie.Need-returns Inv-loop μ-loop
 returns c =
     let s = now (c .before .before .before .before .before .before .before .before .before .args .s) in
+    let told = sym (c .before .before .before .before .call-at .ensures) ∙ ap (callSeen s) (c .before .before .enum-told .given .1) in
     let (m, t, k, f, e) = c .before .before .before .before .before .loop .inv in
-    let h = sym (c .before .before .before .before .call-at .ensures) ∙ ap (callSeen s) (c .before .before .enum-told .given .1) in
-    run-end k _ _ _ h ∙ e
+    run-end k _ _ _ told ∙ e
 
 with-room-requires : tie.Need-with-room-requires Inv-loop μ-loop
 with-room-requires c κs = search needs
@@ -60,16 +55,19 @@ play-requires c κs = search needs
 
 loop-less : tie.Need-loop-less Inv-loop μ-loop
 loop-less c =
+    let d = c .before .before .before .before .before .before .before .before .before .before .before in
     let s = now (c .before .before .before .before .before .before .before .before .before .before .before .before .before .before .before .before .before .before .args .s) in
-    let h = call-shorter (drop (c .before .before .before .before .before .before .before .before .before .before .before .before .before .before .loop .at) s) _ _ (sym (c .before .before .before .before .before .before .before .before .before .before .before .before .before .call-at .ensures) ∙ ap (callSeen s) (c .before .before .before .before .before .before .before .before .before .before .before .c .given .1)) in
-    simp length-drop at h
+    let told = sym (c .before .before .before .before .before .before .before .before .before .before .before .before .before .call-at .ensures) ∙ ap (callSeen s) (d .c .given .1) in
+    simp length-drop at (call-shorter (drop (c .before .before .before .before .before .before .before .before .before .before .before .before .before .before .loop .at) s) _ _ told)
 
 loop-again : tie.Need-loop-again Inv-loop μ-loop
 loop-again c =
+    let d = c .before .before .before .before .before .before .before .before .before .before .before in
     let s = now (c .before .before .before .before .before .before .before .before .before .before .before .before .before .before .before .before .before .before .args .s) in
-    let (m, t, k, f, e) = c .before .before .before .before .before .before .before .before .before .before .before .before .before .before .loop .inv in
-    let h = sym (c .before .before .before .before .before .before .before .before .before .before .before .before .before .call-at .ensures) ∙ ap (callSeen s) (c .before .before .before .before .before .before .before .before .before .before .before .c .given .1) in
-    let (j, g, q) = run-next k (c .before .before .before .before .before .before .before .before .before .before .before .before .before .before .loop .after) (c .before .before .before .before .before .before .before .before .before .before .before .before .before .before .loop .memory) (drop (c .before .before .before .before .before .before .before .before .before .before .before .before .before .before .loop .at) s) _ _ h f in
+    let told = sym (c .before .before .before .before .before .before .before .before .before .before .before .before .before .call-at .ensures) ∙ ap (callSeen s) (d .c .given .1) in
+    let l = c .before .before .before .before .before .before .before .before .before .before .before .before .before .before in
+    let (m, t, k, f, e) = l .loop .inv in
+    let (j, g, q) = run-next k (l .loop .after) (l .loop .memory) (drop (l .loop .at) s) _ _ told f in
     let p = c .before .before .before .before .before .play .ensures in
     (search needs, search needs, j, g, rw (p .engine, p .output) (q ∙ e))
 

@@ -1,18 +1,13 @@
+-- Nothing says that the input ends, so the loop counts its turns down.
 use mathlib.Core.Path.{_≡_}
 use lib.ListN.{length}
 use borrow.Author.Needs.{needs}
 use Rattle.player.proofs.run.Statement.{statement}
 use Rattle.player.proofs.run.Tie as tie
-use Rattle.player.proofs.run.Reads as reads
-use Rattle.player.proofs.run.Lts as lts
-use Rattle.data.proofs.fresh.Reads as fresh-reads
-use Rattle.player.proofs.parts.front.Reads as front-reads
-use Rattle.player.proofs.parts.to_front.Reads as to-front-reads
-use Rattle.player.proofs.play_whole.Reads as play-whole-reads
-use Rattle.player.proofs.read_more.Reads as read-more-reads
 
 abbrev Inv-loop : tie.InvT-loop
-Inv-loop input₀ memory₀ text₀ e₀ kept₀ turns₀ input memory text e kept turns = (length input ≡ length input₀) × (length memory ≡ length memory₀) × (length text ≡ length text₀)
+Inv-loop input₀ memory₀ text₀ e₀ kept₀ turns₀ input memory text e kept turns =
+    (length input ≡ length input₀) × (length memory ≡ length memory₀) × (length text ≡ length text₀)
 
 abbrev μ-loop : tie.MeasureT-loop
 μ-loop input₀ memory₀ text₀ e₀ kept₀ turns₀ input memory text e kept turns = turns

@@ -3,13 +3,10 @@ use denote.Ref.{now}
 use lib.ListN.{length, drop}
 use native.Mathlib.Omega.{arith}
 use Rattle.wire.specs.Numbers.{number}
-use Rattle.player.specs.Laws.{block-missing, block-cut, block-whole}
+use Rattle.player.proofs.Laws.{block-missing, block-cut, block-whole}
 use borrow.Author.Needs.{needs}
 use Rattle.player.proofs.calls.block_at.Statement.{statement}
 use Rattle.player.proofs.calls.block_at.Tie as tie
-use Rattle.player.proofs.calls.block_at.Reads as reads
-use Rattle.player.proofs.calls.block_at.Lts as lts
-use Rattle.wire.proofs.be16.Reads as be16-reads
 
 returns : tie.Need-returns
 returns c = block-missing (now (c .before .before .args .s)) (c .before .before .args .at) (omega arith)

@@ -1,10 +1,6 @@
 use borrow.Author.Needs.{needs}
 use Rattle.player.proofs.calls.is_load.Statement.{statement}
 use Rattle.player.proofs.calls.is_load.Tie as tie
-use Rattle.player.proofs.calls.is_load.Reads as reads
-use Rattle.player.proofs.calls.is_load.Lts as lts
-use Rattle.player.proofs.parts.bytes_of.Reads as bytes-of-reads
-use Rattle.wire.proofs.be8.Reads as be8-reads
 
 bytes-of-requires : tie.Need-bytes-of-requires
 bytes-of-requires c κs = search needs

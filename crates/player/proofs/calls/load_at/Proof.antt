@@ -4,9 +4,6 @@ use Rattle.player.specs.Calls.{profiles, blockSeen}
 use borrow.Author.Needs.{needs}
 use Rattle.player.proofs.calls.load_at.Statement.{statement}
 use Rattle.player.proofs.calls.load_at.Tie as tie
-use Rattle.player.proofs.calls.load_at.Reads as reads
-use Rattle.player.proofs.calls.load_at.Lts as lts
-use Rattle.player.proofs.calls.block_at.Reads as block-at-reads
 
 block-at-requires : tie.Need-block-at-requires
 block-at-requires c κs = search needs

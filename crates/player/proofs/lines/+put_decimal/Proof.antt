@@ -6,7 +6,7 @@ use borrow.Fn.Kinds.{In}
 use borrow.Fn.PlainCycle.{Measures, is, falls, and}
 use borrow.Author.Needs.{needs}
 use Rattle.player.specs.Lines.{decimal}
-use Rattle.player.specs.Laws.{put-none, put-then, put-length, digits-last, digits-more}
+use Rattle.player.proofs.Laws.{put-none, put-then, put-length, digits-last, digits-more}
 use Rattle.player.proofs.lines.put_decimal.Reads as own
 use Rattle.player.proofs.lines.put_decimal.Kinds as kinds
 use Rattle.player.proofs.lines.+put_decimal.Lts-put_decimal as lts
@@ -43,7 +43,10 @@ module _ (t : ℕ) where
   same-length c = put-length (c .before .before .put .ensures)
 
   returns-2 : lts.Need-returns-2 (callees t) (given t) own.Post
-  returns-2 c = rw (← digits-last (c .before .before .before .before .before .before .before .before .args .most) (c .before .before .before .before .before .before .before .before .args .n) (c .before .before .before .before .before .before .if1 .left) (c .before .before .before .before .before .if2 .taken), ← c .before .before .before .last-digit .ensures) (c .before .before .put .ensures)
+  returns-2 c =
+      let d = c .before .before .before .before .before .before in
+      let a = d .before .before .args in
+      rw (← digits-last (a .most) (a .n) (d .if1 .left) (c .before .before .before .before .before .if2 .taken), ← c .before .before .before .last-digit .ensures) (c .before .before .put .ensures)
 
   sub-put-decimal : lts.Need-sub-put-decimal (callees t) (given t) own.Post
   sub-put-decimal c = omega arith
@@ -61,10 +64,24 @@ module _ (t : ℕ) where
   same-length-2 c = put-length (c .before .before .put2 .ensures) ∙ put-length (c .before .before .before .before .before .before .before .put-decimal .ensures)
 
   returns-3 : lts.Need-returns-3 (callees t) (given t) own.Post
-  returns-3 c = rw (← digits-more (c .before .before .before .before .before .before .before .before .before .before .before .before .args .most) (c .before .before .before .before .before .before .before .before .before .before .before .before .args .n) (c .before .before .before .before .before .before .before .before .before .before .if1 .left) (c .before .before .before .before .before .before .before .before .before .if2 .left), ← c .before .before .before .last-digit2 .ensures) (put-then _ _ (c .before .before .before .before .before .before .before .put-decimal .ensures) (c .before .before .put2 .ensures))
+  returns-3 c =
+      let d = c .before .before .before .before .before .before .before .before .before in
+      let a = d .before .before .before .args in
+      rw (← digits-more (a .most) (a .n) (d .before .if1 .left) (d .if2 .left), ← c .before .before .before .last-digit2 .ensures)
+      (put-then _ _ (c .before .before .before .before .before .before .before .put-decimal .ensures) (c .before .before .put2 .ensures))
 
 pub +put-decimal-spec : {M : Type 1} → statement M
 +put-decimal-spec =
     close μ λ t.
     lts.spec (callees t) (given t) own.Post
-    (returns t) (last-digit-requires t) (put-requires t) (same-length t) (returns-2 t) (sub-put-decimal t) (put-decimal-requires t) (last-digit-requires-2 t) (put-requires-2 t) (same-length-2 t) (returns-3 t)
+    (returns t)
+    (last-digit-requires t)
+    (put-requires t)
+    (same-length t)
+    (returns-2 t)
+    (sub-put-decimal t)
+    (put-decimal-requires t)
+    (last-digit-requires-2 t)
+    (put-requires-2 t)
+    (same-length-2 t)
+    (returns-3 t)

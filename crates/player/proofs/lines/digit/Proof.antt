@@ -2,8 +2,6 @@ use borrow.Author.Tests.{lt-ltb, le-ltb}
 use borrow.Author.Needs.{needs}
 use Rattle.player.proofs.lines.digit.Statement.{statement}
 use Rattle.player.proofs.lines.digit.Tie as tie
-use Rattle.player.proofs.lines.digit.Reads as reads
-use Rattle.player.proofs.lines.digit.Lts as lts
 
 add-result : tie.Need-add-result
 add-result c = search needs

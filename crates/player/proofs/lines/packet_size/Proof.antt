@@ -1,10 +1,6 @@
-use mathlib.Core.Path.{_≡_}
-use borrow.Author.Tests.{eq-eqb, ne-eqb}
-use borrow.Author.Needs.{needs}
+use borrow.Author.Tests.{ne-eqb}
 use Rattle.player.proofs.lines.packet_size.Statement.{statement}
 use Rattle.player.proofs.lines.packet_size.Tie as tie
-use Rattle.player.proofs.lines.packet_size.Reads as reads
-use Rattle.player.proofs.lines.packet_size.Lts as lts
 
 returns : tie.Need-returns
 returns c = rw (c .match .keys1)

@@ -4,8 +4,6 @@ use native.Mathlib.Omega.{arith}
 use borrow.Author.Needs.{needs}
 use Rattle.player.proofs.lines.put.Statement.{statement}
 use Rattle.player.proofs.lines.put.Tie as tie
-use Rattle.player.proofs.lines.put.Reads as reads
-use Rattle.player.proofs.lines.put.Lts as lts
 
 slice-write-text : tie.Need-slice-write-text
 slice-write-text c = search needs

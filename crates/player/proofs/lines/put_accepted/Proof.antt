@@ -1,11 +1,7 @@
-use Rattle.player.specs.Laws.{put-then, flag-byte}
+use Rattle.player.proofs.Laws.{put-then, flag-byte}
 use borrow.Author.Needs.{needs}
 use Rattle.player.proofs.lines.put_accepted.Statement.{statement}
 use Rattle.player.proofs.lines.put_accepted.Tie as tie
-use Rattle.player.proofs.lines.put_accepted.Reads as reads
-use Rattle.player.proofs.lines.put_accepted.Lts as lts
-use Rattle.player.proofs.lines.put.Reads as put-reads
-use Rattle.player.proofs.lines.put_number.Reads as put-number-reads
 
 put-requires : tie.Need-put-requires
 put-requires c κs = search needs

@@ -1,14 +1,8 @@
 use Rattle.player.specs.Lines.{lines}
-use Rattle.player.specs.Laws.{put-then}
+use Rattle.player.proofs.Laws.{put-then}
 use borrow.Author.Needs.{needs}
 use Rattle.player.proofs.lines.put_answer.Statement.{statement}
 use Rattle.player.proofs.lines.put_answer.Tie as tie
-use Rattle.player.proofs.lines.put_answer.Reads as reads
-use Rattle.player.proofs.lines.put_answer.Lts as lts
-use Rattle.player.proofs.lines.put_accepted.Reads as put-accepted-reads
-use Rattle.player.proofs.lines.put_packets.Reads as put-packets-reads
-use Rattle.player.proofs.lines.put_refused.Reads as put-refused-reads
-use Rattle.player.proofs.parts.front.Reads as front-reads
 
 enum-known-a : tie.Need-enum-known-a
 enum-known-a c = search needs
@@ -40,7 +34,9 @@ same-length-2 c = search needs
 
 returns-2 : tie.Need-returns-2
 unfolding lines
-returns-2 c = rw (c .before .before .before .before .before .before .before .before .before .before .a2 .given .1) (put-then _ _ (c .before .before .before .before .before .before .before .put-accepted .ensures) (rw (c .before .before .before .front .ensures) at (c .before .before .put-packets .ensures)))
+returns-2 c =
+    let packets = rw (c .before .before .before .front .ensures) at (c .before .before .put-packets .ensures) in
+    rw (c .before .before .before .before .before .before .before .before .before .before .a2 .given .1) (put-then _ _ (c .before .before .before .before .before .before .before .put-accepted .ensures) packets)
 
 pub put-answer-spec : {M : Type 1} → statement M
 put-answer-spec =

@@ -1,11 +1,7 @@
-use Rattle.player.specs.Laws.{put-then}
+use Rattle.player.proofs.Laws.{put-then}
 use borrow.Author.Needs.{needs}
 use Rattle.player.proofs.lines.put_hex.Statement.{statement}
 use Rattle.player.proofs.lines.put_hex.Tie as tie
-use Rattle.player.proofs.lines.put_hex.Reads as reads
-use Rattle.player.proofs.lines.put_hex.Lts as lts
-use Rattle.player.proofs.lines.digit.Reads as digit-reads
-use Rattle.player.proofs.lines.put.Reads as put-reads
 
 digit-requires : tie.Need-digit-requires
 digit-requires c κs = search needs
@@ -23,7 +19,9 @@ same-length : tie.Need-same-length
 same-length c = search needs
 
 returns : tie.Need-returns
-returns c = rw (← c .before .before .before .before .before .before .before .before .digit .ensures, ← c .before .before .before .digit2 .ensures) (put-then _ _ (c .before .before .before .before .before .before .before .put .ensures) (c .before .before .put2 .ensures))
+returns c =
+    rw (← c .before .before .before .before .before .before .before .before .digit .ensures, ← c .before .before .before .digit2 .ensures)
+    (put-then _ _ (c .before .before .before .before .before .before .before .put .ensures) (c .before .before .put2 .ensures))
 
 pub put-hex-spec : {M : Type 1} → statement M
 put-hex-spec =

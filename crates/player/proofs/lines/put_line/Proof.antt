@@ -5,14 +5,10 @@ use native.Mathlib.Omega.{arith}
 use Prim.Native.Nat.{_-_, _<_, _≤_}
 use lib.ListN.{length, take}
 use Rattle.player.specs.Lines.{Put, hex}
-use Rattle.player.specs.Laws.{put-none, put-then, put-length, hex-more}
+use Rattle.player.proofs.Laws.{put-none, put-then, put-length, hex-more}
 use borrow.Author.Needs.{needs}
 use Rattle.player.proofs.lines.put_line.Statement.{statement}
 use Rattle.player.proofs.lines.put_line.Tie as tie
-use Rattle.player.proofs.lines.put_line.Reads as reads
-use Rattle.player.proofs.lines.put_line.Lts as lts
-use Rattle.player.proofs.lines.put.Reads as put-reads
-use Rattle.player.proofs.lines.put_hex.Reads as put-hex-reads
 
 abbrev Inv-loop : tie.InvT-loop
 Inv-loop text₀ at s next₀ i₀ i-end text next i = (i-end ≡ length s) × Put text₀ at (hex (take i s)) text next

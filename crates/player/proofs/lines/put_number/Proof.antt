@@ -1,11 +1,7 @@
-use Rattle.player.specs.Laws.{put-then}
+use Rattle.player.proofs.Laws.{put-then}
 use borrow.Author.Needs.{needs}
 use Rattle.player.proofs.lines.put_number.Statement.{statement}
 use Rattle.player.proofs.lines.put_number.Tie as tie
-use Rattle.player.proofs.lines.put_number.Reads as reads
-use Rattle.player.proofs.lines.put_number.Lts as lts
-use Rattle.player.proofs.lines.put.Reads as put-reads
-use Rattle.player.proofs.lines.put_decimal.Reads as put-decimal-reads
 
 put-requires : tie.Need-put-requires
 put-requires c κs = search needs

@@ -1,19 +1,15 @@
+-- What is written and the lines that are left make up the whole.
 use Prim.Native.Nat.{ℕ, _+_, _-_, _<_, _≤_}
 use mathlib.Core.Path.{_≡_, refl, ap, _∙_}
 use mathlib.Core.List.{List, [], _++_, append-assoc, append-nil}
 use denote.Ref.{now}
 use lib.ListN.{length, getD, take, drop}
 use native.Mathlib.Omega.{arith}
-use Rattle.player.specs.Lines.{Put, hexLine, packetSize, packetText}
-use Rattle.player.specs.Laws.{put-none, put-then, put-length, size-pos, size-most, packets-more, packets-end}
+use Rattle.player.specs.Lines.{Put, hexLine, packetText}
+use Rattle.player.proofs.Laws.{put-none, put-then, put-length, size-pos, size-most, packets-more, packets-end}
 use borrow.Author.Needs.{needs}
 use Rattle.player.proofs.lines.put_packets.Statement.{statement}
 use Rattle.player.proofs.lines.put_packets.Tie as tie
-use Rattle.player.proofs.lines.put_packets.Reads as reads
-use Rattle.player.proofs.lines.put_packets.Lts as lts
-use Rattle.player.proofs.parts.bytes_of.Reads as bytes-of-reads
-use Rattle.player.proofs.lines.packet_size.Reads as packet-size-reads
-use Rattle.player.proofs.lines.put_line.Reads as put-line-reads
 
 abbrev Inv-loop : tie.InvT-loop
 Inv-loop text₀ at s next₀ from₀ text next from = (done : List ℕ) × Put text₀ at done text next × (done ++ packetText (drop from s) ≡ packetText s)

@@ -1,11 +1,7 @@
-use Rattle.player.specs.Laws.{put-then}
+use Rattle.player.proofs.Laws.{put-then}
 use borrow.Author.Needs.{needs}
 use Rattle.player.proofs.lines.put_refused.Statement.{statement}
 use Rattle.player.proofs.lines.put_refused.Tie as tie
-use Rattle.player.proofs.lines.put_refused.Reads as reads
-use Rattle.player.proofs.lines.put_refused.Lts as lts
-use Rattle.player.proofs.lines.put.Reads as put-reads
-use Rattle.player.proofs.lines.put_number.Reads as put-number-reads
 
 put-requires : tie.Need-put-requires
 put-requires c κs = search needs
@@ -20,7 +16,9 @@ same-length : tie.Need-same-length
 same-length c = search needs
 
 returns : tie.Need-returns
-returns c = put-then _ _ (c .before .before .before .before .before .before .before .before .before .before .put .ensures) (put-then _ _ (c .before .before .before .before .before .before .put-number .ensures) (c .before .before .put2 .ensures))
+returns c =
+    put-then _ _ (c .before .before .before .before .before .before .before .before .before .before .put .ensures)
+    (put-then _ _ (c .before .before .before .before .before .before .put-number .ensures) (c .before .before .put2 .ensures))
 
 pub put-refused-spec : {M : Type 1} → statement M
 put-refused-spec =

@@ -6,9 +6,6 @@ use lib.ListN.{take}
 use borrow.Author.Needs.{needs}
 use Rattle.player.proofs.parts.front.Statement.{statement}
 use Rattle.player.proofs.parts.front.Tie as tie
-use Rattle.player.proofs.parts.front.Reads as reads
-use Rattle.player.proofs.parts.front.Lts as lts
-use Rattle.player.proofs.parts.bytes_of.Reads as bytes-of-reads
 
 bytes-of-requires : tie.Need-bytes-of-requires
 bytes-of-requires c κs = search needs

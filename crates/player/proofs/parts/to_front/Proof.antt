@@ -1,15 +1,12 @@
-use Prim.Native.Nat.{_+_, _-_, _≤_, _<_}
+use Prim.Native.Nat.{_+_, _-_, _≤_}
 use mathlib.Core.Path.{_≡_, _∙_}
 use denote.Ref.{now}
 use lib.ListN.{length}
 use native.Mathlib.Omega.{arith}
-use Rattle.player.specs.Laws.{Moved, moved-none, moved-more, part-count, part-within}
+use Rattle.player.proofs.Laws.{Moved, moved-none, moved-more, part-count, part-within}
 use borrow.Author.Needs.{needs}
 use Rattle.player.proofs.parts.to_front.Statement.{statement}
 use Rattle.player.proofs.parts.to_front.Tie as tie
-use Rattle.player.proofs.parts.to_front.Reads as reads
-use Rattle.player.proofs.parts.to_front.Lts as lts
-use Rattle.player.proofs.parts.least.Reads as least-reads
 
 abbrev Inv-loop : tie.InvT-loop
 Inv-loop s₀ end start count i₀ s i = (i ≤ count) × (start + count ≤ length s₀) × Moved s₀ start i s

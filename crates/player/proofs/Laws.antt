@@ -1,7 +1,7 @@
 -- Laws of texts that grow, of the lines, and of the events in the input.
-use Prim.Native.Nat.{ℕ, zero, suc, _+_, _-_, _/_, _%_, _≤_, _<_, min, max}
+use Prim.Native.Nat.{ℕ, zero, suc, _+_, _-_, _/_, _%_, _≤_, _<_, min}
 use mathlib.Core.Path.{_≡_, refl, sym, ap, _∙_}
-use mathlib.Core.List.{List, [], _∷_, _++_, append-assoc}
+use mathlib.Core.List.{List, [], _∷_, _++_}
 use mathlib.Core.Bool.{Bool, true, false, cond}
 use lib.ListN.{length, take, drop, set, getD, length-append, length-set, length-take, length-drop, drop-of-length-le}
 use lib.Seq.{sets, length-sets, take-all, take-suc, take-suc-set, drop-set-lt, drop-drop, getD-drop}
