@@ -1,12 +1,18 @@
 // An engine that the host lends and keeps: the calls that C, Ada, C++ and Rust hosts link. host/hollwern.h declares them.
 use data::Engine;
+use packets::AtoStatus;
+use packets::Header;
+use packets::JpReceived;
+use packets::TimingPoint;
 ghost use mathlib.Core.Path.{_≡_};
 ghost use Prim.Native.Nat.{_≤_};
 ghost use Rattle.data.specs.Engine.{fresh};
 ghost use Rattle.model.specs.Call.{answerOf, stepOf, conditionsIn};
 ghost use Rattle.model.specs.Shown.{stateIn, requestIn, standingIn};
 ghost use Rattle.engine.specs.Seen.{call};
+ghost use Rattle.packets.specs.Packets.{packetOf};
 ghost use Rattle.host.specs.Plain.{plainAnswer, plainStep, memoryAfter};
+ghost use Rattle.host.specs.Fields.{fields62, fields65, fields68, fieldsOf, noFields, plainPacket};
 
 // State, request and bytes written, where accepted; else the number of the row that refuses. The fields of the other case are 0.
 #[repr(C)]
@@ -120,4 +126,154 @@ pub extern "C" fn hollwern_standing(e: &Engine, k: u8) -> u8
     ensures { λ r. ⌜ r ≡ standingIn (now (e .entry)) k ⌝ }
 {
     model::standing(*e, k)
+}
+
+// A packet that was read: its number as `kind`, its bytes as `size`, its fields. Else the number of the row that refuses. All else is 0.
+#[repr(C)]
+pub struct PacketFields {
+    pub accepted: bool,
+    pub number: u8,
+    pub kind: u8,
+    pub size: usize,
+    pub header: Header,
+    pub nidc: u16,
+    pub nidtp: u32,
+    pub qeoj: u8,
+    pub alignment: u8,
+    pub status: u8,
+    pub stopping: u8,
+    pub atots: u16,
+    pub date: u16,
+    pub seconds: u32,
+    pub counter: u8,
+    pub state: u8,
+    pub conditions: u16,
+}
+
+fn timing_point(p: TimingPoint) -> PacketFields
+    ensures { λ r. ⌜ r ≡ fields62 p ⌝ }
+{
+    let header = p.header;
+    PacketFields {
+        accepted: true,
+        number: 0,
+        kind: 62,
+        size: 25,
+        header: header,
+        nidc: p.nidc,
+        nidtp: p.nidtp,
+        qeoj: p.qeoj,
+        alignment: p.alignment,
+        status: p.status,
+        stopping: p.stopping,
+        atots: 0,
+        date: 0,
+        seconds: 0,
+        counter: 0,
+        state: 0,
+        conditions: 0,
+    }
+}
+
+fn jp_received(p: JpReceived) -> PacketFields
+    ensures { λ r. ⌜ r ≡ fields65 p ⌝ }
+{
+    let header = p.header;
+    PacketFields {
+        accepted: true,
+        number: 0,
+        kind: 65,
+        size: 29,
+        header: header,
+        nidc: p.nidc,
+        nidtp: 0,
+        qeoj: 0,
+        alignment: 0,
+        status: p.status,
+        stopping: 0,
+        atots: p.atots,
+        date: p.date,
+        seconds: p.seconds,
+        counter: p.counter,
+        state: 0,
+        conditions: 0,
+    }
+}
+
+fn ato_status(p: AtoStatus) -> PacketFields
+    ensures { λ r. ⌜ r ≡ fields68 p ⌝ }
+{
+    let header = p.header;
+    PacketFields {
+        accepted: true,
+        number: 0,
+        kind: 68,
+        size: 19,
+        header: header,
+        nidc: 0,
+        nidtp: 0,
+        qeoj: 0,
+        alignment: 0,
+        status: 0,
+        stopping: 0,
+        atots: 0,
+        date: 0,
+        seconds: 0,
+        counter: 0,
+        state: p.state,
+        conditions: p.conditions,
+    }
+}
+
+fn packet_fields(p: packets::Packet) -> PacketFields
+    ensures { λ r. ⌜ r ≡ fieldsOf p ⌝ }
+{
+    match p {
+        packets::Packet::TimingPoint(x) => timing_point(x),
+        packets::Packet::JpReceived(x) => jp_received(x),
+        packets::Packet::AtoStatus(x) => ato_status(x),
+    }
+}
+
+fn refused(n: u8) -> PacketFields
+    ensures { λ r. ⌜ r ≡ noFields n ⌝ }
+{
+    let header = Header {
+        nidc: 0,
+        nidsp: 0,
+        offset: 0,
+        speed: 0,
+        operational: 0,
+    };
+    PacketFields {
+        accepted: false,
+        number: n,
+        kind: 0,
+        size: 0,
+        header: header,
+        nidc: 0,
+        nidtp: 0,
+        qeoj: 0,
+        alignment: 0,
+        status: 0,
+        stopping: 0,
+        atots: 0,
+        date: 0,
+        seconds: 0,
+        counter: 0,
+        state: 0,
+        conditions: 0,
+    }
+}
+
+// One packet, exactly.
+#[no_mangle]
+pub extern "C" fn hollwern_read(bytes: &[u8]) -> PacketFields
+    ensures { λ r. ⌜ r ≡ plainPacket (packetOf (now (bytes .entry))) ⌝ }
+{
+    let answer = packets::read_packet(bytes);
+    match answer {
+        packets::PacketRead::Packet(p) => packet_fields(p),
+        packets::PacketRead::Refused(n) => refused(n),
+    }
 }

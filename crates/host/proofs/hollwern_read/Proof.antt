@@ -1,0 +1,40 @@
+use mathlib.Core.Path.{sym, ap, _∙_}
+use borrow.Author.Needs.{needs}
+use Rattle.packets.specs.declared.PacketRead.{PacketRead}
+use Rattle.packets.specs.Packets.{readSeen}
+use Rattle.host.specs.Fields.{plainPacket}
+use Rattle.host.proofs.hollwern_read.Statement.{statement}
+use Rattle.host.proofs.hollwern_read.Tie as tie
+
+read-packet-requires : tie.Need-read-packet-requires
+read-packet-requires c κs = search needs
+
+enum-known-answer : tie.Need-enum-known-answer
+enum-known-answer c = search needs
+
+packet-fields-requires : tie.Need-packet-fields-requires
+packet-fields-requires c κs = search needs
+
+enum-known-answer-2 : tie.Need-enum-known-answer-2
+enum-known-answer-2 c = search needs
+
+refused-requires : tie.Need-refused-requires
+refused-requires c κs = search needs
+
+returns : tie.Need-returns
+returns c = c .packet-fields .ensures ∙ ap (λ (x : PacketRead). plainPacket (readSeen x)) (sym (c .before .before .answer .given .1)) ∙ ap plainPacket (c .before .before .before .before .read-packet .ensures)
+
+returns-2 : tie.Need-returns-2
+returns-2 c = c .refused .ensures ∙ ap (λ (x : PacketRead). plainPacket (readSeen x)) (sym (c .before .before .answer2 .given .1)) ∙ ap plainPacket (c .before .before .before .before .read-packet .ensures)
+
+pub hollwern-read-spec : {M : Type 1} → statement M
+hollwern-read-spec =
+    tie.close
+    (tie.spec
+    read-packet-requires
+    enum-known-answer
+    packet-fields-requires
+    enum-known-answer-2
+    refused-requires
+    returns
+    returns-2)
