@@ -1,4 +1,4 @@
-/* A small host in C: powers on, drives the journey of document 01's trials, and prints each answer and each packet. */
+/* A small host in C: powers on, drives the journey of document 01's trials, and prints each answer and each packet as it is read. */
 #include "hollwern.h"
 #include <stdio.h>
 
@@ -12,6 +12,22 @@ static uint8_t out[4096];
 
 static size_t packet_size(uint8_t number) { return number == 62 ? 25 : number == 65 ? 29 : 19; }
 
+static void show_packet(const uint8_t *bytes, size_t n) {
+    PacketFields p = hollwern_read(bytes, n);
+    if (!p.accepted) {
+        printf("R %u\n", p.number);
+        return;
+    }
+    Header h = p.header;
+    printf("%u at %u/%u %u speed %u operational %08X:", p.kind, h.nidc, h.nidsp, h.offset, h.speed, h.operational);
+    if (p.kind == 62)
+        printf(" point %u/%u qeoj %u alignment %u status %u stopping %u\n", p.nidc, p.nidtp, p.qeoj, p.alignment, p.status, p.stopping);
+    else if (p.kind == 65)
+        printf(" nidc %u atots %u date %u seconds %u counter %u status %u\n", p.nidc, p.atots, p.date, p.seconds, p.counter, p.status);
+    else
+        printf(" state %u conditions %03X\n", p.state, p.conditions);
+}
+
 static void call(const uint8_t *event, size_t n) {
     Answer a = hollwern_step(&engine, event, n, journey, sizeof journey, book, sizeof book, out, sizeof out);
     if (!a.accepted) {
@@ -20,14 +36,29 @@ static void call(const uint8_t *event, size_t n) {
     }
     printf("A %u %u %zu\n", a.state, a.request, a.bytes);
     for (size_t at = 0; at < a.bytes;) {
-        for (size_t end = at + packet_size(out[at]); at < end; at++) printf("%02X", out[at]);
+        size_t size = packet_size(out[at]);
+        for (size_t k = 0; k < size; k++) printf("%02X", out[at + k]);
         printf("\n");
+        show_packet(out + at, size);
+        at += size;
     }
 }
 
 static void position(uint32_t offset, uint16_t speed) {
     uint8_t event[] = {9, 0, 17, 0, 0, 0x01, 0xF4, offset >> 24, offset >> 16, offset >> 8, offset, speed >> 8, speed};
     call(event, sizeof event);
+}
+
+/* A packet 68 whose other bytes are 0, then what the reader refuses. */
+static void refused_packets(void) {
+    uint8_t packet[19] = {68};
+    show_packet(packet, 19);
+    show_packet(packet, 18);           /* a byte short: 17 */
+    packet[0] = 63;
+    show_packet(packet, 19);           /* another number: 18 */
+    packet[0] = 68;
+    packet[18] = 8;
+    show_packet(packet, 19);           /* state 8: 19 */
 }
 
 static void show(void) {
@@ -49,5 +80,6 @@ int main(void) {
     position(39900, 50);               /* departed */
     position(90001, 50);               /* P6: 7002 is passed */
     show();
+    refused_packets();
     return 0;
 }

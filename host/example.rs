@@ -1,4 +1,4 @@
-//! A small host in Rust: powers on, drives the journey of document 01's trials, and prints each answer and each packet.
+//! A small host in Rust: powers on, drives the journey of document 01's trials, and prints each answer and each packet as it is read.
 
 mod hollwern;
 
@@ -13,6 +13,22 @@ const BOOK: [u8; 32] = [
     0x90, 0, 0,
 ];
 
+fn show_packet(bytes: &[u8]) {
+    let p = hollwern::read(bytes);
+    if !p.accepted {
+        println!("R {}", p.number);
+        return;
+    }
+    let h = p.header;
+    print!("{} at {}/{} {} speed {} operational {:08X}:", p.kind, h.nidc, h.nidsp, h.offset, h.speed, h.operational);
+    match p.kind {
+        62 => print!(" point {}/{} qeoj {} alignment {} status {} stopping {}", p.nidc, p.nidtp, p.qeoj, p.alignment, p.status, p.stopping),
+        65 => print!(" nidc {} atots {} date {} seconds {} counter {} status {}", p.nidc, p.atots, p.date, p.seconds, p.counter, p.status),
+        _ => print!(" state {} conditions {:03X}", p.state, p.conditions),
+    }
+    println!();
+}
+
 fn call(e: &mut Engine, event: &[u8]) {
     let mut out = [0; 4096];
     let a = e.step(event, &JOURNEY, &BOOK, &mut out);
@@ -25,12 +41,26 @@ fn call(e: &mut Engine, event: &[u8]) {
     while let Some(&number) = packets.first() {
         let (packet, rest) = packets.split_at(match number { 62 => 25, 65 => 29, _ => 19 });
         println!("{}", packet.iter().map(|byte| format!("{byte:02X}")).collect::<String>());
+        show_packet(packet);
         packets = rest;
     }
 }
 
 fn position(e: &mut Engine, offset: u32, speed: u16) {
     call(e, &[&[9, 0, 17, 0, 0, 0x01, 0xF4][..], &offset.to_be_bytes(), &speed.to_be_bytes()].concat());
+}
+
+/// A packet 68 whose other bytes are 0, then what the reader refuses.
+fn refused_packets() {
+    let mut packet = [0; 19];
+    packet[0] = 68;
+    show_packet(&packet);
+    show_packet(&packet[..18]); // a byte short: 17
+    packet[0] = 63;
+    show_packet(&packet); // another number: 18
+    packet[0] = 68;
+    packet[18] = 8;
+    show_packet(&packet); // state 8: 19
 }
 
 fn show(e: &Engine) {
@@ -52,4 +82,5 @@ fn main() {
     position(&mut e, 39_900, 50); // departed
     position(&mut e, 90_001, 50); // P6: 7002 is passed
     show(&e);
+    refused_packets();
 }

@@ -3,9 +3,9 @@
  *
  * The host keeps to this, and to nothing else:
  * - every pointer is valid, aligned and not null, also where its count is 0; behind it stand as many bytes as the count says, set to some value;
- * - during a call the engine, `out` and the lent event, journey and book are touched by nobody else, and neither engine nor `out` overlaps any of them;
+ * - during a call the engine, `out` and the lent event, journey, book and packet are touched by nobody else, and neither engine nor `out` overlaps any of them;
  * - an engine's memory is all zero before hollwern_fresh, and from then on is changed by these calls alone.
- * Everything else is refused by number: any bytes, of any length, may be lent as event, journey and book.
+ * Everything else is refused by number: any bytes, of any length, may be lent as event, journey, book and packet.
  * There is no hidden state: a host may keep several engines, copy them, and use each from its own thread. Beside memcpy nothing is linked in.
  * A call took up to 84 KB of stack (measured, not proved): provide 128. */
 #ifndef HOLLWERN_H
@@ -67,10 +67,35 @@ typedef struct {
     size_t bytes;
 } Answer;
 
+typedef struct {
+    uint16_t nidc;
+    uint32_t nidsp, offset;
+    uint16_t speed;
+    uint32_t operational;
+} Header;
+
+/* Where accepted: number 0, `kind` the packet's number, `size` its bytes, and header and fields: 62 has nidc, nidtp, qeoj (Q_EOJ_REACHED), alignment, status,
+ * stopping (data); 65 has nidc, atots, date, seconds, counter, status; 68 has state, conditions; all else 0. Where refused: the number, all else 0. */
+typedef struct {
+    bool accepted;
+    uint8_t number, kind;
+    size_t size;
+    Header header;
+    uint16_t nidc;
+    uint32_t nidtp;
+    uint8_t qeoj, alignment, status, stopping;
+    uint16_t atots, date;
+    uint32_t seconds;
+    uint8_t counter, state;
+    uint16_t conditions;
+} PacketFields;
+
 static_assert(sizeof(bool) == 1 && sizeof(size_t) == 8, "x86-64");
 static_assert(sizeof(Segment) == 56 && sizeof(Point) == 20 && sizeof(Load) == 12 && sizeof(Train) == 20, "layout");
 static_assert(offsetof(Engine, load) == 3584 && offsetof(Engine, control) == 3620 && sizeof(Engine) == 3628, "layout");
 static_assert(offsetof(Answer, request) == 3 && offsetof(Answer, bytes) == 8 && sizeof(Answer) == 16, "layout");
+static_assert(sizeof(Header) == 20 && offsetof(PacketFields, size) == 8 && offsetof(PacketFields, header) == 16, "layout");
+static_assert(offsetof(PacketFields, nidtp) == 40 && offsetof(PacketFields, conditions) == 58 && sizeof(PacketFields) == 64, "layout");
 
 /* Makes the engine fresh, whatever it was: NP, no journey, no press, no request.
  * To be called once before the first event; power off does the same. */
@@ -96,6 +121,10 @@ uint16_t hollwern_conditions(const Engine *e);
 /* Where point k of the journey in force stands, counted from 0: 0 not used, 1 targeted, 2 reached, 3 passed.
  * 0 too where the journey has no such point. */
 uint8_t hollwern_standing(const Engine *e, uint8_t k);
+
+/* Reads one packet, exactly: any bytes, of any length, are read or refused. 17: empty, or for 62, 65, 68 not 25, 29, 19 bytes;
+ * 18: another number; 19: a value out of its range. What hollwern_step wrote is read, packet by packet. */
+PacketFields hollwern_read(const uint8_t *bytes, size_t n);
 
 #ifdef __cplusplus
 }

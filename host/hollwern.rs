@@ -19,6 +19,39 @@ pub struct Answer {
     pub bytes: usize,
 }
 
+#[repr(C)]
+#[derive(Clone, Copy, PartialEq, Eq, Debug, Default)]
+pub struct Header {
+    pub nidc: u16,
+    pub nidsp: u32,
+    pub offset: u32,
+    pub speed: u16,
+    pub operational: u32,
+}
+
+/// Where accepted: `kind` (62, 65, 68), `size` in bytes, and the fields that the kind has. Where refused: the number. All else is 0.
+#[repr(C)]
+#[derive(Clone, Copy, PartialEq, Eq, Debug, Default)]
+pub struct PacketFields {
+    pub accepted: bool,
+    pub number: u8,
+    pub kind: u8,
+    pub size: usize,
+    pub header: Header,
+    pub nidc: u16,
+    pub nidtp: u32,
+    pub qeoj: u8,
+    pub alignment: u8,
+    pub status: u8,
+    pub stopping: u8,
+    pub atots: u16,
+    pub date: u16,
+    pub seconds: u32,
+    pub counter: u8,
+    pub state: u8,
+    pub conditions: u16,
+}
+
 extern "C" {
     fn hollwern_fresh(e: *mut Engine);
     fn hollwern_step(
@@ -36,6 +69,12 @@ extern "C" {
     fn hollwern_request(e: *const Engine) -> bool;
     fn hollwern_conditions(e: *const Engine) -> u16;
     fn hollwern_standing(e: *const Engine, k: u8) -> u8;
+    fn hollwern_read(bytes: *const u8, n: usize) -> PacketFields;
+}
+
+/// One packet, exactly.
+pub fn read(bytes: &[u8]) -> PacketFields {
+    unsafe { hollwern_read(bytes.as_ptr(), bytes.len()) }
 }
 
 impl Engine {
