@@ -12,9 +12,9 @@ mod sizes;
 mod values;
 mod worlds;
 
-use calls::{Call, MEMORY};
+use calls::{split_packets, Call, MEMORY};
 use faults::Profiles;
-use host::{Host, SIZE};
+use host::{read, Host, SIZE};
 use measure::{stack_of, Timer};
 use model::packets::Packet;
 use model::{Answer, Engine};
@@ -195,17 +195,23 @@ impl Bench {
         }
     }
 
-    /// Packets read by the model; the C interface has no reader.
+    /// A packet of each kind, read by the proved reader and by the model's.
     fn print_reading(&self) {
         let mut model = Engine::fresh();
         let mut out = [0; MEMORY];
-        for call in ready(&largest(), 0) {
-            call_model(&mut model, &call, &mut out).unwrap();
+        let mut written = Vec::new();
+        for call in [ready(&largest(), 0), vec![at(39, 9_000, 100)]].concat() {
+            let told = call_model(&mut model, &call, &mut out).unwrap();
+            written.extend_from_slice(&out[..told.bytes]);
         }
-        let told = call_model(&mut model, &at(39, 9_000, 100), &mut out).unwrap();
-        for packet in [&out[..25], &out[told.bytes - 19..told.bytes]] {
-            let time = self.timer.time(&(), |()| Packet::read(black_box(packet)));
-            println!("packet {} read by the model: {time:.1} ns", packet[0]);
+        println!("\n{:36} answer   proved    model   ratio", "packets read");
+        for number in [62, 65, 68] {
+            let packet = split_packets(&written).into_iter().find(|packet| packet[0] == number).unwrap();
+            assert!(read(packet).accepted && Packet::read(packet).is_ok());
+            let proved = self.timer.time(&(), |()| read(black_box(packet)));
+            let model = self.timer.time(&(), |()| Packet::read(black_box(packet)));
+            let (name, answer) = (format!("packet {number}"), format!("A {}", packet.len()));
+            println!("{name:36} {answer:>6} {proved:>8.1} {model:>8.1} {:>7.1}", proved / model);
         }
     }
 }

@@ -8,7 +8,7 @@ mod hollwern;
 use crate::calls::Call;
 use crate::model::{Answer, Engine};
 #[allow(unused_imports)]
-pub use hollwern::SIZE;
+pub use hollwern::{read, Header, PacketFields, SIZE};
 
 /// An engine that only the calls of the C interface look into.
 #[derive(Clone)]

@@ -1,5 +1,6 @@
-//! `soak STATE COUNT`: guided random lists against the model, through the C interface, until so many calls have agreed.
-//! STATE holds the lists and calls that have agreed so far; the next run goes on from there.
+//! `soak STATE COUNT`: guided random lists against the model, through the C interface, until so many calls have agreed. The packets
+//! that each call wrote are read by both readers, also cut, longer and changed.
+//! STATE holds what has agreed so far: lists, calls, packets read and refused; the next run goes on from there.
 
 mod calls;
 mod faults;
@@ -8,12 +9,14 @@ mod lists;
 mod model;
 mod pair;
 mod random;
+mod reading;
 mod values;
 mod words;
 mod worlds;
 
 use calls::Call;
 use pair::{Memory, Pair};
+use reading::{try_packets, Readings};
 
 /// The seed of list 0, far from those of `tests/run`.
 const SEED: u64 = 1_000_000_000;
@@ -26,16 +29,20 @@ const SHORT: usize = 8;
 struct Done {
     lists: u64,
     calls: u64,
+    readings: Readings,
 }
 
 fn read_state(file: &str) -> Done {
     let text = std::fs::read_to_string(file).unwrap_or_default();
     let mut numbers = text.split_whitespace().filter_map(|word| word.parse().ok());
-    Done { lists: numbers.next().unwrap_or(0), calls: numbers.next().unwrap_or(0) }
+    let mut number = || numbers.next().unwrap_or(0);
+    Done { lists: number(), calls: number(), readings: [(); 4].map(|()| number()) }
 }
 
 fn write_state(file: &str, done: Done) {
-    std::fs::write(file, format!("{} lists {} calls\n", done.lists, done.calls)).expect("the state file");
+    let [read, short, unknown, beyond] = done.readings;
+    let text = format!("{} lists {} calls {read} {short} {unknown} {beyond}\n", done.lists, done.calls);
+    std::fs::write(file, text).expect("the state file");
 }
 
 /// The vectors take just their bytes, so that a memory checker sees their ends.
@@ -44,30 +51,35 @@ fn exact(mut call: Call) -> Call {
     call
 }
 
-fn try_call(pair: &mut Pair, call: &Call, memory: &mut Memory, short: bool) -> Result<u64, String> {
-    let before = short.then(|| pair.clone());
+/// `turn` chooses whether short memory is tried, and how the packets' bytes are changed.
+fn try_call(pair: &mut Pair, call: &Call, memory: &mut Memory, turn: usize, done: &mut Done) -> Result<(), String> {
+    let before = (turn % SHORT == 0).then(|| pair.clone());
     let answer = pair.call(call, memory)?;
     if !pair.host.shows(&pair.model) {
         return Err("state, request, conditions or standings differ".into());
     }
-    match (before, answer) {
-        (Some(before), Ok(told)) => before.call_short(call, told.bytes).map(|()| 3),
-        _ => Ok(1),
+    done.calls += 1;
+    let Ok(told) = answer else { return Ok(()) };
+    if let Some(before) = before {
+        before.call_short(call, told.bytes)?;
+        done.calls += 2;
     }
+    try_packets(&memory.host[..told.bytes], 1 + (turn % 255) as u8, &mut done.readings)
 }
 
-/// How many calls a list took.
-fn try_list(number: u64, memory: &mut Memory) -> Result<u64, String> {
+/// What is done with one more list.
+fn try_list(mut done: Done, memory: &mut Memory) -> Result<Done, String> {
     let mut pair = Pair::fresh();
-    let mut calls = 0;
-    for (k, call) in lists::new_list(SEED + number).into_iter().map(exact).enumerate() {
-        let short = (k + number as usize) % SHORT == 0;
-        calls += try_call(&mut pair, &call, memory, short).map_err(|difference| {
+    let seed = SEED + done.lists;
+    for (k, call) in lists::new_list(seed).into_iter().map(exact).enumerate() {
+        let turn = k + done.lists as usize;
+        try_call(&mut pair, &call, memory, turn, &mut done).map_err(|difference| {
             let call = words::call_in_words(&call).join("\n  ");
-            format!("list of seed {}, call {k}: {difference}\n  {call}", SEED + number)
+            format!("list of seed {seed}, call {k}: {difference}\n  {call}")
         })?;
     }
-    Ok(calls)
+    done.lists += 1;
+    Ok(done)
 }
 
 fn main() {
@@ -78,8 +90,8 @@ fn main() {
     let mut memory = Memory::new();
     let mut told = done.calls;
     while done.calls < count {
-        match try_list(done.lists, &mut memory) {
-            Ok(calls) => done = Done { lists: done.lists + 1, calls: done.calls + calls },
+        match try_list(done, &mut memory) {
+            Ok(more) => done = more,
             Err(difference) => {
                 println!("{difference}");
                 std::process::exit(1);
@@ -93,4 +105,6 @@ fn main() {
     }
     write_state(file, done);
     println!("{} lists, {} calls: the proved engine and the model agree", done.lists, done.calls);
+    let [read, short, unknown, beyond] = done.readings;
+    println!("{read} strings of bytes read as packets alike, {short} refused by 17, {unknown} by 18, {beyond} by 19");
 }
