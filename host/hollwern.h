@@ -1,4 +1,4 @@
-/* The on-board ATO core for a host in C or C++ (Rust: hollwern.rs; Ada: the same names and layouts). Link target/staticlib/libhost.a, which
+/* The on-board ATO core for a host in C or C++ (Rust: hollwern.rs; Ada: hollwern.ads). Link target/staticlib/libhost.a, which
  * `rt staticlib host` writes. Each promise below is proved: crates/host/src/lib.rt has it as a contract.
  *
  * The host keeps to this, and to nothing else:

@@ -1,4 +1,4 @@
-// An engine that the host lends and keeps: the calls that C, Ada, C++ and Rust hosts link. host/hollwern.h declares them.
+// An engine that the host lends and keeps, and the packet reader: the calls that C, Ada, C++ and Rust hosts link. host/hollwern.h declares them.
 use data::Engine;
 use packets::AtoStatus;
 use packets::Header;

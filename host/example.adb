@@ -1,0 +1,98 @@
+--  A small host in Ada: powers on, drives the journey of document 01's trials, and prints each answer and each packet as it is read.
+with Ada.Text_IO; use Ada.Text_IO;
+with Hollwern;
+with Interfaces; use Interfaces;
+with Interfaces.C; use Interfaces.C;
+
+procedure Example is
+   type Bytes is array (size_t range <>) of Unsigned_8;
+   --  Segment 17/500, 100,000 long; stop 7001 at 40,000 with R 150; 7002 at 90,000, End of Journey.
+   Journey : constant Bytes :=
+     (16#1A#, 0, 0, 0, 0, 0, 0, 0, 1, 0, 17, 0, 0, 16#01#, 16#F4#, 2, 16#13#, 0, 0, 16#1B#, 16#59#, 0, 16#43#, 0, 0, 16#1B#, 16#5A#, 0);
+   Book : constant Bytes :=
+     (16#0F#, 0, 17, 0, 0, 16#01#, 16#F4#, 0, 16#01#, 16#86#, 16#A0#, 2,
+      0, 0, 16#1B#, 16#59#, 0, 0, 16#9C#, 16#40#, 0, 150, 0, 0, 16#1B#, 16#5A#, 0, 16#01#, 16#5F#, 16#90#, 0, 0);
+   E : Hollwern.Engine;
+   Output : Bytes (0 .. 4_095) := (others => 0);
+
+   function "&" (Text : String; N : size_t) return String is (Text & N'Image (2 .. N'Image'Last));
+   function "&" (Text : String; N : Unsigned_32) return String is (Text & size_t (N));
+   function "&" (Text : String; N : Unsigned_16) return String is (Text & size_t (N));
+   function "&" (Text : String; N : Unsigned_8) return String is (Text & size_t (N));
+   Symbols : constant String := "0123456789ABCDEF";
+   function Hex (N : Unsigned_32; Width : Natural) return String is
+     (if Width = 0 then "" else Hex (N / 16, Width - 1) & Symbols (Natural (N mod 16) + 1));
+
+   procedure Show_Packet (Packet : Bytes) is
+      P : constant Hollwern.Packet_Fields := Hollwern.Read (Packet'Address, Packet'Length);
+      H : Hollwern.Packet_Header renames P.Header;
+   begin
+      if not P.Accepted then
+         Put_Line ("R " & P.Number);
+         return;
+      end if;
+      Put ("" & P.Kind & " at " & H.Nidc & "/" & H.Nidsp & " " & H.Offset & " speed " & H.Speed & " operational " & Hex (H.Operational, 8));
+      case P.Kind is
+         when 62 =>
+            Put_Line (": point " & P.Nidc & "/" & P.Nidtp & " qeoj " & P.Qeoj & " alignment " & P.Alignment
+                      & " status " & P.Status & " stopping " & P.Stopping);
+         when 65 =>
+            Put_Line (": nidc " & P.Nidc & " atots " & P.Atots & " date " & P.Date & " seconds " & P.Seconds
+                      & " counter " & P.Counter & " status " & P.Status);
+         when others =>
+            Put_Line (": state " & P.State & " conditions " & Hex (Unsigned_32 (P.Conditions), 3));
+      end case;
+   end Show_Packet;
+
+   procedure Call (Event : Bytes) is
+      A : constant Hollwern.Answer := Hollwern.Step
+        (E, Event'Address, Event'Length, Journey'Address, Journey'Length, Book'Address, Book'Length, Output'Address, Output'Length);
+      First, Next : size_t := 0;
+   begin
+      if not A.Accepted then
+         Put_Line ("R " & A.Number);
+         return;
+      end if;
+      Put_Line ("A " & A.State & " " & Unsigned_8 (C_bool'Pos (A.Request)) & " " & A.Bytes);
+      while First < A.Bytes loop
+         Next := First + (case Output (First) is when 62 => 25, when 65 => 29, when others => 19);
+         for Byte of Output (First .. Next - 1) loop
+            Put (Hex (Unsigned_32 (Byte), 2));
+         end loop;
+         New_Line;
+         Show_Packet (Output (First .. Next - 1));
+         First := Next;
+      end loop;
+   end Call;
+
+   procedure Position (Offset : Unsigned_32; Speed : Unsigned_8) is
+      function Byte (N : Unsigned_32) return Unsigned_8 is (Unsigned_8 (N mod 256));
+   begin
+      Call ((9, 0, 17, 0, 0, 16#01#, 16#F4#, 0, Byte (Offset / 65_536), Byte (Offset / 256), Byte (Offset), 0, Speed));
+   end Position;
+
+   procedure Show is
+   begin
+      Put_Line ("state " & Hollwern.State (E) & " request " & Unsigned_8 (C_bool'Pos (Hollwern.Request (E)))
+                & " conditions " & Hex (Unsigned_32 (Hollwern.Conditions (E)), 3)
+                & " points " & Hollwern.Standing (E, 0) & " " & Hollwern.Standing (E, 1));
+   end Show;
+begin
+   Hollwern.Fresh (E);
+   Call ((1 => 1));           --  power on
+   Call ((1 => 1));           --  once more: refused
+   Call ((1 => 11));          --  load
+   Position (20_000, 0);
+   Call ((5, 31));            --  all reports
+   Call ((1 => 2));           --  configured: P8
+   Show;
+   Position (39_900, 0);      --  P7: the stop is reached
+   Show;
+   Position (39_900, 50);     --  departed
+   Position (90_001, 50);     --  P6: 7002 is passed
+   Show;
+   Show_Packet ((0 => 68, 1 .. 18 => 0));
+   Show_Packet ((0 => 68, 1 .. 17 => 0));              --  a byte short: 17
+   Show_Packet ((0 => 63, 1 .. 18 => 0));              --  another number: 18
+   Show_Packet ((0 => 68, 1 .. 17 => 0, 18 => 8));     --  state 8: 19
+end Example;
