@@ -4,18 +4,20 @@ use mathlib.Core.Path.{_≡_, refl, ap, ap₂, _∙_}
 use mathlib.Core.List.{List, [], _∷_}
 use mathlib.Core.Bool.{Bool, true, false, _&&_}
 use native.Mathlib.Omega.{arith}
-use lib.ListN.{getD}
+use lib.ListN.{length, getD}
 use lib.Dec.{eqb, leb}
-use borrow.Author.Tests.{eq-eqb, ne-eqb, lt-ltb, le-ltb}
+use borrow.Author.Tests.{eq-eqb, ne-eqb, lt-ltb, le-ltb, le-leb, lt-leb}
 use Rattle.data.specs.Engine.{Route, undefined, blankSegment, blankPoint, progress}
 use Rattle.data.specs.declared.Segment.{Segment}
 use Rattle.data.specs.declared.Point.{Point}
 use Rattle.data.specs.declared.Position.{Position}
 use Rattle.data.specs.declared.Progress.{Progress}
+use Rattle.wire.specs.Numbers.{if_then_else_}
 use Rattle.timing.specs.declared.Found.{Found}
+use Rattle.timing.specs.declared.Named.{Named}
 use Rattle.timing.specs.declared.Found.the-variants.{At, Nothing}
 use Rattle.timing.specs.declared.Front.the-variants.{Known, Unknown}
-use Rattle.timing.specs.Position.{segmentFrom, segmentNamed, segment, point, placed, frontIn, front}
+use Rattle.timing.specs.Position.{segmentFrom, segmentNamed, namedIn, segmentIn, segment, point, placed, frontIn, front, frontBy}
 use Rattle.timing.specs.Distance.{Report, beyond, atStop, exceeds, stopsAt}
 use Rattle.timing.specs.Load.{targetFrom}
 use Rattle.timing.specs.Standing.{following}
@@ -48,21 +50,21 @@ and-first e b = rw e
 -- ---- the two searches
 
 module _ (l : List Segment) (n i c s : ℕ) where
-  abbrev Named : Bool
-  Named = eqb (getD l i zoneless .nidc) c && eqb (getD l i zoneless .nidsp) s
+  abbrev Bears : Bool
+  Bears = eqb (getD l i zoneless .nidc) c && eqb (getD l i zoneless .nidsp) s
 
-  named-is : eqb (getD l i blankSegment .nidc) c && eqb (getD l i blankSegment .nidsp) s ≡ Named
+  named-is : eqb (getD l i blankSegment .nidc) c && eqb (getD l i blankSegment .nidsp) s ≡ Bears
   named-is = ap₂ (λ x y. eqb x c && eqb y s) (getD-field (λ x. x .nidc) l i blankSegment zoneless refl) (getD-field (λ x. x .nidsp) l i blankSegment zoneless refl)
 
   pub segment-none : n ≤ i → segmentFrom l (n - i) i c s ≡ Nothing
   unfolding segmentFrom
   segment-none h = rw (left-none n i h)
 
-  pub segment-hit : i < n → Named ≡ true → segmentFrom l (n - i) i c s ≡ At i
+  pub segment-hit : i < n → Bears ≡ true → segmentFrom l (n - i) i c s ≡ At i
   unfolding segmentFrom
   segment-hit h t = rw (left-more n i h, named-is ∙ t)
 
-  pub segment-miss : i < n → Named ≡ false → segmentFrom l (n - i) i c s ≡ segmentFrom l (n - (i + 1)) (i + 1) c s
+  pub segment-miss : i < n → Bears ≡ false → segmentFrom l (n - i) i c s ≡ segmentFrom l (n - (i + 1)) (i + 1) c s
   unfolding segmentFrom
   segment-miss h t = rw (left-more n i h, named-is ∙ t)
 
@@ -82,31 +84,40 @@ module _ (l : List Point) (n i t : ℕ) where
   unfolding stopFrom
   stop-miss h e = rw (left-more n i h, e)
 
+-- an element that is there is the same whatever stands for one that is not
+pub getD-there : {A : Type 0} (l : List A) (k : ℕ) (d e : A) → k < length l → getD l k d ≡ getD l k e
+getD-there [] k d e h = absurd (omega arith)
+getD-there (x ∷ xs) zero d e h = refl
+getD-there (x ∷ xs) (suc k) d e h = getD-there xs k d e (omega arith)
+
 -- ---- the front
 
-module _ (j : Route) (x : Position) where
-  pub front-undefined : x .offset ≡ undefined → front j x ≡ Unknown
-  unfolding front
-  front-undefined h = rw (eq-eqb _ _ h)
+module _ (s : Named) (x : Position) where
+  pub by-undefined : x .offset ≡ undefined → frontBy s x ≡ Unknown
+  by-undefined h = rw (eq-eqb _ _ h)
 
-  pub front-by : (x .offset ≡ undefined → ⊥) → (o : Found) → segmentNamed j x ≡ o → front j x ≡ frontIn j x o
-  unfolding front
-  front-by h o e = rw (ne-eqb _ _ h, e)
+  module _ (h : x .offset ≡ undefined → ⊥) where
+    pub by-missing : s .found ≡ false → frontBy s x ≡ Unknown
+    by-missing f = rw (ne-eqb _ _ h, f)
 
-  module _ (k : ℕ) where
-    abbrev Within : Bool
-    Within = getD (j .segments) k zoneless .placed && leb (x .offset) (getD (j .segments) k zoneless .length)
+    module _ (f : s .found ≡ true) where
+      pub by-unplaced : s .segment .placed ≡ false → frontBy s x ≡ Unknown
+      by-unplaced p = rw (ne-eqb _ _ h, f, p)
 
-    within-is : segment j k .placed && leb (x .offset) (segment j k .length) ≡ Within
-    within-is = ap₂ (λ p l. p && leb (x .offset) l) (getD-field (λ s. s .placed) (j .segments) k blankSegment zoneless refl) (getD-field (λ s. s .length) (j .segments) k blankSegment zoneless refl)
+      pub by-past : s .segment .placed ≡ true → s .segment .length < x .offset → frontBy s x ≡ Unknown
+      by-past p l = rw (ne-eqb _ _ h, f, p, lt-leb (x .offset) (s .segment .length) l)
 
-    pub front-within : Within ≡ true → frontIn j x (At k) ≡ Known (getD (j .segments) k zoneless .start + x .offset)
-    unfolding frontIn
-    front-within e = rw (within-is ∙ e) (ap (λ n. Known (n + x .offset)) (getD-field (λ s. s .start) (j .segments) k blankSegment zoneless refl))
+      pub by-within : s .segment .placed ≡ true → x .offset ≤ s .segment .length → frontBy s x ≡ Known (s .segment .start + x .offset)
+      by-within p l = rw (ne-eqb _ _ h, f, p, le-leb (x .offset) (s .segment .length) l)
 
-    pub front-beyond : Within ≡ false → frontIn j x (At k) ≡ Unknown
-    unfolding frontIn
-    front-beyond e = rw (within-is ∙ e)
+-- the front by the segment that the position names is the front
+pub front-named : (j : Route) (x : Position) → frontBy (segmentIn j x) x ≡ front j x
+unfolding front frontIn
+front-named j x = rw (within (segmentNamed j x))
+  where
+    within : (f : Found) → (if namedIn (j .segments) f .found && (namedIn (j .segments) f .segment .placed && leb (x .offset) (namedIn (j .segments) f .segment .length)) then Known (namedIn (j .segments) f .segment .start + x .offset) else Unknown) ≡ frontIn j x f
+    within Nothing = refl
+    within (At k) = refl
 
 -- ---- points, one at a time, with the front known
 
@@ -168,17 +179,17 @@ look-unknown j r at (suc n) k = rw at
 
 -- ---- a report, by where the first point not passed stands
 
-module _ (j : Route) (r : Report) (p : Progress) where
-  pub report-stays : p .reached ≡ true → r .position .speed ≡ 0 → reportOf j r p ≡ record { progress = p; from = p .next; departed = false; reached = false }
+module _ (j : Route) (r : Report) (p : Progress) (g : Named) (m : g ≡ segmentIn j (r .position)) where
+  pub report-stays : p .reached ≡ true → r .position .speed ≡ 0 → record { segment = g; progress = p; from = p .next; departed = false; reached = false } ≡ reportOf j r p
   unfolding reported
-  report-stays h v = rw (h, le-ltb 0 (r .position .speed) (omega arith))
+  report-stays h v = rw (m, h, le-ltb 0 (r .position .speed) (omega arith))
 
   pub report-departs : p .reached ≡ true → (r .position .speed ≡ 0 → ⊥) → (k : ℕ) → k ≡ following (p .next) → (q : Progress) → q ≡ lookedFrom j r k
-      → record { progress = q; from = k; departed = true; reached = q .reached } ≡ reportOf j r p
+      → record { segment = g; progress = q; from = k; departed = true; reached = q .reached } ≡ reportOf j r p
   unfolding reported
-  report-departs h v k e q l = rw (h, lt-ltb 0 (r .position .speed) (omega (arith, v)), l, e)
+  report-departs h v k e q l = rw (m, h, lt-ltb 0 (r .position .speed) (omega (arith, v)), l, e)
 
   pub report-looks : p .reached ≡ false → (q : Progress) → q ≡ lookedFrom j r (p .next)
-      → record { progress = q; from = p .next; departed = false; reached = q .reached } ≡ reportOf j r p
+      → record { segment = g; progress = q; from = p .next; departed = false; reached = q .reached } ≡ reportOf j r p
   unfolding reported
-  report-looks h q l = rw (h, l)
+  report-looks h q l = rw (m, h, l)

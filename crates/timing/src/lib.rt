@@ -1,13 +1,15 @@
 // Timing points: where the train's front is, which points pass, and where each point stands.
 use data::Engine;
 use data::Point;
+use data::Position;
 use data::Progress;
+use data::Segment;
 ghost use mathlib.Core.Path.{_≡_};
 ghost use Prim.Native.Nat.{_<_, _^_, min};
 ghost use lib.IntN.{pos, negℤ};
 ghost use lib.Signed.{ltZ, leZ};
 ghost use Rattle.data.specs.Engine.{routeIn};
-ghost use Rattle.timing.specs.Position.{pointCount, segmentNamed, front, IndexBelow, FrontBelow};
+ghost use Rattle.timing.specs.Position.{pointCount, segmentIn, front, frontBy, IndexBelow, FrontBelow};
 ghost use Rattle.timing.specs.Distance.{reportIn, back, distance, unskipped, margin, exceeds, stopsAt};
 ghost use Rattle.timing.specs.Standing.{standing, standingCode, following};
 ghost use Rattle.timing.specs.Load.{target};
@@ -18,6 +20,12 @@ ghost use Rattle.timing.specs.Skips.{stopNamed};
 pub enum Found {
     At(usize),
     Nothing,
+}
+
+// The journey segment of a name; blank where there is none.
+pub struct Named {
+    pub found: bool,
+    pub segment: Segment,
 }
 
 // Where the train's front is, from the journey's start.
@@ -34,9 +42,10 @@ pub enum Standing {
     Passed,
 }
 
-// What a position report brings: the progress after it, the first point looked at, whether one departed before that, and whether
-// one became reached. Points from `from` to the new `next`, without it, are passed.
+// What a position report brings: the segment that it names, the progress after it, the first point looked at, whether one departed before
+// that, and whether one became reached. Points from `from` to the new `next`, without it, are passed.
 pub struct Reported {
+    pub segment: Named,
     pub progress: Progress,
     pub from: u8,
     pub departed: bool,
@@ -59,39 +68,56 @@ fn wide(x: u32) -> u64
 }
 
 // The journey segment that the train's position names.
-pub fn find_segment(e: Engine) -> Found
-    ensures { λ r. ⌜ (r ≡ segmentNamed (routeIn e) (e .train .position)) × IndexBelow 40 r ⌝ }
+pub fn segment_named(e: Engine) -> Named
+    ensures { λ r. ⌜ r ≡ segmentIn (routeIn e) (e .train .position) ⌝ }
 {
     let nidc = e.train.position.nidc;
     let nidsp = e.train.position.nidsp;
+    let segments = e.segments;
     let n = at_most(e.load.segmentcount, 40) as usize;
     let mut i: usize = 0;
     while i < n {
-        let s = e.segments[i];
+        let s = segments[i];
         if s.nidc == nidc && s.nidsp == nidsp {
-            return Found::At(i);
+            return Named {
+                found: true,
+                segment: s,
+            };
         }
         i += 1;
     }
-    Found::Nothing
+    let none = data::blank_segment();
+    Named {
+        found: false,
+        segment: none,
+    }
+}
+
+// Where the front is, if the position is known: by the segment that it names.
+pub fn front_in(s: Named, x: Position) -> Front
+    ensures { λ r. ⌜ (r ≡ frontBy s x) × FrontBelow (2 ^ 33) r ⌝ }
+{
+    if x.offset == 16777215 {
+        return Front::Unknown;
+    }
+    if !s.found {
+        return Front::Unknown;
+    }
+    if !s.segment.placed {
+        return Front::Unknown;
+    }
+    if s.segment.length < x.offset {
+        return Front::Unknown;
+    }
+    Front::Known(wide(s.segment.start) + wide(x.offset))
 }
 
 // Where the front is, if the position is known.
 pub fn front_position(e: Engine) -> Front
     ensures { λ r. ⌜ (r ≡ front (routeIn e) (e .train .position)) × FrontBelow (2 ^ 33) r ⌝ }
 {
-    let offset = e.train.position.offset;
-    if offset == 16777215 {
-        return Front::Unknown;
-    }
-    let Found::At(k) = find_segment(e) else {
-        return Front::Unknown;
-    };
-    let s = e.segments[k];
-    if s.placed && offset <= s.length {
-        return Front::Known(wide(s.start) + wide(offset));
-    }
-    Front::Unknown
+    let s = segment_named(e);
+    front_in(s, e.train.position)
 }
 
 // ---- d and margin
@@ -188,20 +214,20 @@ fn look(e: Engine, at: u64, from: u8) -> Progress
     requires { ⌜ (front (routeIn e) (e .train .position) ≡ Front.Known at) × (at < 2 ^ 33) ⌝ }
     ensures { λ r. ⌜ r ≡ lookedFrom (routeIn e) (reportIn e) from ⌝ }
 {
-    let length = e.train.length;
-    let speed = e.train.position.speed;
+    let points = e.points;
+    let skips = e.skips;
     let count = at_most(e.load.pointcount, 64);
     let mut next = from;
     let mut reached = false;
     'points: while next < count {
         let k = next as usize;
-        let point = e.points[k];
-        let driver = e.skips[k];
+        let point = points[k];
+        let driver = skips[k];
         if !point.placed {
             break 'points;
         }
-        if !exceeds(at, length, point, driver) {
-            reached = stops_at(at, length, speed, point, driver);
+        if !exceeds(at, e.train.length, point, driver) {
+            reached = stops_at(at, e.train.length, e.train.position.speed, point, driver);
             break 'points;
         }
         next += 1;
@@ -213,11 +239,12 @@ fn look(e: Engine, at: u64, from: u8) -> Progress
 }
 
 // (b)
-fn look_from(e: Engine, from: u8) -> Progress
+fn look_from(e: Engine, f: Front, from: u8) -> Progress
+    requires { ⌜ (f ≡ front (routeIn e) (e .train .position)) × FrontBelow (2 ^ 33) f ⌝ }
     ensures { λ r. ⌜ r ≡ lookedFrom (routeIn e) (reportIn e) from ⌝ }
 {
-    match front_position(e) {
-        Front::Known(f) => look(e, f, from),
+    match f {
+        Front::Known(at) => look(e, at, from),
         Front::Unknown => Progress {
             next: from,
             reached: false,
@@ -236,11 +263,13 @@ fn following(k: u8) -> u8
 pub fn report(e: Engine) -> Reported
     ensures { λ r. ⌜ r ≡ reportOf (routeIn e) (reportIn e) (e .progress) ⌝ }
 {
+    let segment = segment_named(e);
     let before = e.progress;
     let next = before.next;
     if before.reached {
         if e.train.position.speed == 0 {
             return Reported {
+                segment: segment,
                 progress: before,
                 from: next,
                 departed: false,
@@ -248,16 +277,18 @@ pub fn report(e: Engine) -> Reported
             };
         }
         let from = following(next);
-        let progress = look_from(e, from);
+        let progress = look_from(e, front_in(segment, e.train.position), from);
         return Reported {
+            segment: segment,
             progress: progress,
             from: from,
             departed: true,
             reached: progress.reached,
         };
     }
-    let progress = look_from(e, next);
+    let progress = look_from(e, front_in(segment, e.train.position), next);
     Reported {
+        segment: segment,
         progress: progress,
         from: next,
         departed: false,

@@ -13,17 +13,17 @@ use Rattle.timing.proofs.look.Tie as tie
 
 -- what is left to look at from `next` on gives the whole answer
 abbrev Inv-points : tie.InvT-points
-Inv-points at from e length speed count next₀ reached₀ next reached =
+Inv-points e at from points skips count next₀ reached₀ next reached =
     (reached ≡ false) × (looked (routeIn e) (reportIn e) (count - next) next ≡ lookedFrom (routeIn e) (reportIn e) from)
 
 abbrev μ-points : tie.MeasureT-points
-μ-points at from e length speed count next₀ reached₀ next reached = count - next
+μ-points e at from points skips count next₀ reached₀ next reached = count - next
 
 at-most-requires : tie.Need-at-most-requires Inv-points μ-points
 at-most-requires c κs = search needs
 
 points-holds : tie.Need-points-holds Inv-points μ-points
-points-holds c = (refl, ap (λ m. looked (routeIn (c .before .args .t1)) (reportIn (c .before .args .t1)) (m - c .before .args .from) (c .before .args .from)) (c .at-most .ensures))
+points-holds c = (refl, ap (λ m. looked (routeIn (c .before .before .before .args .e)) (reportIn (c .before .before .before .args .e)) (m - c .before .before .before .args .from) (c .before .before .before .args .from)) (c .at-most .ensures))
 
 cast-k : tie.Need-cast-k Inv-points μ-points
 cast-k c = search needs
@@ -31,11 +31,11 @@ cast-k c = search needs
 mul-point : tie.Need-mul-point Inv-points μ-points
 mul-point c = omega arith
 
-element-copy-out-point : tie.Need-element-copy-out-point Inv-points μ-points
-element-copy-out-point c = omega arith
+array-copy-out-point : tie.Need-array-copy-out-point Inv-points μ-points
+array-copy-out-point c = omega arith
 
-element-copy-out-driver : tie.Need-element-copy-out-driver Inv-points μ-points
-element-copy-out-driver c = omega arith
+array-read-driver : tie.Need-array-read-driver Inv-points μ-points
+array-read-driver c = omega arith
 
 exceeds-requires : tie.Need-exceeds-requires Inv-points μ-points
 exceeds-requires c κs = search needs
@@ -50,23 +50,23 @@ points-less : tie.Need-points-less Inv-points μ-points
 points-less c = omega arith
 
 points-again : tie.Need-points-again Inv-points μ-points
-points-again c = let s = c .before .before .before .before .before .before .before in
-    let a = s .before .before in
-    (s .points .inv .0, sym (look-more _ _ (a .args .at) (a .pre .0) (s .before .at-most .result) (s .points .next) (c .before .before .before .before .before .before .points-test .taken) (not-false _ (c .before .before .if1 .left)) (sym (c .before .exceeds .ensures) ∙ not-false _ (c .if2 .left))) ∙ s .points .inv .1)
+points-again c = let s = c .before .before .before .before .before .before in
+    let a = s .before .before .before .before in
+    (s .points .inv .0, sym (look-more _ _ (a .args .at) (a .pre .0) (s .before .at-most .result) (s .points .next) (c .before .before .before .before .before .points-test .taken) (not-false _ (c .before .before .if1 .left)) (sym (c .before .exceeds .ensures) ∙ not-false _ (c .if2 .left))) ∙ s .points .inv .1)
 
 returns : tie.Need-returns Inv-points μ-points
 returns c = let s = c .before in
     ap (progress (s .points .next)) (s .points .inv .0) ∙ sym (look-none _ _ _ _ (c .points-test .left)) ∙ s .points .inv .1
 
 returns-2 : tie.Need-returns-2 Inv-points μ-points
-returns-2 c = let s = c .before .before .before .before .before in
-    let a = s .before .before in
-    ap (progress (s .points .next)) (s .points .inv .0) ∙ sym (look-unplaced _ _ (a .args .at) (a .pre .0) _ _ (c .before .before .before .before .points-test .taken) (not-true _ (c .if1 .taken))) ∙ s .points .inv .1
+returns-2 c = let s = c .before .before .before .before in
+    let a = s .before .before .before .before in
+    ap (progress (s .points .next)) (s .points .inv .0) ∙ sym (look-unplaced _ _ (a .args .at) (a .pre .0) _ _ (c .before .before .before .points-test .taken) (not-true _ (c .if1 .taken))) ∙ s .points .inv .1
 
 returns-3 : tie.Need-returns-3 Inv-points μ-points
-returns-3 c = let s = c .before .before .before .before .before .before .before .before in
-    let a = s .before .before in
-    ap (progress (s .points .next)) (c .stops-at .ensures) ∙ sym (look-ends _ _ (a .args .at) (a .pre .0) _ _ (c .before .before .before .before .before .before .before .points-test .taken) (not-false _ (c .before .before .before .if1 .left)) (sym (c .before .before .exceeds .ensures) ∙ not-true _ (c .before .if2 .taken))) ∙ s .points .inv .1
+returns-3 c = let s = c .before .before .before .before .before .before .before in
+    let a = s .before .before .before .before in
+    ap (progress (s .points .next)) (c .stops-at .ensures) ∙ sym (look-ends _ _ (a .args .at) (a .pre .0) _ _ (c .before .before .before .before .before .before .points-test .taken) (not-false _ (c .before .before .before .if1 .left)) (sym (c .before .before .exceeds .ensures) ∙ not-true _ (c .before .if2 .taken))) ∙ s .points .inv .1
 
 pub look-spec : {M : Type 1} → statement M
 look-spec =
@@ -78,8 +78,8 @@ look-spec =
     points-holds
     cast-k
     mul-point
-    element-copy-out-point
-    element-copy-out-driver
+    array-copy-out-point
+    array-read-driver
     exceeds-requires
     stops-at-requires
     add-next

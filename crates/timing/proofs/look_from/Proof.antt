@@ -5,14 +5,12 @@ use borrow.Author.Needs.{needs}
 use Rattle.timing.proofs.look_from.Statement.{statement}
 use Rattle.timing.proofs.look_from.Tie as tie
 
-front-position-requires : tie.Need-front-position-requires
-front-position-requires c κs = search needs
-
 enum-known-f : tie.Need-enum-known-f
 enum-known-f c = search needs
 
 look-requires : tie.Need-look-requires
-look-requires c κs = (sym (c .before .before .before .front-position .ensures .0) ∙ c .before .f .given .1, subst (FrontBelow _) (c .before .f .given .1) (c .before .before .before .front-position .ensures .1))
+look-requires c κs = let b = c .before .before .before in
+    (sym (b .pre .0) ∙ c .before .f .given .1, subst (FrontBelow _) (c .before .f .given .1) (b .pre .1))
 
 enum-told : tie.Need-enum-told
 enum-told c = search needs
@@ -21,9 +19,7 @@ returns : tie.Need-returns
 returns c = search needs
 
 returns-2 : tie.Need-returns-2
-returns-2 c = sym (look-unknown _ _ (sym (c .before .before .front-position .ensures .0) ∙ c .enum-told .given .1) _ _)
+returns-2 c = sym (look-unknown _ _ (sym (c .before .before .pre .0) ∙ c .enum-told .given .1) _ _)
 
 pub look-from-spec : {M : Type 1} → statement M
-look-from-spec =
-    tie.close
-    (tie.spec front-position-requires enum-known-f look-requires enum-told returns returns-2)
+look-from-spec = tie.close (tie.spec enum-known-f look-requires enum-told returns returns-2)

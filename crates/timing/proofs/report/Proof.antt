@@ -1,34 +1,52 @@
-use mathlib.Core.Path.{sym}
-use Rattle.timing.proofs.Laws.{report-stays, report-departs, report-looks}
+use mathlib.Core.Path.{ap, _∙_}
+use Rattle.timing.specs.Position.{frontBy}
+use Rattle.timing.proofs.Laws.{front-named, report-stays, report-departs, report-looks}
 use borrow.Author.Needs.{needs}
 use Rattle.timing.proofs.report.Statement.{statement}
 use Rattle.timing.proofs.report.Tie as tie
 
+segment-named-requires : tie.Need-segment-named-requires
+segment-named-requires c κs = search needs
+
 returns : tie.Need-returns
-returns c = sym (report-stays _ _ _ (c .before .before .if1 .taken) (c .if2 .taken))
+returns c = let g = c .before .before .before .before .segment-named in
+    report-stays _ _ _ (g .result) (g .ensures) (c .before .before .if1 .taken) (c .if2 .taken)
 
 following-requires : tie.Need-following-requires
 following-requires c κs = search needs
 
+front-in-requires : tie.Need-front-in-requires
+front-in-requires c κs = search needs
+
 look-from-requires : tie.Need-look-from-requires
-look-from-requires c κs = search needs
+look-from-requires c κs = let s = c .before .before .before .before .before .before in
+    (c .front-in .ensures .0 ∙ ap (λ g. frontBy g (s .before .args .e .train .position)) (s .segment-named .ensures) ∙ front-named _ _, c .front-in .ensures .1)
 
 returns-2 : tie.Need-returns-2
-returns-2 c = report-departs _ _ _ (c .before .before .before .before .if1 .taken) (c .before .before .if2 .left) _ (c .before .following .ensures) _ (c .look-from .ensures)
+returns-2 c = let s = c .before .before .before in let g = s .before .before .before .before .segment-named in
+    report-departs _ _ _ (g .result) (g .ensures) (s .before .before .if1 .taken) (s .if2 .left) _ (c .before .before .following .ensures) _ (c .look-from .ensures)
+
+front-in-requires-2 : tie.Need-front-in-requires-2
+front-in-requires-2 c κs = search needs
 
 look-from-requires-2 : tie.Need-look-from-requires-2
-look-from-requires-2 c κs = search needs
+look-from-requires-2 c κs = let s = c .before .before .before in
+    (c .front-in2 .ensures .0 ∙ ap (λ g. frontBy g (s .before .args .e .train .position)) (s .segment-named .ensures) ∙ front-named _ _, c .front-in2 .ensures .1)
 
 returns-3 : tie.Need-returns-3
-returns-3 c = report-looks _ _ _ (c .before .if1 .left) _ (c .look-from2 .ensures)
+returns-3 c = let g = c .before .before .before .before .segment-named in
+    report-looks _ _ _ (g .result) (g .ensures) (c .before .before .if1 .left) _ (c .look-from2 .ensures)
 
 pub report-spec : {M : Type 1} → statement M
 report-spec =
     tie.close
     (tie.spec
+    segment-named-requires
     returns
     following-requires
+    front-in-requires
     look-from-requires
     returns-2
+    front-in-requires-2
     look-from-requires-2
     returns-3)
