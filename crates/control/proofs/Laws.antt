@@ -7,20 +7,21 @@ use native.Mathlib.Omega.{arith}
 use native.Mathlib.Numerals.{add-one}
 use lib.ListN.{getD}
 use lib.Dec.{eqb, ltb, leb}
-use borrow.Author.Tests.{lt-ltb, le-ltb, le-leb, lt-leb, eq-eqb, ne-eqb, ltb-true, ltb-false}
+use borrow.Author.Tests.{lt-ltb, le-ltb, le-leb, lt-leb, eq-eqb, ne-eqb, ltb-true, ltb-false, leb-true, leb-false}
 use types.Run.{OneOf, miss}
 use denote.Enum.Declared.{tagOf}
 use Rattle.wire.specs.Numbers.{flag, if_then_else_}
-use Rattle.data.specs.Engine.{Route, undefined, blankZone, blankSegment}
+use Rattle.data.specs.Engine.{Route, undefined, blankZone}
 use Rattle.data.specs.declared.Control.{Control}
+use Rattle.data.specs.declared.Load as group
 use Rattle.data.specs.declared.Zone.{Zone}
 use Rattle.data.specs.declared.Position.{Position}
 use Rattle.data.specs.declared.Progress.{Progress}
-use Rattle.timing.specs.Position.{segmentNamed, pointCount, placed}
-use Rattle.timing.proofs.Laws.{getD-field, zoneless}
+use Rattle.timing.specs.Position.{segment, segmentNamed, segmentIn, pointCount, placed}
 use Rattle.timing.specs.Standing.{standing, isPassed, behind}
 use Rattle.timing.specs.declared.Found.{Found}
 use Rattle.timing.specs.declared.Found.the-variants.{At, Nothing}
+use Rattle.timing.specs.declared.Named.{Named}
 use Rattle.timing.specs.declared.Standing.{Standing}
 use Rattle.timing.specs.declared.Standing.the-variants.{Targeted, Reached}
 use Rattle.event.proofs.Event
@@ -29,9 +30,11 @@ use Rattle.event.specs.declared.Event.the-variants.{PowerOn, Configured, PowerO
 use Rattle.control.specs.Codes.{code, is, isAD}
 use Rattle.control.specs.Conditions.{etcsFulfilled, noEmergencyBrake, noInconsistency, dataValid, located, outsideZones, conditions}
 use Rattle.control.specs.Conditions.{endAhead, lastAhead, firstAhead, profilesThere, tooFar, countsIn, counts, inZones, outsideIn}
+use Rattle.control.specs.Conditions.{wordOf, bare, locatedBy, insideBy, viewBy, viewIn, conditionsBy}
 use Rattle.control.specs.States.{machine, N, U, fromRE, byState, settled, given}
 use Rattle.control.specs.declared.Values.{Values}
 use Rattle.control.specs.declared.Machine.{Machine}
+use Rattle.control.specs.declared.View.{View}
 use Rattle.control.specs.Settled.{controlOf}
 use Rattle.control.specs.declared.State.the-variants.{RE}
 
@@ -110,35 +113,61 @@ module _ (j : Route) (p : Progress) (v : j .load .valid ≡ true) where
   pub last-is : (k : ℕ) → k ≡ pointCount j - 1 → not (ltb k (p .next)) ≡ lastAhead j (standing p)
   last-is k e = rw (v, passed-is p (pointCount j - 1), e)
 
-  pub none-left : pointCount j ≤ p .next → true ≡ profilesThere j (standing p)
-  none-left h =
-      let e : firstAhead (standing p) (pointCount j) 0 ≡ pointCount j = first-ahead p (pointCount j) 0 (omega arith) ∙ omega arith in
-      rw (v, e, le-leb (pointCount j) (pointCount j) (omega arith))
+-- "first point not passed is placed, or none is left"
+pub profiles-next : (j : Route) (p : Progress) → j .load .valid && (leb (pointCount j) (p .next) || placed j (p .next)) ≡ profilesThere j (standing p)
+profiles-next j p = go _ refl
+  where
+    go : (b : Bool) → leb (pointCount j) (p .next) ≡ b → j .load .valid && (leb (pointCount j) (p .next) || placed j (p .next)) ≡ profilesThere j (standing p)
+    go true q =
+        let h : pointCount j ≤ p .next = leb-true _ _ q in
+        let e : firstAhead (standing p) (pointCount j) 0 ≡ pointCount j = first-ahead p (pointCount j) 0 (omega arith) ∙ omega arith in
+        rw (q, e, le-leb (pointCount j) (pointCount j) (omega arith))
+    go false q =
+        let h : p .next < pointCount j = leb-false _ _ q in
+        let e : firstAhead (standing p) (pointCount j) 0 ≡ p .next = first-ahead p (pointCount j) 0 (omega arith) ∙ omega arith in
+        rw (q, e, q)
 
-  pub next-placed : p .next < pointCount j → placed j (p .next) ≡ profilesThere j (standing p)
-  next-placed h =
-      let e : firstAhead (standing p) (pointCount j) 0 ≡ p .next = first-ahead p (pointCount j) 0 (omega arith) ∙ omega arith in
-      rw (v, e, lt-leb (pointCount j) (p .next) h)
+module _ (l : group.Load) (p : Progress) (b : Bool) (v : l .valid ≡ true) (n : ℕ) (m : n ≡ pointCount (bare l)) where
+  pub none-left : n ≤ p .next → true ≡ (l .valid && (leb (pointCount (bare l)) (p .next) || b))
+  none-left h = rw (v, le-leb (pointCount (bare l)) (p .next) (omega arith))
 
--- ---- the segment in which the offset counts
+  pub one-left : p .next < n → b ≡ (l .valid && (leb (pointCount (bare l)) (p .next) || b))
+  one-left h = rw (v, lt-leb (pointCount (bare l)) (p .next) (omega arith))
 
-module _ (j : Route) (x : Position) where
-  pub counts-undefined : x .offset ≡ undefined → counts j x ≡ Nothing
-  unfolding counts
-  counts-undefined h = rw (eq-eqb _ _ h)
+-- ---- what the conditions look up
 
-  pub counts-by : (x .offset ≡ undefined → ⊥) → (f : Found) → segmentNamed j x ≡ f → counts j x ≡ countsIn j x f
-  unfolding counts
-  counts-by h f e = rw (ne-eqb _ _ h, e)
+module _ (s : Named) (x : Position) where
+  pub located-undefined : x .offset ≡ undefined → locatedBy s x ≡ false
+  located-undefined h = rw (eq-eqb _ _ h)
 
-  pub counts-at : (k : ℕ) (b : Bool) → tooFar x (getD (j .segments) k zoneless) ≡ b → countsIn j x (At k) ≡ (if b then Nothing else At k)
-  unfolding countsIn
-  counts-at k b e = rw (getD-field (tooFar x) (j .segments) k blankSegment zoneless refl ∙ e)
+  pub located-missing : (x .offset ≡ undefined → ⊥) → s .found ≡ false → locatedBy s x ≡ false
+  located-missing h f = rw (ne-eqb _ _ h, f)
 
-  pub outside-at : (k : ℕ) (b : Bool) → b ≡ inZones (getD (j .segments) k zoneless .zones) (min (getD (j .segments) k zoneless .zonecount) 4) (x .offset)
-      → not b ≡ outsideIn j x (At k)
-  unfolding outsideIn inZones
-  outside-at k b e = ap not (e ∙ sym (getD-field (λ s. inZones (s .zones) (min (s .zonecount) 4) (x .offset)) (j .segments) k blankSegment zoneless refl))
+  pub located-found : (x .offset ≡ undefined → ⊥) → s .found ≡ true → (b : Bool) → b ≡ tooFar x (s .segment) → not b ≡ locatedBy s x
+  located-found h f b e = rw (ne-eqb _ _ h, f, e)
+
+  pub view-outside : (placed : Bool) → locatedBy s x ≡ false → record { located = false; outside = true; placed = placed } ≡ viewBy s x placed
+  view-outside placed e = rw e
+
+  pub view-inside : (placed b : Bool) → locatedBy s x ≡ true → b ≡ insideBy s x → record { located = true; outside = not b; placed = placed } ≡ viewBy s x placed
+  view-inside placed b e i = rw (e, i)
+
+-- by the segment that the position names they are those of the journey
+pub view-is : (j : Route) (x : Position) (p : Progress) → viewBy (segmentIn j x) x (placed j (p .next)) ≡ viewIn j x p
+unfolding counts countsIn outsideIn
+view-is j x p = go (eqb (x .offset) undefined) refl (segmentNamed j x) refl
+  where
+    Same : Type 0
+    Same = viewBy (segmentIn j x) x (placed j (p .next)) ≡ viewIn j x p
+
+    at : eqb (x .offset) undefined ≡ false → (k : ℕ) → segmentNamed j x ≡ At k → (t : Bool) → tooFar x (segment j k) ≡ t → Same
+    at q k r true e = rw (q, r, e)
+    at q k r false e = rw (q, r, e)
+
+    go : (b : Bool) → eqb (x .offset) undefined ≡ b → (f : Found) → segmentNamed j x ≡ f → Same
+    go true q f r = rw q
+    go false q Nothing r = rw (q, r)
+    go false q (At k) r = at q k r (tooFar x (segment j k)) refl
 
 -- ---- the zones
 
@@ -154,15 +183,19 @@ control-is c v m k q e f = rw (e, f)
 
 -- ---- the nine as a number
 
-module _ (j : Route) (reports : ℕ) (x : Position) (standing : ℕ → Standing) where
-  pub word-is : (c0 c1 c2 c3 c4 c5 c6 c7 c8 : ℕ) → c0 ≡ flag (etcsFulfilled reports) → c1 ≡ flag (noEmergencyBrake reports) → c2 ≡ flag (endAhead j standing)
-      → c3 ≡ flag (lastAhead j standing) → c4 ≡ flag (profilesThere j standing) → c5 ≡ flag (noInconsistency reports) → c6 ≡ flag (located j x)
-      → c7 ≡ flag (outsideZones j x) → c8 ≡ flag (dataValid reports)
-      → c0 + 2 * c1 + 4 * c2 + 8 * c3 + 16 * c4 + 32 * c5 + 64 * c6 + 128 * c7 + 256 * c8 ≡ conditions j reports x standing
-  unfolding conditions
-  word-is c0 c1 c2 c3 c4 c5 c6 c7 c8 e0 e1 e2 e3 e4 e5 e6 e7 e8 = rw (e0, e1, e2, e3, e4, e5, e6, e7, e8) (sum _ _ _ _ _ _ _ _ _)
-    where
-      sum : (f0 f1 f2 f3 f4 f5 f6 f7 f8 : ℕ)
-          → f0 + 2 * f1 + 4 * f2 + 8 * f3 + 16 * f4 + 32 * f5 + 64 * f6 + 128 * f7 + 256 * f8
-          ≡ f0 + 2 * (f1 + 2 * (f2 + 2 * (f3 + 2 * (f4 + 2 * (f5 + 2 * (f6 + 2 * (f7 + 2 * (f8 + 2 * 0))))))))
-      sum f0 f1 f2 f3 f4 f5 f6 f7 f8 = omega arith
+pub word-is : (l : group.Load) (reports : ℕ) (w : View) (p : Progress) (c0 c1 c2 c3 c4 c5 c6 c7 c8 : ℕ) → c0 ≡ flag (etcsFulfilled reports) → c1 ≡ flag (noEmergencyBrake reports)
+    → c2 ≡ flag (endAhead (bare l) (standing p)) → c3 ≡ flag (lastAhead (bare l) (standing p)) → c4 ≡ flag (l .valid && (leb (pointCount (bare l)) (p .next) || w .placed))
+    → c5 ≡ flag (noInconsistency reports) → c6 ≡ flag (w .located) → c7 ≡ flag (w .outside) → c8 ≡ flag (dataValid reports)
+    → c0 + 2 * c1 + 4 * c2 + 8 * c3 + 16 * c4 + 32 * c5 + 64 * c6 + 128 * c7 + 256 * c8 ≡ conditionsBy l reports w p
+unfolding conditionsBy
+word-is l reports w p c0 c1 c2 c3 c4 c5 c6 c7 c8 e0 e1 e2 e3 e4 e5 e6 e7 e8 = rw (e0, e1, e2, e3, e4, e5, e6, e7, e8) (sum _ _ _ _ _ _ _ _ _)
+  where
+    sum : (f0 f1 f2 f3 f4 f5 f6 f7 f8 : ℕ)
+        → f0 + 2 * f1 + 4 * f2 + 8 * f3 + 16 * f4 + 32 * f5 + 64 * f6 + 128 * f7 + 256 * f8
+        ≡ f0 + 2 * (f1 + 2 * (f2 + 2 * (f3 + 2 * (f4 + 2 * (f5 + 2 * (f6 + 2 * (f7 + 2 * (f8 + 2 * 0))))))))
+    sum f0 f1 f2 f3 f4 f5 f6 f7 f8 = omega arith
+
+-- from the load's group and what is looked up they are the conditions
+pub conditions-view : (j : Route) (reports : ℕ) (x : Position) (p : Progress) → conditionsBy (j .load) reports (viewIn j x p) p ≡ conditions j reports x (standing p)
+unfolding conditionsBy conditions
+conditions-view j reports x p = ap (λ b. wordOf (etcsFulfilled reports ∷ noEmergencyBrake reports ∷ endAhead j (standing p) ∷ lastAhead j (standing p) ∷ b ∷ noInconsistency reports ∷ located j x ∷ outsideZones j x ∷ dataValid reports ∷ [])) (profiles-next j p)

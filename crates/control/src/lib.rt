@@ -5,22 +5,23 @@ ghost use Prim.Native.Nat.{_-_, _≤_, min};
 ghost use lib.Dec.{leb};
 ghost use Rattle.wire.specs.Numbers.{flag};
 ghost use Rattle.data.specs.Engine.{routeIn};
-ghost use Rattle.timing.specs.Position.{IndexBelow};
+ghost use Rattle.timing.specs.Position.{pointCount, placed};
 ghost use Rattle.timing.specs.Standing.{standing};
 ghost use Rattle.control.specs.Codes.{code, stateAt, is, modeAt, isAD, leverAt, isNeutral, isBrake};
 ghost use Rattle.control.specs.Conditions.{etcsFulfilled, noEmergencyBrake, noInconsistency, dataValid, T};
-ghost use Rattle.control.specs.Conditions.{endAhead, lastAhead, profilesThere, tooFar, inZones, counts, located, outsideZones, conditions};
+ghost use Rattle.control.specs.Conditions.{bare, endAhead, lastAhead, tooFar, inZones, locatedBy, viewBy, viewIn, conditionsBy, conditions};
 ghost use Rattle.control.specs.States.{machine, N, U, fromRE, fromEG, fromDE, byState, settled, wanted, given};
 ghost use Rattle.control.specs.Settled.{allNine, valuesIn, machineIn, controlAfter};
 ghost use Rattle.control.specs.Numbers.{judged, powerRows, stateRow, stateRows};
 use data::Control;
 use data::Engine;
+use data::Load;
 use data::Position;
 use data::Progress;
 use data::Segment;
 use data::Zone;
 use event::Event;
-use timing::Found;
+use timing::Named;
 
 // The states of document 01, by their codes 0 to 7 in this order.
 pub enum State {
@@ -59,6 +60,14 @@ pub struct Values {
 pub struct Machine {
     pub state: State,
     pub press: bool,
+}
+
+// What the conditions look up in the journey: whether the offset counts in a segment, whether it is outside of its zones, and whether the first
+// point not passed is placed.
+pub struct View {
+    pub located: bool,
+    pub outside: bool,
+    pub placed: bool,
 }
 
 // ---- codes
@@ -196,42 +205,41 @@ fn one_less(n: u8) -> u8
 }
 
 // The End of Journey is neither reached nor passed, at a progress.
-pub fn end_ahead(e: Engine, p: Progress) -> bool
-    ensures { λ r. ⌜ r ≡ endAhead (routeIn e) (standing p) ⌝ }
+pub fn end_ahead(l: Load, p: Progress) -> bool
+    ensures { λ r. ⌜ r ≡ endAhead (bare l) (standing p) ⌝ }
 {
-    if !e.load.valid {
+    if !l.valid {
         return false;
     }
-    let k = e.load.ending;
+    let k = l.ending;
     if k < p.next {
         return false;
     }
     if k == p.next { !p.reached } else { true }
 }
 
-fn last_ahead(e: Engine) -> bool
-    ensures { λ r. ⌜ r ≡ lastAhead (routeIn e) (standing (e .progress)) ⌝ }
+fn last_ahead(l: Load, p: Progress) -> bool
+    ensures { λ r. ⌜ r ≡ lastAhead (bare l) (standing p) ⌝ }
 {
-    if !e.load.valid {
+    if !l.valid {
         return false;
     }
-    let last = one_less(at_most(e.load.pointcount, 64));
-    !(last < e.progress.next)
+    let last = one_less(at_most(l.pointcount, 64));
+    !(last < p.next)
 }
 
-fn profiles_there(e: Engine) -> bool
-    ensures { λ r. ⌜ r ≡ profilesThere (routeIn e) (standing (e .progress)) ⌝ }
+// `placed`: the first point not passed is.
+fn profiles_there(l: Load, p: Progress, placed: bool) -> bool
+    ensures { λ r. ⌜ r ≡ (l .valid && (leb (pointCount (bare l)) (p .next) || placed)) ⌝ }
 {
-    if !e.load.valid {
+    if !l.valid {
         return false;
     }
-    let next = e.progress.next;
-    if at_most(e.load.pointcount, 64) <= next {
-        return true;
+    if at_most(l.pointcount, 64) <= p.next {
+        true
+    } else {
+        placed
     }
-    let k = next as usize;
-    let p = e.points[k];
-    p.placed
 }
 
 // An offset held from before a load and beyond its segment's new length.
@@ -272,47 +280,58 @@ fn in_zones(s: Segment, offset: u32) -> bool
     inside
 }
 
-// The journey segment in which the offset counts for the conditions.
-fn counted(e: Engine) -> Found
-    ensures { λ r. ⌜ (r ≡ counts (routeIn e) (e .train .position)) × IndexBelow 40 r ⌝ }
+// The offset is defined and counts in the segment that the position names.
+fn located_in(s: Named, x: Position) -> bool
+    ensures { λ r. ⌜ r ≡ locatedBy s x ⌝ }
 {
-    let x = e.train.position;
     if x.offset == 16777215 {
-        return Found::Nothing;
+        return false;
     }
-    let Found::At(k) = timing::find_segment(e) else {
-        return Found::Nothing;
-    };
-    let s = e.segments[k];
-    if too_far(x, s) {
-        Found::Nothing
-    } else {
-        Found::At(k)
+    if !s.found {
+        return false;
     }
+    let far = too_far(x, s.segment);
+    !far
 }
 
-// Conditions 6 and 7.
-struct Place {
-    located: bool,
-    outside: bool,
-}
-
-fn place_of(e: Engine) -> Place
-    ensures { λ r. ⌜ (r .located ≡ located (routeIn e) (e .train .position)) × (r .outside ≡ outsideZones (routeIn e) (e .train .position)) ⌝ }
+// What the conditions look up, by the segment that the position names.
+pub fn view_by(s: Named, x: Position, placed: bool) -> View
+    ensures { λ r. ⌜ r ≡ viewBy s x placed ⌝ }
 {
-    let Found::At(k) = counted(e) else {
-        return Place {
+    if !located_in(s, x) {
+        return View {
             located: false,
             outside: true,
+            placed: placed,
         };
-    };
-    let s = e.segments[k];
-    let x = e.train.position;
-    let inside = in_zones(s, x.offset);
-    Place {
+    }
+    let inside = in_zones(s.segment, x.offset);
+    View {
         located: true,
         outside: !inside,
+        placed: placed,
     }
+}
+
+// Point k is placed.
+pub fn placed_at(e: Engine, k: u8) -> bool
+    ensures { λ r. ⌜ r ≡ placed (routeIn e) k ⌝ }
+{
+    let i = k as usize;
+    let points = e.points;
+    if i < 64 {
+        let p = points[i];
+        return p.placed;
+    }
+    false
+}
+
+pub fn view_of(e: Engine) -> View
+    ensures { λ r. ⌜ r ≡ viewIn (routeIn e) (e .train .position) (e .progress) ⌝ }
+{
+    let s = timing::segment_named(e);
+    let placed = placed_at(e, e.progress.next);
+    view_by(s, e.train.position, placed)
 }
 
 fn number(b: bool) -> u16
@@ -322,22 +341,27 @@ fn number(b: bool) -> u16
 }
 
 // The nine conditions as a number, condition 0 the least significant bit.
+pub fn conditions_by(l: Load, reports: u8, w: View, p: Progress) -> u16
+    ensures { λ r. ⌜ (r ≡ conditionsBy l reports w p) × (r ≤ 511) ⌝ }
+{
+    let c0 = number(etcs_fulfilled(reports));
+    let c1 = number(no_emergency_brake(reports));
+    let c2 = number(end_ahead(l, p));
+    let c3 = number(last_ahead(l, p));
+    let c4 = number(profiles_there(l, p, w.placed));
+    let c5 = number(no_inconsistency(reports));
+    let c6 = number(w.located);
+    let c7 = number(w.outside);
+    let c8 = number(data_valid(reports));
+    c0 + 2 * c1 + 4 * c2 + 8 * c3 + 16 * c4 + 32 * c5 + 64 * c6 + 128 * c7 + 256 * c8
+}
+
+// The same of an engine.
 pub fn conditions(e: Engine) -> u16
     ensures { λ r. ⌜ (r ≡ conditions (routeIn e) (e .control .reports) (e .train .position) (standing (e .progress))) × (r ≤ 511) ⌝ }
 {
-    let reports = e.control.reports;
-    let progress = e.progress;
-    let place = place_of(e);
-    let c0 = number(etcs_fulfilled(reports));
-    let c1 = number(no_emergency_brake(reports));
-    let c2 = number(end_ahead(e, progress));
-    let c3 = number(last_ahead(e));
-    let c4 = number(profiles_there(e));
-    let c5 = number(no_inconsistency(reports));
-    let c6 = number(place.located);
-    let c7 = number(place.outside);
-    let c8 = number(data_valid(reports));
-    c0 + 2 * c1 + 4 * c2 + 8 * c3 + 16 * c4 + 32 * c5 + 64 * c6 + 128 * c7 + 256 * c8
+    let w = view_of(e);
+    conditions_by(e.load, e.control.reports, w, e.progress)
 }
 
 // ---- the rows of the states
@@ -542,12 +566,11 @@ fn machine_in(c: Control) -> Machine
     }
 }
 
-// The control group after an event, from the engine with the event's values already in it; `reached`: a point became reached in this event;
+// The control group after an event, from the group with the event's values already in it; `reached`: a point became reached in this event;
 // `word`: the nine conditions after it.
-pub fn settle(e: Engine, event: Event, reached: bool, word: u16) -> Control
-    ensures { λ r. ⌜ r ≡ controlAfter (e .control) event reached word ⌝ }
+pub fn settle(c: Control, event: Event, reached: bool, word: u16) -> Control
+    ensures { λ r. ⌜ r ≡ controlAfter c event reached word ⌝ }
 {
-    let c = e.control;
     let v = values_in(c, word);
     let m = settled(machine_in(c), event, reached, v);
     let s = m.state;

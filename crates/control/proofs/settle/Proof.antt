@@ -25,9 +25,9 @@ code-of-requires c κs = search needs
 returns : tie.Need-returns
 unfolding controlAfter
 returns c =
-    let c₀ = c .before .before .before .before .before .before .args .e .control in
+    let c₀ = c .before .before .before .before .before .args .c in
     control-is c₀ (c .before .before .before .before .values-in .result) (c .before .before .settled .result) _ _ (c .code-of .ensures .0) (c .before .given .ensures)
-    ∙ ap₂ (controlOf c₀) (c .before .before .before .before .values-in .ensures) (c .before .before .settled .ensures ∙ ap₂ (λ m v. settled m (c .before .before .before .before .before .before .args .event) (c .before .before .before .before .before .before .args .reached) v) (c .before .before .before .machine-in .ensures) (c .before .before .before .before .values-in .ensures))
+    ∙ ap₂ (controlOf c₀) (c .before .before .before .before .values-in .ensures) (c .before .before .settled .ensures ∙ ap₂ (λ m v. settled m (c .before .before .before .before .before .args .event) (c .before .before .before .before .before .args .reached) v) (c .before .before .before .machine-in .ensures) (c .before .before .before .before .values-in .ensures))
 
 pub settle-spec : {M : Type 1} → statement M
 settle-spec =

@@ -34,12 +34,11 @@ add-t6 : tie.Need-add-t6
 add-t6 c = search needs
 
 returns-5 : tie.Need-returns-5
-returns-5 c = let s = c .before .before in let a = s .before .before .before .before .before .before .before .before .before .args in
-    (
-      ap₂ (λ x y. Known (x + y)) (c .before .wide .ensures .0) (c .wide2 .ensures .0)
-          ∙ sym (by-within (a .s) (a .x) (s .before .before .before .before .before .before .before .if1 .left) (not-false _ (s .before .before .before .before .before .if2 .left)) (not-false _ (s .before .before .before .if3 .left)) (s .if4 .left)),
-      omega arith,
-    )
+returns-5 c = let s = c .before .before in let a = s .before .before .before .before .before .before .before .before .before .args in (
+  ap₂ (λ x y. Known (x + y)) (c .before .wide .ensures .0) (c .wide2 .ensures .0)
+      ∙ sym (by-within (a .s) (a .x) (s .before .before .before .before .before .before .before .if1 .left) (not-false _ (s .before .before .before .before .before .if2 .left)) (not-false _ (s .before .before .before .if3 .left)) (s .if4 .left)),
+  omega arith,
+)
 
 pub front-in-spec : {M : Type 1} → statement M
 front-in-spec =
