@@ -9,6 +9,7 @@ use lib.Seq.{sets}
 use native.Mathlib.Omega.{arith}
 use Rattle.wire.specs.Numbers.{flag, if_then_else_}
 use Rattle.data.specs.Engine.{Route, routeIn, progress}
+use Rattle.data.specs.declared.Load.{Load}
 use Rattle.data.specs.declared.Point.{Point}
 use Rattle.data.specs.declared.Progress.{Progress}
 use Rattle.data.specs.declared.Position.{Position}
@@ -22,9 +23,9 @@ use Rattle.journey.specs.declared.Head.{Head}
 use Rattle.timing.specs.Position.{point, known}
 use Rattle.timing.specs.Standing.{standing}
 use Rattle.timing.specs.Changes.{Change, change, passings, when, statusPassed, statusStopped}
-use Rattle.control.specs.Conditions.{endAhead}
+use Rattle.control.specs.Conditions.{bare, endAhead}
 use Rattle.model.specs.Packets.{Status, statusDue, header, timingPoint, jpReceived, atoStatus, packetsOf}
-use Rattle.recording.specs.Written.{packets62, packets65, packets68, changesIn, firstIn, passingsIn, stoppedIn, loadedIn, packetsIn, sizeIn, Put}
+use Rattle.recording.specs.Written.{timingPointOf, packets62, packets65, packets68, changesIn, firstIn, passingsIn, stoppedIn, loadedIn, packetsIn, sizeIn, Put}
 use Rattle.recording.specs.declared.Writes.{Writes}
 
 -- ---- sizes
@@ -89,11 +90,15 @@ size-in e w =
 
 -- ---- the values of each packet
 
+pub point-of : (h : Header) (l : Load) (p : Point) (s : ℕ) (after : Progress) (q d : ℕ) → q ≡ flag (endAhead (bare l) (standing after))
+    → d ≡ (if eqb s statusStopped then p .stopping else 0)
+    → Packet.TimingPoint (record { header = h; nidc = p .nidc; nidtp = p .nidtp; qeoj = q; alignment = p .alignment; status = s; stopping = d }) ≡ timingPointOf h l p s after
+point-of h l p s after q d a b = rw (a, b)
+
 module _ (j : Route) (x : Position) (h : Header) (told : h ≡ header j x) where
-  pub packet-62 : (k s : ℕ) (after : Progress) (p : Point) (q d : ℕ) → p ≡ point j k → q ≡ flag (endAhead j (standing after)) → d ≡ (if eqb s statusStopped then p .stopping else 0)
-      → Packet.TimingPoint (record { header = h; nidc = p .nidc; nidtp = p .nidtp; qeoj = q; alignment = p .alignment; status = s; stopping = d }) ≡ timingPoint j x (change k s after)
+  pub packet-62 : (k s : ℕ) (after : Progress) (p : Point) → p ≡ point j k → timingPointOf h (j .load) p s after ≡ timingPoint j x (change k s after)
   unfolding timingPoint
-  packet-62 k s after p q d a b c = rw (c, b, a, told)
+  packet-62 k s after p a = rw (a, told)
 
   pub packet-65 : (head : Head) (n : ℕ) → n ≡ (if known j x then x .nidc else 1024)
       → Packet.JpReceived (record { header = h; nidc = n; atots = head .atots; date = head .date; seconds = head .seconds; counter = head .counter; status = 0 }) ≡ jpReceived j x head

@@ -4,14 +4,21 @@ use mathlib.Core.Path.{_≡_}
 use mathlib.Core.List.{List, _++_, map}
 use mathlib.Core.Option.{Option, none, some}
 use lib.ListN.{length}
+use lib.Dec.{eqb}
 use lib.Seq.{sets}
 use Rattle.wire.specs.Numbers.{flag, if_then_else_}
 use Rattle.data.specs.Engine.{routeIn}
+use Rattle.data.specs.declared.Load.{Load}
+use Rattle.data.specs.declared.Point.{Point}
 use Rattle.data.specs.declared.Progress.{Progress}
 use Rattle.data.specs.declared.Engine.{Engine}
 use Rattle.journey.specs.declared.Head.{Head}
 use Rattle.packets.specs.Packets.{joined}
+use Rattle.packets.specs.declared.Header.{Header}
+use Rattle.packets.specs.declared.TimingPoint.{TimingPoint}
 use Rattle.packets.specs.declared.Packet.{Packet}
+use Rattle.timing.specs.Standing.{standing}
+use Rattle.control.specs.Conditions.{bare, endAhead}
 use Rattle.timing.specs.Changes.{Change, change, passings, when, statusStopped}
 use Rattle.model.specs.Packets.{Status, received, timingPoint, atoStatus}
 use Rattle.recording.specs.declared.Changes.{Changes}
@@ -36,6 +43,19 @@ changesIn c p = firstIn c ++ (passingsIn c ++ stoppedIn c p)
 
 abbrev pub loadedIn : Writes → Option Head
 loadedIn w = if w .loaded then some (w .head) else none
+
+-- packet 62 for a change of a point, by the load's group
+abbrev pub timingPointOf : Header → Load → Point → ℕ → Progress → Packet
+timingPointOf h l p status after =
+    Packet.TimingPoint (record {
+      header = h;
+      nidc = p .nidc;
+      nidtp = p .nidtp;
+      qeoj = flag (endAhead (bare l) (standing after));
+      alignment = p .alignment;
+      status = status;
+      stopping = if eqb status statusStopped then p .stopping else 0;
+    })
 
 abbrev pub packets62 : Engine → List Change → List Packet
 packets62 e l = map (timingPoint (routeIn e) (e .train .position)) l

@@ -1,5 +1,6 @@
 // The packets of an accepted event, written one behind the other into the output memory.
 use data::Engine;
+use data::Load;
 use data::Point;
 use data::Progress;
 use journey::Head;
@@ -19,7 +20,7 @@ ghost use Rattle.packets.specs.Packets.{joined};
 ghost use Rattle.timing.specs.Position.{point, known};
 ghost use Rattle.timing.specs.Changes.{change, passings, statusStopped};
 ghost use Rattle.model.specs.Packets.{header, timingPoint, jpReceived, atoStatus, statusDue};
-ghost use Rattle.recording.specs.Written.{statusOf, firstIn, stoppedIn, packets62, packets65, packets68, packetsIn, sizeIn, Put};
+ghost use Rattle.recording.specs.Written.{statusOf, firstIn, stoppedIn, timingPointOf, packets62, packets65, packets68, packetsIn, sizeIn, Put};
 
 // What an event changes of the points: first, perhaps, a departure, a skip or its revocation; then the points from `from` to `to`, without that one,
 // pass; last, perhaps, the first point not passed becomes reached.
@@ -69,8 +70,9 @@ fn point_at(e: Engine, k: u8) -> Point
     ensures { λ r. ⌜ r ≡ point (routeIn e) k ⌝ }
 {
     let i = k as usize;
+    let points = e.points;
     if i < 64 {
-        return e.points[i];
+        return points[i];
     }
     data::blank_point()
 }
@@ -88,13 +90,11 @@ fn stopping_of(p: Point, status: u8) -> u8
     if status == 1 { p.stopping } else { 0 }
 }
 
-// Packet 62 for a change of a point.
-pub fn timing_point(e: Engine, index: u8, status: u8, after: Progress) -> Packet
-    ensures { λ r. ⌜ r ≡ timingPoint (routeIn e) (e .train .position) (change index status after) ⌝ }
+// Packet 62 for a change of point p.
+fn timing_point_of(header: Header, l: Load, p: Point, status: u8, after: Progress) -> Packet
+    ensures { λ r. ⌜ r ≡ timingPointOf header l p status after ⌝ }
 {
-    let header = header_of(e);
-    let p = point_at(e, index);
-    let qeoj = bit_of(control::end_ahead(e, after));
+    let qeoj = bit_of(control::end_ahead(l, after));
     let stopping = stopping_of(p, status);
     Packet::TimingPoint(TimingPoint {
         header: header,
@@ -105,6 +105,15 @@ pub fn timing_point(e: Engine, index: u8, status: u8, after: Progress) -> Packet
         status: status,
         stopping: stopping,
     })
+}
+
+// Packet 62 for a change of the point of an index.
+pub fn timing_point(e: Engine, index: u8, status: u8, after: Progress) -> Packet
+    ensures { λ r. ⌜ r ≡ timingPoint (routeIn e) (e .train .position) (change index status after) ⌝ }
+{
+    let header = header_of(e);
+    let p = point_at(e, index);
+    timing_point_of(header, e.load, p, status, after)
 }
 
 fn is_known(e: Engine) -> bool
@@ -220,6 +229,9 @@ fn put_passings(e: Engine, from: u8, to: u8, out: &mut [u8], at: usize) -> usize
     requires { ⌜ at ≤ 100000 ⌝ }
     ensures { λ r. ⌜ Put at (packets62 e (passings (to - from) from)) (now (out .entry)) (now (out .exit)) r ⌝ }
 {
+    let header = header_of(e);
+    let points = e.points;
+    let blank = data::blank_point();
     let mut k = from;
     let mut p = at;
     while k < to {
@@ -227,7 +239,9 @@ fn put_passings(e: Engine, from: u8, to: u8, out: &mut [u8], at: usize) -> usize
             next: k + 1,
             reached: false,
         };
-        let packet = timing_point(e, k, 0, after);
+        let i = k as usize;
+        let point = if i < 64 { points[i] } else { blank };
+        let packet = timing_point_of(header, e.load, point, 0, after);
         packets::put_packet(packet, out, p);
         p += 25;
         k += 1;

@@ -1,34 +1,51 @@
 -- What is left to put, put behind what is there, gives the whole.
 use Prim.Native.Nat.{_+_, _-_, _*_}
 use mathlib.Core.Path.{_≡_, refl, sym, ap, _∙_}
-use lib.ListN.{length}
+use mathlib.Core.Logic.{⊎-elim}
+use lib.ListN.{length, length-map, getD, List·getD-eq-default}
 use lib.Seq.{sets, length-sets}
 use native.Mathlib.Omega.{arith}
 use borrow.Author.Needs.{needs}
+use Rattle.data.specs.Engine.{routeIn, blankPoint}
 use Rattle.packets.specs.Packets.{packetBytes, joined}
 use Rattle.packets.specs.declared.Packet.{Packet}
 use Rattle.timing.specs.Changes.{passings}
 use Rattle.recording.specs.Written.{packets62}
-use Rattle.recording.specs.Laws.{size-passings, passings-end, passings-next}
+use Rattle.recording.specs.Laws.{packet-62, size-passings, passings-end, passings-next}
 use Rattle.recording.proofs.put_passings.Statement.{statement}
 use Rattle.recording.proofs.put_passings.Tie as tie
 
 abbrev Inv-loop : tie.InvT-loop
-Inv-loop e from to out₀ at k₀ p₀ out k p =
+Inv-loop e from to out₀ at header points blank k₀ p₀ out k p =
     (sets out p (joined (packets62 e (passings (to - k) k))) ≡ sets out₀ at (joined (packets62 e (passings (to - from) from))))
     × ((p + 25 * (to - k) ≡ at + 25 * (to - from)) × (length out ≡ length out₀))
 
 abbrev μ-loop : tie.MeasureT-loop
-μ-loop e from to out₀ at k₀ p₀ out k p = to - k
+μ-loop e from to out₀ at header points blank k₀ p₀ out k p = to - k
+
+header-of-requires : tie.Need-header-of-requires Inv-loop μ-loop
+header-of-requires c κs = search needs
+
+blank-point-requires : tie.Need-blank-point-requires Inv-loop μ-loop
+blank-point-requires c κs = search needs
 
 loop-holds : tie.Need-loop-holds Inv-loop μ-loop
 loop-holds c = (refl, (refl, refl))
 
-add-t11 : tie.Need-add-t11 Inv-loop μ-loop
-add-t11 c = omega arith
+add-t16 : tie.Need-add-t16 Inv-loop μ-loop
+add-t16 c = omega arith
 
-timing-point-requires : tie.Need-timing-point-requires Inv-loop μ-loop
-timing-point-requires c κs = search needs
+cast-i : tie.Need-cast-i Inv-loop μ-loop
+cast-i c = search needs
+
+mul-point : tie.Need-mul-point Inv-loop μ-loop
+mul-point c = search needs
+
+array-copy-out-point : tie.Need-array-copy-out-point Inv-loop μ-loop
+array-copy-out-point c = search needs
+
+timing-point-of-requires : tie.Need-timing-point-of-requires Inv-loop μ-loop
+timing-point-of-requires c κs = search needs
 
 put-packet-requires : tie.Need-put-packet-requires Inv-loop μ-loop
 put-packet-requires c κs = search needs
@@ -43,19 +60,25 @@ loop-less : tie.Need-loop-less Inv-loop μ-loop
 loop-less c = omega arith
 
 loop-again : tie.Need-loop-again Inv-loop μ-loop
-loop-again c = let b = c .before .before in
-    let i = b .before .before .before in
-    let l = i .before .loop in
-    let a = i .before .before .before .args in
-    let put = b .put-packet .ensures ∙ ap (λ (p : Packet). sets (l .out) (l .p) (packetBytes p)) (b .before .before .timing-point .ensures) in
-    (passings-next (a .e) (a .to) (l .k) (omega arith) (l .out) _ (l .p) put ∙ l .inv .0, (omega arith, ap length (b .put-packet .ensures) ∙ length-sets (l .out) (l .p) (packetBytes (b .before .before .timing-point .result)) ∙ l .inv .1 .1))
+loop-again c =
+    let b = c .before .before in
+    let t = b .before .before in
+    let l = t .before .before .before .loop in
+    let s = t .before .before .before .before .before .before .before .before in
+    let a = s .args in
+    let z : length (a .e .points) ≡ 64 = (sym (length-map (a .e .points) _) ∙ s .good .0 .1 .1 .0 .1 .0 .1) in
+    let point : t .before .if1 .point ≡ getD (a .e .points) (l .k) blankPoint = ⊎-elim (λ w. w .2)
+    (λ w. w .1 ∙ t .before .before .before .before .blank-point .ensures ∙ sym (List·getD-eq-default (a .e .points) blankPoint {n = l .k} (omega (arith, w .0 .left))))
+    (t .before .if1 .came) in
+    let put = b .put-packet .ensures ∙ ap (λ (p : Packet). sets (l .out) (l .p) (packetBytes p)) (t .timing-point-of .ensures ∙ packet-62 (routeIn (a .e)) (a .e .train .position) _ (t .before .before .before .before .before .before .header-of .ensures) (l .k) 0 _ (t .before .if1 .point) point) in
+    (passings-next (a .e) (a .to) (l .k) (omega arith) (l .out) _ (l .p) put ∙ l .inv .0, (omega arith, ap length (b .put-packet .ensures) ∙ length-sets (l .out) (l .p) (packetBytes (t .timing-point-of .result)) ∙ l .inv .1 .1))
 
 same-length : tie.Need-same-length Inv-loop μ-loop
 same-length c = c .before .loop .inv .1 .1
 
 returns : tie.Need-returns Inv-loop μ-loop
 returns c = let l = c .before .loop in
-    let a = c .before .before .before .args in
+    let a = c .before .before .before .before .before .before .args in
     record {
       memory = sym (passings-end (a .e) (a .to) (l .k) (omega arith) (l .out) (l .p)) ∙ l .inv .0;
       next = omega (arith, size-passings (a .e) (a .to - a .from) (a .from));
@@ -68,9 +91,14 @@ put-passings-spec =
     (tie.spec
     Inv-loop
     μ-loop
+    header-of-requires
+    blank-point-requires
     loop-holds
-    add-t11
-    timing-point-requires
+    add-t16
+    cast-i
+    mul-point
+    array-copy-out-point
+    timing-point-of-requires
     put-packet-requires
     add-p
     add-k
