@@ -1,3 +1,3 @@
-mod Laws
+pub mod Laws
 pub mod Engaged
 pub mod Requests

@@ -1,11 +1,13 @@
 -- Laws of the parts of a call.
-use Prim.Native.Nat.{ℕ, _+_, _≤_, _<_}
+use Prim.Native.Nat.{ℕ, zero, suc, _+_, _≤_, _<_, min}
 use mathlib.Core.Path.{_≡_, refl, sym, ap, subst, _∙_}
-use mathlib.Core.List.{List, _++_}
-use mathlib.Core.Bool.{Bool, true, false}
-use lib.ListN.{length, getD, set, drop}
+use mathlib.Core.List.{List, [], _∷_, _++_, append-nil}
+use mathlib.Core.Bool.{Bool, true, false, not, _&&_}
+use lib.ListN.{length, getD, set, drop, replicate, drop-of-length-le}
+use lib.Dec.{eqb, ltb}
 use lib.Seq.{sets, sets-eq}
 use borrow.Author.Tests.{lt-ltb, le-ltb, eq-eqb, ne-eqb}
+use native.Mathlib.Numerals.{add-one}
 use native.Mathlib.Omega.{arith}
 use Rattle.wire.specs.Judged.{Judged, thenJudge}
 use Rattle.wire.specs.Judged.Judged.{refuse, accept}
@@ -16,17 +18,19 @@ use Rattle.event.specs.Events.{eventOf, kindOf}
 use Rattle.event.specs.declared.Event.{Event}
 use Rattle.packets.specs.Packets.{joined}
 use Rattle.packets.specs.declared.Packet.{Packet}
-use Rattle.timing.specs.Position.{segmentNamed}
+use Rattle.timing.specs.Position.{segmentNamed, namedIn, segmentIn}
 use Rattle.timing.specs.Distance.{reportIn}
 use Rattle.timing.specs.Standing.{standing, behind}
 use Rattle.timing.specs.Load.{target}
 use Rattle.timing.specs.Report.{reportOf}
 use Rattle.timing.specs.Changes.{passings, reportChanges}
 use Rattle.timing.specs.declared.Found.{Found}
-use Rattle.timing.specs.declared.Found.the-variants.{At}
+use Rattle.timing.specs.declared.Found.the-variants.{At, Nothing}
+use Rattle.timing.specs.declared.Named.{Named}
 use Rattle.timing.specs.declared.Reported.{Reported}
 use Rattle.control.specs.Codes.{stateAt}
-use Rattle.control.specs.Conditions.{conditions}
+use Rattle.control.specs.Conditions.{tooFar, conditions}
+use Rattle.control.specs.declared.View.{View}
 use Rattle.control.specs.Numbers.{powerRows, stateRow, stateRows, judged}
 use Rattle.control.specs.Settled.{controlAfter}
 use Rattle.route.specs.Route.{LoadValue, loadOf, loadSeen}
@@ -44,13 +48,17 @@ use Rattle.model.specs.Call as call
 use Rattle.model.specs.Call.{Call, Step, conditionsIn, statusIn, stepBy, outcomeOf}
 use Rattle.engine.specs.declared.Effect.{Effect}
 use Rattle.engine.specs.declared.Stepped.{Stepped}
-use Rattle.engine.specs.Seen.{noChanges, oneChange, changesOf, skipStatus, routeBy, plainEffect, effectIn, effectSeen, outputRow, laterRows, refusedStep, acceptedStep, shownOf, writesOf, Steps}
+use Rattle.engine.specs.Seen.{noChanges, oneChange, changesOf, skipStatus, routeBy, viewOf, beyondBy, plainEffect, effectIn, effectSeen, Gives, outputRow, laterRows, refusedStep, acceptedStep, shownOf, writesOf, Steps}
 
 -- ---- effects
 
-pub seen-quiet : (m : Engine) → effectSeen (plainEffect m 0) ≡ accept (quiet m)
+pub gives-quiet : (m n : Engine) (w : View) (f : Effect) (x : Judged model.Effect) → f ≡ plainEffect m 0 w → m ≡ n → w ≡ viewOf n → accept (quiet n) ≡ x → Gives x f
 unfolding passings
-seen-quiet m = refl
+gives-quiet m n w f x q a t y = record { effect = rw (q, a) y; view = rw (q, a) t }
+
+-- a row that refuses
+pub gives-number : (e : Engine) (k : ℕ) (w : View) (f : Effect) (x : Judged model.Effect) → eqb k 0 ≡ false → f ≡ plainEffect e k w → w ≡ viewOf e → refuse k ≡ x → Gives x f
+gives-number e k w f x h q t y = record { effect = rw (q, h) y; view = rw q t }
 
 -- an effect with a number other than 0 is a refusal
 pub seen-number : (f : Effect) → (f .number ≡ 0 → ⊥) → effectSeen f ≡ refuse (f .number)
@@ -60,14 +68,27 @@ pub seen-effect : (f : Effect) → f .number ≡ 0 → effectSeen f ≡ accept (
 seen-effect f h = rw (eq-eqb (f .number) 0 h)
 
 -- 13
-module _ (j : Route) (x : Position) where
-  pub beyond-undefined : x .offset ≡ undefined → offsetBeyond j x ≡ false
-  unfolding offsetBeyond
+module _ (s : Named) (x : Position) where
+  pub beyond-undefined : x .offset ≡ undefined → beyondBy s x ≡ false
   beyond-undefined h = rw (eq-eqb (x .offset) undefined h)
 
-  pub beyond-in : (x .offset ≡ undefined → ⊥) → (f : Found) → segmentNamed j x ≡ f → offsetBeyond j x ≡ beyondIn j x f
-  unfolding offsetBeyond
-  beyond-in h f q = rw (ne-eqb (x .offset) undefined h, q)
+  module _ (h : x .offset ≡ undefined → ⊥) where
+    pub beyond-missing : s .found ≡ false → beyondBy s x ≡ false
+    beyond-missing f = rw (ne-eqb (x .offset) undefined h, f)
+
+    pub beyond-booked : s .found ≡ true → s .segment .booked ≡ true → ltb (s .segment .length) (x .offset) ≡ beyondBy s x
+    beyond-booked f b = rw (ne-eqb (x .offset) undefined h, f, b)
+
+    pub beyond-unbooked : s .found ≡ true → s .segment .booked ≡ false → beyondBy s x ≡ false
+    beyond-unbooked f b = rw (ne-eqb (x .offset) undefined h, f, b)
+
+pub beyond-is : (j : Route) (x : Position) → beyondBy (segmentIn j x) x ≡ offsetBeyond j x
+unfolding offsetBeyond beyondIn
+beyond-is j x = ap (λ (b : Bool). not (eqb (x .offset) undefined) && b) (go (segmentNamed j x))
+  where
+    go : (f : Found) → namedIn (j .segments) f .found && tooFar x (namedIn (j .segments) f .segment) ≡ beyondIn j x f
+    go (At k) = refl
+    go Nothing = refl
 
 module _ (e : Engine) (x : Position) where
   pub position-13 : offsetBeyond (routeIn e) x ≡ true → positionEffect e x ≡ refuse 13
@@ -76,10 +97,10 @@ module _ (e : Engine) (x : Position) where
 
   pub position-reported : (m : Engine) (t : Reported) (ch : Changes) (head : Head) → offsetBeyond (routeIn e) x ≡ false → m ≡ withPosition e x
       → t ≡ reportOf (routeIn m) (reportIn m) (m .progress) → ch ≡ changesOf (m .progress .next) t
-      → effectSeen (record { number = 0; engine = withProgress m (t .progress); loaded = false; head = head; changes = ch; reached = t .reached })
-      ≡ positionEffect e x
+      → (w : View) → w ≡ viewOf (withProgress m (t .progress))
+      → Gives (positionEffect e x) (record { engine = withProgress m (t .progress); number = 0; loaded = false; head = head; changes = ch; reached = t .reached; view = w })
   unfolding positionEffect reportChanges
-  position-reported m t ch head h a q c = rw (h, c, q, a)
+  position-reported m t ch head h a q c w v = record { effect = rw (h, c, q, a); view = v }
 
 -- load
 module _ (e : Engine) (journey book : List ℕ) (l : Loaded) (told : loadSeen l ≡ loadOf journey book) where
@@ -97,9 +118,10 @@ module _ (e : Engine) (journey book : List ℕ) (l : Loaded) (told : loadSeen l 
 
   pub load-taken : (m : Engine) (ch : Changes) → l .number ≡ 0
       → m ≡ withProgress (withRoute e (routeBy l)) (progress (target (routeBy l) (e .train .position) (e .train .length)) false) → ch ≡ noChanges
-      → effectSeen (record { number = 0; engine = m; loaded = true; head = l .head; changes = ch; reached = false }) ≡ loadEffect e journey book
+      → (w : View) → w ≡ viewOf m
+      → Gives (loadEffect e journey book) (record { engine = m; number = 0; loaded = true; head = l .head; changes = ch; reached = false; view = w })
   unfolding passings
-  load-taken m ch h q c = rw (q, c) (load-route h)
+  load-taken m ch h q c w v = record { effect = rw (q, c) (load-route h); view = v }
 
 -- 15
 module _ (e : Engine) (k : ℕ) (on : Bool) where
@@ -113,9 +135,40 @@ module _ (e : Engine) (k : ℕ) (on : Bool) where
 
   pub skip-taken : (m : Engine) (ch : Changes) (head : Head) → behind (standing (e .progress) k) ≡ false → sameBool (getD (e .skips) k false) on ≡ false
       → m ≡ withSkips e (set (e .skips) k on) → ch ≡ oneChange k (skipStatus on) (e .progress)
-      → effectSeen (record { number = 0; engine = m; loaded = false; head = head; changes = ch; reached = false }) ≡ skipEffect e on (At k)
+      → (w : View) → w ≡ viewOf e
+      → Gives (skipEffect e on (At k)) (record { engine = m; number = 0; loaded = false; head = head; changes = ch; reached = false; view = w })
   unfolding skipEffect passings
-  skip-taken m ch head h q a b = rw (h, q, a, b)
+  skip-taken m ch head h q a b w v = record { effect = rw (h, q, a, b); view = rw a v }
+
+-- ---- power off: the first k elements are blank
+
+module _ {A : Type 0} (b : A) where
+  clear-next : (l : List A) (k : ℕ) → k < length l → set (replicate k b ++ drop k l) k b ≡ replicate (suc k) b ++ drop (suc k) l
+  clear-next [] k h = absurd (omega arith)
+  clear-next (x ∷ l) zero h = refl
+  clear-next (x ∷ l) (suc k) h = ap (λ (t : List A). b ∷ t) (clear-next l k (omega arith))
+
+  pub clear-more : (l : List A) (k : ℕ) → k < length l → set (replicate k b ++ drop k l) k b ≡ replicate (k + 1) b ++ drop (k + 1) l
+  clear-more l k h = rw add-one (clear-next l k h)
+
+  -- of an array that has n of them
+  module _ (l : List A) (n k : ℕ) where
+    abbrev Cleared : ℕ → List A
+    Cleared m = replicate (min m n) b ++ drop (min m n) l
+
+    pub clear-within : length l ≡ n → k < n → set (Cleared k) k b ≡ Cleared (k + 1)
+    clear-within z h =
+        let p : min k n ≡ k = omega arith in
+        let q : min (k + 1) n ≡ k + 1 = omega arith in
+        rw (p, q) (clear-more l k (omega arith))
+
+    pub clear-past : n ≤ k → Cleared k ≡ Cleared (k + 1)
+    clear-past h =
+        let p : min k n ≡ min (k + 1) n = omega arith in
+        rw p
+
+  pub clear-all : (l : List A) (n : ℕ) → length l ≤ n → replicate n b ++ drop n l ≡ replicate n b
+  clear-all l n h = ap (λ (t : List A). replicate n b ++ t) (drop-of-length-le l {i = n} h) ∙ append-nil (replicate n b)
 
 -- ---- the rows
 

@@ -2,14 +2,15 @@
 use Prim.Native.Nat.{ℕ}
 use mathlib.Core.Path.{_≡_}
 use mathlib.Core.List.{List}
-use mathlib.Core.Bool.{Bool, true, false}
+use mathlib.Core.Bool.{Bool, true, false, not, _&&_}
 use mathlib.Core.Option.{none, some}
 use lib.ListN.{length}
 use lib.Dec.{eqb, ltb}
 use Rattle.wire.specs.Numbers.{if_then_else_}
 use Rattle.wire.specs.Judged.{Judged, row, _>>=_, _>>_}
 use Rattle.wire.specs.Judged.Judged.{refuse, accept}
-use Rattle.data.specs.Engine.{Route, progress}
+use Rattle.data.specs.Engine.{Route, routeIn, undefined, progress}
+use Rattle.data.specs.declared.Position.{Position}
 use Rattle.data.specs.declared.Progress.{Progress}
 use Rattle.data.specs.declared.Engine.{Engine}
 use Rattle.event.specs.Events.{kindOf}
@@ -17,8 +18,11 @@ use Rattle.event.specs.declared.Event.{Event}
 use Rattle.packets.specs.Packets.{joined}
 use Rattle.journey.specs.Answers.{blankHead}
 use Rattle.timing.specs.Changes.{statusDeparted, statusSkipped, statusRevoked}
+use Rattle.timing.specs.declared.Named.{Named}
 use Rattle.timing.specs.declared.Reported.{Reported}
 use Rattle.control.specs.Codes.{stateAt}
+use Rattle.control.specs.Conditions.{tooFar, viewIn}
+use Rattle.control.specs.declared.View.{View}
 use Rattle.control.specs.Numbers.{powerRows, stateRow}
 use Rattle.route.specs.declared.Loaded.{Loaded}
 use Rattle.recording.specs.Written.{changesIn}
@@ -50,8 +54,16 @@ skipStatus on = if on then statusSkipped else statusRevoked
 abbrev pub routeBy : Loaded → Route
 routeBy l = record { load = l .load; points = l .points; segments = l .segments }
 
-abbrev pub plainEffect : Engine → ℕ → Effect
-plainEffect e n = record { number = n; engine = e; loaded = false; head = blankHead; changes = noChanges; reached = false }
+-- what the conditions look up in an engine
+abbrev pub viewOf : Engine → View
+viewOf e = viewIn (routeIn e) (e .train .position) (e .progress)
+
+-- 13, by the segment that a position names
+abbrev pub beyondBy : Named → Position → Bool
+beyondBy s x = not (eqb (x .offset) undefined) && (s .found && tooFar x (s .segment))
+
+abbrev pub plainEffect : Engine → ℕ → View → Effect
+plainEffect e n w = record { engine = e; number = n; loaded = false; head = blankHead; changes = noChanges; reached = false; view = w }
 
 abbrev pub effectIn : Effect → model.Effect
 effectIn f = record {
@@ -64,6 +76,11 @@ effectIn f = record {
 -- an effect, or the number of the row that refuses
 abbrev pub effectSeen : Effect → Judged model.Effect
 effectSeen f = if eqb (f .number) 0 then accept (effectIn f) else refuse (f .number)
+
+-- such an effect, and what the conditions look up after it
+pub record Gives (x : Judged model.Effect) (f : Effect) : Type 0 where
+  pub effect : effectSeen f ≡ x
+  pub view : f .view ≡ viewOf (f .engine)
 
 -- ---- the rows of the table of numbers from a place on
 

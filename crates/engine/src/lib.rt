@@ -1,7 +1,12 @@
 // The event call: one event, with the profiles and the output memory that the host lends.
+use control::View;
+use data::Control;
 use data::Engine;
+use data::Load;
+use data::Point;
 use data::Position;
 use data::Progress;
+use data::Segment;
 use data::Train;
 use event::Event;
 use event::EventRead;
@@ -12,33 +17,36 @@ use recording::Shown;
 use recording::Writes;
 use route::Loaded;
 use timing::Found;
+use timing::Named;
 use timing::Reported;
 use timing::Standing;
 ghost use mathlib.Core.Path.{_≡_};
 ghost use mathlib.Core.Bool.{false};
 ghost use Prim.Native.Nat.{_<_};
-ghost use lib.ListN.{set};
-ghost use Rattle.wire.specs.Judged.Judged.{accept};
-ghost use Rattle.data.specs.Engine.{routeIn, progress, withPosition, withLength, withControl, withRoute, withSkips, withProgress};
+ghost use lib.ListN.{set, replicate};
+ghost use Rattle.data.specs.Engine.{routeIn, blankPoint, blankSegment, fresh, progress, withPosition, withLength, withControl, withRoute, withSkips, withProgress};
 ghost use Rattle.journey.specs.Answers.{blankHead};
+ghost use Rattle.timing.specs.Position.{placed};
 ghost use Rattle.timing.specs.Standing.{standing, behind};
+ghost use Rattle.control.specs.Conditions.{conditions};
 ghost use Rattle.timing.specs.Skips.{stopNamed};
 ghost use Rattle.timing.specs.Load.{target};
 ghost use Rattle.timing.specs.declared.Found.the-variants.{At};
 ghost use Rattle.control.specs.Settled.{controlAfter};
-ghost use Rattle.model.specs.Effect.{quiet, withMode, withLever, withReports, offsetBeyond, positionEffect, loadEffect, sameBool, skipEffect, effect};
+ghost use Rattle.model.specs.Effect.{withMode, withLever, withReports, positionEffect, loadEffect, sameBool, skipEffect, effect};
 ghost use Rattle.model.specs.Call.{stepBy, outcomeOf, stepOf};
-ghost use Rattle.engine.specs.Seen.{noChanges, oneChange, changesOf, skipStatus, routeBy, plainEffect, effectIn, effectSeen, outputRow, laterRows, call, refusedStep, acceptedStep, shownOf, writesOf, Steps};
+ghost use Rattle.engine.specs.Seen.{noChanges, oneChange, changesOf, skipStatus, routeBy, viewOf, beyondBy, plainEffect, effectIn, Gives, outputRow, laterRows, call, refusedStep, acceptedStep, shownOf, writesOf, Steps};
 
 // What an event does before the rows of the states: the engine with its values, the head of a journey that was loaded, the points that
-// changed, and whether one became reached. `number` is 0, or that of the row that refuses.
+// changed, whether one became reached, and what the conditions look up after it. `number` is 0, or that of the row that refuses.
 struct Effect {
-    number: u8,
     engine: Engine,
+    number: u8,
     loaded: bool,
     head: Head,
     changes: Changes,
     reached: bool,
+    view: View,
 }
 
 // What a call answers, and the engine that it leaves.
@@ -94,26 +102,20 @@ fn one_change(index: u8, status: u8, after: Progress) -> Changes
 }
 
 // An engine with nothing loaded and no point changed; the engine does not count where a row refuses.
-fn plain(e: Engine, number: u8) -> Effect
-    ensures { λ r. ⌜ r ≡ plainEffect e number ⌝ }
+fn plain(e: Engine, number: u8, view: View) -> Effect
+    ensures { λ r. ⌜ r ≡ plainEffect e number view ⌝ }
 {
     let head = no_head();
     let changes = no_changes();
     Effect {
-        number: number,
         engine: e,
+        number: number,
         loaded: false,
         head: head,
         changes: changes,
         reached: false,
+        view: view,
     }
-}
-
-// Only the engine's values change.
-fn quiet(m: Engine) -> Effect
-    ensures { λ r. ⌜ effectSeen r ≡ accept (quiet m) ⌝ }
-{
-    plain(m, 0)
 }
 
 fn with_mode(e: Engine, n: u8) -> Engine
@@ -160,19 +162,21 @@ fn with_position(e: Engine, x: Position) -> Engine
     m
 }
 
-// 13, for the position that the engine holds.
-fn offset_beyond(e: Engine) -> bool
-    ensures { λ r. ⌜ r ≡ offsetBeyond (routeIn e) (e .train .position) ⌝ }
+// 13, by the segment that a position names.
+fn offset_beyond(s: Named, x: Position) -> bool
+    ensures { λ r. ⌜ r ≡ beyondBy s x ⌝ }
 {
-    let offset = e.train.position.offset;
-    if offset == 16777215 {
+    if x.offset == 16777215 {
         return false;
     }
-    let Found::At(k) = timing::find_segment(e) else {
+    if !s.found {
         return false;
-    };
-    let s = e.segments[k];
-    if s.booked { s.length < offset } else { false }
+    }
+    if s.segment.booked {
+        s.segment.length < x.offset
+    } else {
+        false
+    }
 }
 
 fn changes_of(index: u8, t: Reported) -> Changes
@@ -193,26 +197,43 @@ fn changes_of(index: u8, t: Reported) -> Changes
     }
 }
 
+// Whether the first point not passed is placed, from before the report on.
+fn placed_after(m: Engine, next: u8, before: bool) -> bool
+    requires { ⌜ before ≡ placed (routeIn m) (m .progress .next) ⌝ }
+    ensures { λ r. ⌜ r ≡ placed (routeIn m) next ⌝ }
+{
+    if next == m.progress.next {
+        before
+    } else {
+        control::placed_at(m, next)
+    }
+}
+
 // A position report.
-fn position(e: Engine, x: Position) -> Effect
-    ensures { λ r. ⌜ effectSeen r ≡ positionEffect e x ⌝ }
+fn position(e: Engine, x: Position, view: View) -> Effect
+    requires { ⌜ view ≡ viewOf e ⌝ }
+    ensures { λ r. ⌜ Gives (positionEffect e x) r ⌝ }
 {
     let mut m = with_position(e, x);
-    if offset_beyond(m) {
-        return plain(m, 13);
-    }
     let t = timing::report(m);
+    let segment = t.segment;
+    if offset_beyond(segment, x) {
+        return plain(e, 13, view);
+    }
     let head = no_head();
     let changes = changes_of(m.progress.next, t);
     let progress = t.progress;
+    let placed = placed_after(m, progress.next, view.placed);
+    let after = control::view_by(segment, x, placed);
     m.progress = progress;
     Effect {
-        number: 0,
         engine: m,
+        number: 0,
         loaded: false,
         head: head,
         changes: changes,
         reached: t.reached,
+        view: after,
     }
 }
 
@@ -246,23 +267,26 @@ fn with_target(e: Engine) -> Engine
     m
 }
 
-fn load(e: Engine, journey: &[u8], book: &[u8]) -> Effect
-    ensures { λ r. ⌜ effectSeen r ≡ loadEffect e (now (journey .entry)) (now (book .entry)) ⌝ }
+fn load(e: Engine, journey: &[u8], book: &[u8], view: View) -> Effect
+    requires { ⌜ view ≡ viewOf e ⌝ }
+    ensures { λ r. ⌜ Gives (loadEffect e (now (journey .entry)) (now (book .entry))) r ⌝ }
 {
     let l = route::load_route(journey, book);
     if l.number != 0 {
-        return plain(e, l.number);
+        return plain(e, l.number, view);
     }
     let m = with_target(with_route(e, l));
     let head = l.head;
     let changes = no_changes();
+    let after = control::view_of(m);
     Effect {
-        number: 0,
         engine: m,
+        number: 0,
         loaded: true,
         head: head,
         changes: changes,
         reached: false,
+        view: after,
     }
 }
 
@@ -294,64 +318,157 @@ fn with_skip(e: Engine, k: usize, on: bool) -> Engine
     requires { ⌜ k < 64 ⌝ }
     ensures { λ r. ⌜ r ≡ withSkips e (set (e .skips) k on) ⌝ }
 {
+    let mut skips = e.skips;
+    skips[k] = on;
     let mut m = e;
-    m.skips[k] = on;
+    m.skips = skips;
     m
 }
 
 // A driver skip of point k, or its revocation.
-fn skip_at(e: Engine, k: usize, on: bool) -> Effect
-    requires { ⌜ k < 64 ⌝ }
-    ensures { λ r. ⌜ effectSeen r ≡ skipEffect e on (At k) ⌝ }
+fn skip_at(e: Engine, k: usize, on: bool, view: View) -> Effect
+    requires { ⌜ (k < 64) × (view ≡ viewOf e) ⌝ }
+    ensures { λ r. ⌜ Gives (skipEffect e on (At k)) r ⌝ }
 {
     let index = k as u8;
     if is_behind(e.progress, index) {
-        return plain(e, 15);
+        return plain(e, 15, view);
     }
-    let given = e.skips[k];
+    let skips = e.skips;
+    let given = skips[k];
     if same(given, on) {
-        return plain(e, 15);
+        return plain(e, 15, view);
     }
     let m = with_skip(e, k, on);
     let head = no_head();
     let changes = one_change(index, skip_status(on), e.progress);
     Effect {
-        number: 0,
         engine: m,
+        number: 0,
         loaded: false,
         head: head,
         changes: changes,
         reached: false,
+        view: view,
     }
 }
 
-fn skip(e: Engine, nidtp: u32, on: bool) -> Effect
-    ensures { λ r. ⌜ effectSeen r ≡ skipEffect e on (stopNamed (routeIn e) nidtp) ⌝ }
+fn skip(e: Engine, nidtp: u32, on: bool, view: View) -> Effect
+    requires { ⌜ view ≡ viewOf e ⌝ }
+    ensures { λ r. ⌜ Gives (skipEffect e on (stopNamed (routeIn e) nidtp)) r ⌝ }
 {
     let Found::At(k) = timing::find_stop(e, nidtp) else {
-        return plain(e, 14);
+        return plain(e, 14, view);
     };
-    skip_at(e, k, on)
+    skip_at(e, k, on, view)
+}
+
+// The arrays of an engine, each element blank.
+struct Blanks {
+    points: [Point; 64],
+    segments: [Segment; 40],
+}
+
+// One loop clears both: two short ones would be unrolled into single stores.
+fn blank_arrays(e: Engine) -> Blanks
+    ensures { λ r. ⌜ (r .points ≡ replicate 64 blankPoint) × (r .segments ≡ replicate 40 blankSegment) ⌝ }
+{
+    let mut points = e.points;
+    let mut segments = e.segments;
+    let point = data::blank_point();
+    let segment = data::blank_segment();
+    let mut k: usize = 0;
+    while k < 64 {
+        points[k] = point;
+        if k < 40 {
+            segments[k] = segment;
+        }
+        k += 1;
+    }
+    Blanks {
+        points: points,
+        segments: segments,
+    }
+}
+
+// "Power off returns to fresh."
+fn cleared(e: Engine) -> Engine
+    ensures { λ r. ⌜ r ≡ fresh ⌝ }
+{
+    let b = blank_arrays(e);
+    let points = b.points;
+    let segments = b.segments;
+    let skips = [false; 64];
+    let load = Load {
+        valid: false,
+        operational: 4294967295,
+        ending: 0,
+        pointcount: 0,
+        segmentcount: 0,
+    };
+    let progress = Progress {
+        next: 0,
+        reached: false,
+    };
+    let position = Position {
+        nidc: 0,
+        nidsp: 0,
+        offset: 16777215,
+        speed: 0,
+    };
+    let train = Train {
+        position: position,
+        length: 0,
+    };
+    let control = Control {
+        state: 0,
+        mode: 0,
+        lever: 0,
+        reports: 0,
+        press: false,
+        request: false,
+    };
+    Engine {
+        points: points,
+        skips: skips,
+        segments: segments,
+        load: load,
+        progress: progress,
+        train: train,
+        control: control,
+    }
+}
+
+// What the conditions look up in the fresh engine.
+fn fresh_view() -> View
+    ensures { λ r. ⌜ r ≡ viewOf fresh ⌝ }
+{
+    View {
+        located: false,
+        outside: true,
+        placed: false,
+    }
 }
 
 // The thirteen kinds.
-fn effect_of(e: Engine, v: Event, journey: &[u8], book: &[u8]) -> Effect
-    ensures { λ r. ⌜ effectSeen r ≡ effect e (now (journey .entry)) (now (book .entry)) v ⌝ }
+fn effect_of(e: Engine, v: Event, journey: &[u8], book: &[u8], view: View) -> Effect
+    requires { ⌜ view ≡ viewOf e ⌝ }
+    ensures { λ r. ⌜ Gives (effect e (now (journey .entry)) (now (book .entry)) v) r ⌝ }
 {
     match v {
-        Event::PowerOn => quiet(e),
-        Event::Configured => quiet(e),
-        Event::PowerOff => quiet(data::fresh()),
-        Event::Fault => quiet(e),
-        Event::Reports(n) => quiet(with_reports(e, n)),
-        Event::Mode(n) => quiet(with_mode(e, n)),
-        Event::Lever(n) => quiet(with_lever(e, n)),
-        Event::Press => quiet(e),
-        Event::Report(x) => position(e, x),
-        Event::Length(n) => quiet(with_length(e, n)),
-        Event::Load => load(e, journey, book),
-        Event::Skip(t) => skip(e, t, true),
-        Event::Revoke(t) => skip(e, t, false),
+        Event::PowerOn => plain(e, 0, view),
+        Event::Configured => plain(e, 0, view),
+        Event::PowerOff => plain(cleared(e), 0, fresh_view()),
+        Event::Fault => plain(e, 0, view),
+        Event::Reports(n) => plain(with_reports(e, n), 0, view),
+        Event::Mode(n) => plain(with_mode(e, n), 0, view),
+        Event::Lever(n) => plain(with_lever(e, n), 0, view),
+        Event::Press => plain(e, 0, view),
+        Event::Report(x) => position(e, x, view),
+        Event::Length(n) => plain(with_length(e, n), 0, view),
+        Event::Load => load(e, journey, book, view),
+        Event::Skip(t) => skip(e, t, true, view),
+        Event::Revoke(t) => skip(e, t, false, view),
     }
 }
 
@@ -386,7 +503,7 @@ fn settle(m: Engine, v: Event, reached: bool, conditions: u16) -> Engine
     ensures { λ r. ⌜ r ≡ withControl m (controlAfter (m .control) v reached conditions) ⌝ }
 {
     let mut after = m;
-    let c = control::settle(m, v, reached, conditions);
+    let c = control::settle(m.control, v, reached, conditions);
     after.control = c;
     after
 }
@@ -416,16 +533,25 @@ fn writes_of(f: Effect, due: bool, conditions: u16) -> Writes
     }
 }
 
+// The nine conditions, from what they look up.
+fn conditions(e: Engine, view: View) -> u16
+    requires { ⌜ view ≡ viewOf e ⌝ }
+    ensures { λ r. ⌜ r ≡ conditions (routeIn e) (e .control .reports) (e .train .position) (standing (e .progress)) ⌝ }
+{
+    control::conditions_by(e.load, e.control.reports, view, e.progress)
+}
+
 // The rows of the states, then 16, then the packets.
-fn conclude(e: Engine, v: Event, f: Effect, out: &mut [u8]) -> Stepped
+fn conclude(e: Engine, view: View, v: Event, f: Effect, out: &mut [u8]) -> Stepped
+    requires { ⌜ (view ≡ viewOf e) × (f .view ≡ viewOf (f .engine)) ⌝ }
     ensures { λ r. ⌜ Steps (outcomeOf e (now (out .entry)) (outputRow (now (out .entry)) (stepBy e v (effectIn f)))) r (now (out .exit)) ⌝ }
 {
-    let before = shown(e, control::conditions(e));
-    let conditions = control::conditions(f.engine);
-    let m = settle(f.engine, v, f.reached, conditions);
-    let after = shown(m, conditions);
+    let before = shown(e, conditions(e, view));
+    let word = conditions(f.engine, f.view);
+    let m = settle(f.engine, v, f.reached, word);
+    let after = shown(m, word);
     let due = recording::status_due(before, after);
-    let w = writes_of(f, due, conditions);
+    let w = writes_of(f, due, word);
     let size = recording::size(w);
     if out.len() < size {
         return refused(e, 16);
@@ -443,11 +569,15 @@ fn take(e: Engine, v: Event, journey: &[u8], book: &[u8], out: &mut [u8]) -> Ste
     if n != 0 {
         return refused(e, n);
     }
-    let f = effect_of(e, v, journey, book);
+    // control::view_of, written out: a call of it would copy the engine once more
+    let s = timing::segment_named(e);
+    let placed = control::placed_at(e, e.progress.next);
+    let view = control::view_by(s, e.train.position, placed);
+    let f = effect_of(e, v, journey, book, view);
     if f.number != 0 {
         return refused(e, f.number);
     }
-    conclude(e, v, f, out)
+    conclude(e, view, v, f, out)
 }
 
 // One event. A refusal changes neither engine nor memory.

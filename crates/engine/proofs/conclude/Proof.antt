@@ -14,7 +14,7 @@ known c =
     let s₁ = c₂ .before in
     let c₁ = s₁ .before in
     let a = c₁ .before .before .args in
-    decided (a .e) (a .v) (a .f) _ _ _ _ _ _ _ (c₁ .conditions .ensures .0) (c₂ .conditions2 .ensures .0) (m .settle .ensures) (s₁ .shown .ensures) (s₂ .shown2 .ensures) (d .status-due .ensures) (w .writes-of .ensures)
+    decided (a .e) (a .v) (a .f) _ _ _ _ _ _ _ (c₁ .conditions .ensures) (c₂ .conditions2 .ensures) (m .settle .ensures) (s₁ .shown .ensures) (s₂ .shown2 .ensures) (d .status-due .ensures) (w .writes-of .ensures)
 
 conditions-requires : tie.Need-conditions-requires
 conditions-requires c κs = search needs

@@ -1,8 +1,9 @@
 use denote.Ref.{now}
-use mathlib.Core.Path.{sym, ap, _∙_}
-use Rattle.wire.specs.Judged.Judged.{accept}
-use Rattle.data.specs.declared.Engine.{Engine}
-use Rattle.model.specs.Effect.{quiet, effect}
+use mathlib.Core.Path.{refl, sym, ap, subst}
+use Rattle.data.specs.Engine.{fresh}
+use Rattle.model.specs.Effect.{effect}
+use Rattle.engine.specs.Seen.{Gives}
+use Rattle.engine.specs.Laws.{gives-quiet}
 use borrow.Author.Needs.{needs}
 use Rattle.engine.proofs.effect_of.Statement.{statement}
 use Rattle.engine.proofs.effect_of.Tie as tie
@@ -10,29 +11,32 @@ use Rattle.engine.proofs.effect_of.Tie as tie
 enum-told : tie.Need-enum-told
 enum-told c = search needs
 
-quiet-requires : tie.Need-quiet-requires
-quiet-requires c κs = search needs
+plain-requires : tie.Need-plain-requires
+plain-requires c κs = search needs
 
 enum-told-2 : tie.Need-enum-told-2
 enum-told-2 c = search needs
 
-quiet-requires-2 : tie.Need-quiet-requires-2
-quiet-requires-2 c κs = search needs
+plain-requires-2 : tie.Need-plain-requires-2
+plain-requires-2 c κs = search needs
 
 enum-told-3 : tie.Need-enum-told-3
 enum-told-3 c = search needs
 
-fresh-requires : tie.Need-fresh-requires
-fresh-requires c κs = search needs
+cleared-requires : tie.Need-cleared-requires
+cleared-requires c κs = search needs
 
-quiet-requires-3 : tie.Need-quiet-requires-3
-quiet-requires-3 c κs = search needs
+fresh-view-requires : tie.Need-fresh-view-requires
+fresh-view-requires c κs = search needs
+
+plain-requires-3 : tie.Need-plain-requires-3
+plain-requires-3 c κs = search needs
 
 enum-told-4 : tie.Need-enum-told-4
 enum-told-4 c = search needs
 
-quiet-requires-4 : tie.Need-quiet-requires-4
-quiet-requires-4 c κs = search needs
+plain-requires-4 : tie.Need-plain-requires-4
+plain-requires-4 c κs = search needs
 
 enum-known-v : tie.Need-enum-known-v
 enum-known-v c = search needs
@@ -40,8 +44,8 @@ enum-known-v c = search needs
 with-reports-requires : tie.Need-with-reports-requires
 with-reports-requires c κs = search needs
 
-quiet-requires-5 : tie.Need-quiet-requires-5
-quiet-requires-5 c κs = search needs
+plain-requires-5 : tie.Need-plain-requires-5
+plain-requires-5 c κs = search needs
 
 enum-known-v-2 : tie.Need-enum-known-v-2
 enum-known-v-2 c = search needs
@@ -49,8 +53,8 @@ enum-known-v-2 c = search needs
 with-mode-requires : tie.Need-with-mode-requires
 with-mode-requires c κs = search needs
 
-quiet-requires-6 : tie.Need-quiet-requires-6
-quiet-requires-6 c κs = search needs
+plain-requires-6 : tie.Need-plain-requires-6
+plain-requires-6 c κs = search needs
 
 enum-known-v-3 : tie.Need-enum-known-v-3
 enum-known-v-3 c = search needs
@@ -58,14 +62,14 @@ enum-known-v-3 c = search needs
 with-lever-requires : tie.Need-with-lever-requires
 with-lever-requires c κs = search needs
 
-quiet-requires-7 : tie.Need-quiet-requires-7
-quiet-requires-7 c κs = search needs
+plain-requires-7 : tie.Need-plain-requires-7
+plain-requires-7 c κs = search needs
 
 enum-told-5 : tie.Need-enum-told-5
 enum-told-5 c = search needs
 
-quiet-requires-8 : tie.Need-quiet-requires-8
-quiet-requires-8 c κs = search needs
+plain-requires-8 : tie.Need-plain-requires-8
+plain-requires-8 c κs = search needs
 
 enum-known-v-4 : tie.Need-enum-known-v-4
 enum-known-v-4 c = search needs
@@ -79,8 +83,8 @@ enum-known-v-5 c = search needs
 with-length-requires : tie.Need-with-length-requires
 with-length-requires c κs = search needs
 
-quiet-requires-9 : tie.Need-quiet-requires-9
-quiet-requires-9 c κs = search needs
+plain-requires-9 : tie.Need-plain-requires-9
+plain-requires-9 c κs = search needs
 
 enum-told-6 : tie.Need-enum-told-6
 enum-told-6 c = search needs
@@ -102,85 +106,99 @@ skip-requires-2 c κs = search needs
 
 returns : tie.Need-returns
 unfolding effect
-returns c = let a = c .before .before .before .before .before .args in c .quiet .ensures ∙ sym (ap (effect (a .e) (now (a .journey)) (now (a .book))) (c .before .enum-told .given .1))
+returns c = let s = c .before .before .before .before .before in
+    gives-quiet _ (s .args .e) _ _ _ (c .plain .ensures) refl (s .pre) (sym (ap (effect (s .args .e) (now (s .args .journey)) (now (s .args .book))) (c .before .enum-told .given .1)))
 
 returns-2 : tie.Need-returns-2
 unfolding effect
-returns-2 c = let a = c .before .before .before .before .before .args in c .quiet2 .ensures ∙ sym (ap (effect (a .e) (now (a .journey)) (now (a .book))) (c .before .enum-told2 .given .1))
+returns-2 c = let s = c .before .before .before .before .before in
+    gives-quiet _ (s .args .e) _ _ _ (c .plain2 .ensures) refl (s .pre) (sym (ap (effect (s .args .e) (now (s .args .journey)) (now (s .args .book))) (c .before .enum-told2 .given .1)))
 
 returns-3 : tie.Need-returns-3
 unfolding effect
-returns-3 c = let a = c .before .before .before .before .before .before .args in c .quiet3 .ensures ∙ ap (λ (m : Engine). accept (quiet m)) (c .before .fresh .ensures) ∙ sym (ap (effect (a .e) (now (a .journey)) (now (a .book))) (c .before .before .enum-told3 .given .1))
+returns-3 c = let s = c .before .before .before .before .before .before .before in
+    gives-quiet _ fresh _ _ _ (c .plain3 .ensures) (c .before .before .cleared .ensures) (c .before .fresh-view .ensures) (sym (ap (effect (s .args .e) (now (s .args .journey)) (now (s .args .book))) (c .before .before .before .enum-told3 .given .1)))
 
 returns-4 : tie.Need-returns-4
 unfolding effect
-returns-4 c = let a = c .before .before .before .before .before .args in c .quiet4 .ensures ∙ sym (ap (effect (a .e) (now (a .journey)) (now (a .book))) (c .before .enum-told4 .given .1))
+returns-4 c = let s = c .before .before .before .before .before in
+    gives-quiet _ (s .args .e) _ _ _ (c .plain4 .ensures) refl (s .pre) (sym (ap (effect (s .args .e) (now (s .args .journey)) (now (s .args .book))) (c .before .enum-told4 .given .1)))
 
 returns-5 : tie.Need-returns-5
 unfolding effect
-returns-5 c = let a = c .before .before .before .before .before .before .before .args in c .quiet5 .ensures ∙ ap (λ (m : Engine). accept (quiet m)) (c .before .with-reports .ensures) ∙ sym (ap (effect (a .e) (now (a .journey)) (now (a .book))) (c .before .before .before .v .given .1))
+returns-5 c = let s = c .before .before .before .before .before .before .before in
+    gives-quiet _ _ _ _ _ (c .plain5 .ensures) (c .before .with-reports .ensures) (s .pre) (sym (ap (effect (s .args .e) (now (s .args .journey)) (now (s .args .book))) (c .before .before .before .v .given .1)))
 
 returns-6 : tie.Need-returns-6
 unfolding effect
-returns-6 c = let a = c .before .before .before .before .before .before .before .args in c .quiet6 .ensures ∙ ap (λ (m : Engine). accept (quiet m)) (c .before .with-mode .ensures) ∙ sym (ap (effect (a .e) (now (a .journey)) (now (a .book))) (c .before .before .before .v2 .given .1))
+returns-6 c = let s = c .before .before .before .before .before .before .before in
+    gives-quiet _ _ _ _ _ (c .plain6 .ensures) (c .before .with-mode .ensures) (s .pre) (sym (ap (effect (s .args .e) (now (s .args .journey)) (now (s .args .book))) (c .before .before .before .v2 .given .1)))
 
 returns-7 : tie.Need-returns-7
 unfolding effect
-returns-7 c = let a = c .before .before .before .before .before .before .before .args in c .quiet7 .ensures ∙ ap (λ (m : Engine). accept (quiet m)) (c .before .with-lever .ensures) ∙ sym (ap (effect (a .e) (now (a .journey)) (now (a .book))) (c .before .before .before .v3 .given .1))
+returns-7 c = let s = c .before .before .before .before .before .before .before in
+    gives-quiet _ _ _ _ _ (c .plain7 .ensures) (c .before .with-lever .ensures) (s .pre) (sym (ap (effect (s .args .e) (now (s .args .journey)) (now (s .args .book))) (c .before .before .before .v3 .given .1)))
 
 returns-8 : tie.Need-returns-8
 unfolding effect
-returns-8 c = let a = c .before .before .before .before .before .args in c .quiet8 .ensures ∙ sym (ap (effect (a .e) (now (a .journey)) (now (a .book))) (c .before .enum-told5 .given .1))
+returns-8 c = let s = c .before .before .before .before .before in
+    gives-quiet _ (s .args .e) _ _ _ (c .plain8 .ensures) refl (s .pre) (sym (ap (effect (s .args .e) (now (s .args .journey)) (now (s .args .book))) (c .before .enum-told5 .given .1)))
 
 returns-9 : tie.Need-returns-9
 unfolding effect
-returns-9 c = let a = c .before .before .before .before .before .before .args in c .position .ensures ∙ sym (ap (effect (a .e) (now (a .journey)) (now (a .book))) (c .before .before .v4 .given .1))
+returns-9 c = let s = c .before .before .before .before .before .before in
+    subst (λ x. Gives x (c .position .result)) (sym (ap (effect (s .args .e) (now (s .args .journey)) (now (s .args .book))) (c .before .before .v4 .given .1))) (c .position .ensures)
 
 returns-10 : tie.Need-returns-10
 unfolding effect
-returns-10 c = let a = c .before .before .before .before .before .before .before .args in c .quiet9 .ensures ∙ ap (λ (m : Engine). accept (quiet m)) (c .before .with-length .ensures) ∙ sym (ap (effect (a .e) (now (a .journey)) (now (a .book))) (c .before .before .before .v5 .given .1))
+returns-10 c = let s = c .before .before .before .before .before .before .before in
+    gives-quiet _ _ _ _ _ (c .plain9 .ensures) (c .before .with-length .ensures) (s .pre) (sym (ap (effect (s .args .e) (now (s .args .journey)) (now (s .args .book))) (c .before .before .before .v5 .given .1)))
 
 returns-11 : tie.Need-returns-11
 unfolding effect
-returns-11 c = let a = c .before .before .before .before .before .args in c .load .ensures ∙ sym (ap (effect (a .e) (now (a .journey)) (now (a .book))) (c .before .enum-told6 .given .1))
+returns-11 c = let s = c .before .before .before .before .before in
+    subst (λ x. Gives x (c .load .result)) (sym (ap (effect (s .args .e) (now (s .args .journey)) (now (s .args .book))) (c .before .enum-told6 .given .1))) (c .load .ensures)
 
 returns-12 : tie.Need-returns-12
 unfolding effect
-returns-12 c = let a = c .before .before .before .before .before .before .args in c .skip .ensures ∙ sym (ap (effect (a .e) (now (a .journey)) (now (a .book))) (c .before .before .v6 .given .1))
+returns-12 c = let s = c .before .before .before .before .before .before in
+    subst (λ x. Gives x (c .skip .result)) (sym (ap (effect (s .args .e) (now (s .args .journey)) (now (s .args .book))) (c .before .before .v6 .given .1))) (c .skip .ensures)
 
 returns-13 : tie.Need-returns-13
 unfolding effect
-returns-13 c = let a = c .before .before .before .before .before .before .args in c .skip2 .ensures ∙ sym (ap (effect (a .e) (now (a .journey)) (now (a .book))) (c .before .before .v7 .given .1))
+returns-13 c = let s = c .before .before .before .before .before .before in
+    subst (λ x. Gives x (c .skip2 .result)) (sym (ap (effect (s .args .e) (now (s .args .journey)) (now (s .args .book))) (c .before .before .v7 .given .1))) (c .skip2 .ensures)
 
 pub effect-of-spec : {M : Type 1} → statement M
 effect-of-spec =
     tie.close
     (tie.spec
     enum-told
-    quiet-requires
+    plain-requires
     enum-told-2
-    quiet-requires-2
+    plain-requires-2
     enum-told-3
-    fresh-requires
-    quiet-requires-3
+    cleared-requires
+    fresh-view-requires
+    plain-requires-3
     enum-told-4
-    quiet-requires-4
+    plain-requires-4
     enum-known-v
     with-reports-requires
-    quiet-requires-5
+    plain-requires-5
     enum-known-v-2
     with-mode-requires
-    quiet-requires-6
+    plain-requires-6
     enum-known-v-3
     with-lever-requires
-    quiet-requires-7
+    plain-requires-7
     enum-told-5
-    quiet-requires-8
+    plain-requires-8
     enum-known-v-4
     position-requires
     enum-known-v-5
     with-length-requires
-    quiet-requires-9
+    plain-requires-9
     enum-told-6
     load-requires
     enum-known-v-6

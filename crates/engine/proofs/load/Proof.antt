@@ -1,11 +1,11 @@
 use denote.Ref.{now}
 use mathlib.Core.Bool.{false}
 use mathlib.Core.Path.{ap, _∙_}
+use borrow.Author.Tests.{ne-eqb}
 use Rattle.data.specs.Engine.{routeIn, progress, withProgress}
 use Rattle.data.specs.declared.Engine.{Engine}
 use Rattle.timing.specs.Load.{target}
-use Rattle.engine.specs.Seen.{effectSeen, plainEffect}
-use Rattle.engine.specs.Laws.{seen-number, load-number, load-taken}
+use Rattle.engine.specs.Laws.{gives-number, load-number, load-taken}
 use borrow.Author.Needs.{needs}
 use Rattle.engine.proofs.load.Statement.{statement}
 use Rattle.engine.proofs.load.Tie as tie
@@ -19,11 +19,11 @@ plain-requires c κs = search needs
 returns : tie.Need-returns
 returns c =
     let l = c .before .before .before in
-    let a = l .before .before .before .args in
+    let b = l .before .before .before in
+    let a = b .args in
     let h = c .before .if1 .taken in
-    ap effectSeen (c .plain .ensures)
-    ∙ seen-number (plainEffect (a .e) (l .load-route .result .number)) h
-    ∙ load-number (a .e) (now (a .journey)) (now (a .book)) (l .load-route .result) (l .load-route .ensures .seen) h
+    gives-number (a .e) (l .load-route .result .number) (a .view) _ _ (ne-eqb (l .load-route .result .number) 0 h) (c .plain .ensures) (b .pre)
+    (load-number (a .e) (now (a .journey)) (now (a .book)) (l .load-route .result) (l .load-route .ensures .seen) h)
 
 with-route-requires : tie.Need-with-route-requires
 with-route-requires c κs = search needs
@@ -34,15 +34,19 @@ with-target-requires c κs = search needs
 no-changes-requires : tie.Need-no-changes-requires
 no-changes-requires c κs = search needs
 
+view-of-requires : tie.Need-view-of-requires
+view-of-requires c κs = search needs
+
 returns-2 : tie.Need-returns-2
 returns-2 c =
-    let t = c .before .before in
+    let n = c .before in
+    let t = n .before .before in
     let r = t .before in
     let l = r .before .before .before in
     let a = l .before .before .before .args in
     load-taken (a .e) (now (a .journey)) (now (a .book)) (l .load-route .result) (l .load-route .ensures .seen) _ _ (r .before .if1 .left)
     (t .with-target .ensures ∙ ap (λ (x : Engine). withProgress x (progress (target (routeIn x) (x .train .position) (x .train .length)) false)) (r .with-route .ensures))
-    (c .no-changes .ensures)
+    (n .no-changes .ensures) _ (c .view-of .ensures)
 
 pub load-spec : {M : Type 1} → statement M
 load-spec =
@@ -54,4 +58,5 @@ load-spec =
     with-route-requires
     with-target-requires
     no-changes-requires
+    view-of-requires
     returns-2)

@@ -1,7 +1,8 @@
-use mathlib.Core.Path.{sym, ap, subst, _∙_}
+use mathlib.Core.Path.{refl, sym, ap, subst, _∙_}
 use Rattle.timing.specs.Position.{IndexBelow}
 use Rattle.model.specs.Effect.{skipEffect}
-use Rattle.engine.specs.Seen.{effectSeen}
+use Rattle.engine.specs.Seen.{Gives}
+use Rattle.engine.specs.Laws.{gives-number}
 use borrow.Author.Needs.{needs}
 use Rattle.engine.proofs.skip.Statement.{statement}
 use Rattle.engine.proofs.skip.Tie as tie
@@ -20,13 +21,15 @@ plain-requires c κs = search needs
 
 returns : tie.Need-returns
 unfolding skipEffect
-returns c = let s = c .before .before .before in ap effectSeen (c .plain .ensures) ∙ sym (ap (skipEffect _ _) (sym (s .find-stop .ensures .0) ∙ c .before .enum-told .given .1))
+returns c = let s = c .before .before .before in let b = s .before in
+    gives-number (b .args .e) 14 (b .args .view) _ _ refl (c .plain .ensures) (b .pre) (sym (ap (skipEffect _ _) (sym (s .find-stop .ensures .0) ∙ c .before .enum-told .given .1)))
 
 skip-at-requires : tie.Need-skip-at-requires
-skip-at-requires c κs = subst (IndexBelow 64) (c .before .k .given .1) (c .before .before .before .find-stop .ensures .1)
+skip-at-requires c κs = let s = c .before .before .before in (subst (IndexBelow 64) (c .before .k .given .1) (s .find-stop .ensures .1), s .before .pre)
 
 returns-2 : tie.Need-returns-2
-returns-2 c = let k = c .before .before in c .skip-at .ensures ∙ sym (ap (skipEffect _ _) (sym (k .before .before .find-stop .ensures .0) ∙ k .k .given .1))
+returns-2 c = let k = c .before .before in
+    subst (λ x. Gives x (c .skip-at .result)) (sym (ap (skipEffect _ _) (sym (k .before .before .find-stop .ensures .0) ∙ k .k .given .1))) (c .skip-at .ensures)
 
 pub skip-spec : {M : Type 1} → statement M
 skip-spec =

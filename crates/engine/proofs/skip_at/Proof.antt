@@ -1,7 +1,7 @@
 use Prim.Native.Nat.{ℕ}
-use mathlib.Core.Path.{sym, ap, _∙_}
-use Rattle.engine.specs.Seen.{oneChange, effectSeen}
-use Rattle.engine.specs.Laws.{skip-behind, skip-same, skip-taken}
+use mathlib.Core.Path.{refl, sym, ap, _∙_}
+use Rattle.engine.specs.Seen.{oneChange}
+use Rattle.engine.specs.Laws.{gives-number, skip-behind, skip-same, skip-taken}
 use borrow.Author.Needs.{needs}
 use Rattle.engine.proofs.skip_at.Statement.{statement}
 use Rattle.engine.proofs.skip_at.Tie as tie
@@ -16,10 +16,11 @@ plain-requires : tie.Need-plain-requires
 plain-requires c κs = search needs
 
 returns : tie.Need-returns
-returns c = let b = c .before .before in ap effectSeen (c .plain .ensures) ∙ sym (skip-behind _ _ _ (sym (b .is-behind .ensures) ∙ c .before .if1 .taken))
+returns c = let b = c .before .before in let s = b .before in
+    gives-number (s .args .e) 15 (s .args .view) _ _ refl (c .plain .ensures) (s .pre .1) (sym (skip-behind _ _ _ (sym (b .is-behind .ensures) ∙ c .before .if1 .taken)))
 
-element-copy-out-given : tie.Need-element-copy-out-given
-element-copy-out-given c = search needs
+array-read-given : tie.Need-array-read-given
+array-read-given c = search needs
 
 same-requires : tie.Need-same-requires
 same-requires c κs = search needs
@@ -31,7 +32,9 @@ returns-2 : tie.Need-returns-2
 returns-2 c =
     let s = c .before .before in
     let i = s .before .before in
-    ap effectSeen (c .plain2 .ensures) ∙ sym (skip-same _ _ _ (sym (i .before .is-behind .ensures) ∙ i .if1 .left) (sym (s .same .ensures) ∙ c .before .if2 .taken))
+    let b = i .before .before in
+    gives-number (b .args .e) 15 (b .args .view) _ _ refl (c .plain2 .ensures) (b .pre .1)
+    (sym (skip-same _ _ _ (sym (i .before .is-behind .ensures) ∙ i .if1 .left) (sym (s .same .ensures) ∙ c .before .if2 .taken)))
 
 with-skip-requires : tie.Need-with-skip-requires
 with-skip-requires c κs = search needs
@@ -47,13 +50,13 @@ one-change-requires c κs = search needs
 
 returns-3 : tie.Need-returns-3
 returns-3 c =
-    let t = c .before .before in
+    let t = c .before in
     let w = t .before .before in
     let s = w .before .before in
     let i = s .before .before in
-    let a = i .before .before .before .args in
-    skip-taken _ _ _ _ _ (t .before .no-head .result) (sym (i .before .is-behind .ensures) ∙ i .if1 .left) (sym (s .same .ensures) ∙ w .before .if2 .left) (w .with-skip .ensures)
-    (c .one-change .ensures ∙ ap (λ (n : ℕ). oneChange (a .k) n (a .t1 .progress)) (t .skip-status .ensures))
+    let b = i .before .before in
+    skip-taken (b .args .e) (b .args .k) (b .args .on) _ _ (t .before .no-head .result) (sym (i .before .is-behind .ensures) ∙ i .if1 .left) (sym (s .same .ensures) ∙ w .before .if2 .left) (w .with-skip .ensures)
+    (c .one-change .ensures ∙ ap (λ (n : ℕ). oneChange (b .args .k) n (b .args .e .progress)) (t .skip-status .ensures)) _ (b .pre .1)
 
 pub skip-at-spec : {M : Type 1} → statement M
 skip-at-spec =
@@ -63,7 +66,7 @@ skip-at-spec =
     is-behind-requires
     plain-requires
     returns
-    element-copy-out-given
+    array-read-given
     same-requires
     plain-requires-2
     returns-2

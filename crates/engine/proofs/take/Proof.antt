@@ -2,7 +2,10 @@ use denote.Ref.{now}
 use mathlib.Core.Path.{_≡_, ap₂, _∙_}
 use Rattle.event.specs.Events.{kindOf}
 use Rattle.control.specs.Codes.{stateAt}
+use Rattle.control.specs.Conditions.{viewBy}
+use Rattle.control.proofs.Laws.{view-is}
 use Rattle.control.specs.Numbers.{judged, stateRows}
+use Rattle.engine.specs.Seen.{viewOf}
 use Rattle.engine.specs.Laws.{rows-number, rows-effect, rows-output, steps-refused, steps-by}
 use borrow.Author.Needs.{needs}
 use Rattle.engine.proofs.take.Statement.{statement}
@@ -10,6 +13,12 @@ use Rattle.engine.proofs.take.Tie as tie
 
 numbered : (c : tie.After-power-number) → let a = c .before .before .before .before .before .before .args in judged (c .power-number .result) ≡ stateRows (stateAt (a .e .control .state)) (kindOf (a .v))
 numbered c = c .power-number .ensures ∙ ap₂ stateRows (c .before .before .state-at .ensures) (c .before .kind-of .ensures)
+
+viewed : (c : tie.After-view-by) → let a = c .before .before .before .before .before .before .before .before .before .before .args in c .view-by .result ≡ viewOf (a .e)
+viewed c =
+    let s = c .before .before in
+    let e = s .before .before .before .before .before .before .before .before .args .e in
+    c .view-by .ensures ∙ ap₂ (λ g b. viewBy g (e .train .position) b) (s .segment-named .ensures) (c .before .placed-at .ensures) ∙ view-is _ _ (e .progress)
 
 state-at-requires : tie.Need-state-at-requires
 state-at-requires c κs = search needs
@@ -29,8 +38,17 @@ returns c =
     let a = p .before .before .before .before .before .before .args in
     steps-refused (a .e) (now (a .out)) _ _ _ (rows-number (a .e) (a .v) (now (a .journey)) (now (a .book)) (now (a .out)) _ (numbered p) (c .before .if1 .taken)) (c .refused .ensures)
 
+segment-named-requires : tie.Need-segment-named-requires
+segment-named-requires c κs = search needs
+
+placed-at-requires : tie.Need-placed-at-requires
+placed-at-requires c κs = search needs
+
+view-by-requires : tie.Need-view-by-requires
+view-by-requires c κs = search needs
+
 effect-of-requires : tie.Need-effect-of-requires
-effect-of-requires c κs = search needs
+effect-of-requires c κs = viewed c
 
 refused-requires-2 : tie.Need-refused-requires-2
 refused-requires-2 c κs = search needs
@@ -38,14 +56,14 @@ refused-requires-2 c κs = search needs
 returns-2 : tie.Need-returns-2
 returns-2 c =
     let f = c .before .before .before in
-    let p = f .before .before in
+    let p = f .before .before .before .before .before in
     let a = p .before .before .before .before .before .before .args in
     steps-refused (a .e) (now (a .out)) _ _ _
-    (rows-effect (a .e) (a .v) (now (a .journey)) (now (a .book)) (now (a .out)) _ (numbered p) (f .effect-of .result) (f .before .if1 .left) (f .effect-of .ensures) (c .before .if2 .taken))
+    (rows-effect (a .e) (a .v) (now (a .journey)) (now (a .book)) (now (a .out)) _ (numbered p) (f .effect-of .result) (f .before .before .before .before .if1 .left) (f .effect-of .ensures .effect) (c .before .if2 .taken))
     (c .refused2 .ensures)
 
 conclude-requires : tie.Need-conclude-requires
-conclude-requires c κs = search needs
+conclude-requires c κs = let f = c .before .before .before in (viewed (f .before), f .effect-of .ensures .view)
 
 same-length : tie.Need-same-length
 same-length c = search needs
@@ -55,10 +73,10 @@ returns-3 c =
     let o = c .before .before in
     let i = o .before .before in
     let f = i .before .before in
-    let p = f .before .before in
+    let p = f .before .before .before .before .before in
     let a = p .before .before .before .before .before .before .args in
     steps-by (a .e) (now (a .out)) _ _ _ _
-    (rows-output (a .e) (a .v) (now (a .journey)) (now (a .book)) (now (a .out)) _ (numbered p) (f .effect-of .result) (f .before .if1 .left) (f .effect-of .ensures) (i .if2 .left))
+    (rows-output (a .e) (a .v) (now (a .journey)) (now (a .book)) (now (a .out)) _ (numbered p) (f .effect-of .result) (f .before .before .before .before .if1 .left) (f .effect-of .ensures .effect) (i .if2 .left))
     (o .conclude .ensures)
 
 pub take-spec : {M : Type 1} → statement M
@@ -70,6 +88,9 @@ take-spec =
     power-number-requires
     refused-requires
     returns
+    segment-named-requires
+    placed-at-requires
+    view-by-requires
     effect-of-requires
     refused-requires-2
     returns-2
