@@ -245,11 +245,11 @@ fn with_route(e: Engine, l: Loaded) -> Engine
     let points = l.points;
     let segments = l.segments;
     let load = l.load;
-    let skips = [false; 64];
+    let none = [false; 64];
     m.points = points;
     m.segments = segments;
     m.load = load;
-    m.skips = skips;
+    m.skips = none;
     m
 }
 
@@ -556,8 +556,9 @@ fn conclude(e: Engine, view: View, v: Event, f: Effect, out: &mut [u8]) -> Stepp
     if out.len() < size {
         return refused(e, 16);
     }
+    let r = accepted(m, size);
     recording::write(m, w, out);
-    accepted(m, size)
+    r
 }
 
 // An event that was read: power and state, its effect, then the rest.

@@ -229,6 +229,9 @@ fn put_passings(e: Engine, from: u8, to: u8, out: &mut [u8], at: usize) -> usize
     requires { ⌜ at ≤ 100000 ⌝ }
     ensures { λ r. ⌜ Put at (packets62 e (passings (to - from) from)) (now (out .entry)) (now (out .exit)) r ⌝ }
 {
+    if to <= from {
+        return at;
+    }
     let header = header_of(e);
     let points = e.points;
     let blank = data::blank_point();

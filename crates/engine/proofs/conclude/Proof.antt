@@ -46,21 +46,22 @@ refused-requires c κs = search needs
 returns : tie.Need-returns
 returns c = let s = c .before .before in concluded-16 (known s) _ _ (s .size .ensures) _ (c .before .if1 .taken) (c .refused .ensures)
 
-write-requires : tie.Need-write-requires
-write-requires c κs = search needs
-
 accepted-requires : tie.Need-accepted-requires
 accepted-requires c κs = search needs
+
+write-requires : tie.Need-write-requires
+write-requires c κs = search needs
 
 same-length : tie.Need-same-length
 same-length c = search needs
 
 returns-2 : tie.Need-returns-2
 returns-2 c =
-    let w = c .before .before .before in
-    let i = w .before .before in
+    let w = c .before .before in
+    let r = w .before .before in
+    let i = r .before in
     let s = i .before in
-    concluded (known s) _ _ (s .size .ensures) _ _ (i .if1 .left) (w .write .ensures) (c .accepted .ensures)
+    concluded (known s) _ _ (s .size .ensures) _ _ (i .if1 .left) (w .write .ensures) (r .accepted .ensures)
 
 pub conclude-spec : {M : Type 1} → statement M
 conclude-spec =
@@ -76,7 +77,7 @@ conclude-spec =
     size-requires
     refused-requires
     returns
-    write-requires
     accepted-requires
+    write-requires
     same-length
     returns-2)

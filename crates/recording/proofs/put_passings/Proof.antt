@@ -23,6 +23,14 @@ Inv-loop e from to out₀ at header points blank k₀ p₀ out k p =
 abbrev μ-loop : tie.MeasureT-loop
 μ-loop e from to out₀ at header points blank k₀ p₀ out k p = to - k
 
+returns : tie.Need-returns Inv-loop μ-loop
+returns c = let a = c .before .before .args in
+    record {
+      memory = sym (passings-end (a .e) (a .to) (a .from) (c .if1 .taken) _ (a .at));
+      next = omega (arith, size-passings (a .e) (a .to - a .from) (a .from));
+      near = omega arith;
+    }
+
 header-of-requires : tie.Need-header-of-requires Inv-loop μ-loop
 header-of-requires c κs = search needs
 
@@ -32,8 +40,8 @@ blank-point-requires c κs = search needs
 loop-holds : tie.Need-loop-holds Inv-loop μ-loop
 loop-holds c = (refl, (refl, refl))
 
-add-t16 : tie.Need-add-t16 Inv-loop μ-loop
-add-t16 c = omega arith
+add-t17 : tie.Need-add-t17 Inv-loop μ-loop
+add-t17 c = omega arith
 
 cast-i : tie.Need-cast-i Inv-loop μ-loop
 cast-i c = search needs
@@ -64,21 +72,21 @@ loop-again c =
     let b = c .before .before in
     let t = b .before .before in
     let l = t .before .before .before .loop in
-    let s = t .before .before .before .before .before .before .before .before in
+    let s = t .before .before .before .before .before .before .before .before .before in
     let a = s .args in
     let z : length (a .e .points) ≡ 64 = (sym (length-map (a .e .points) _) ∙ s .good .0 .1 .1 .0 .1 .0 .1) in
-    let point : t .before .if1 .point ≡ getD (a .e .points) (l .k) blankPoint = ⊎-elim (λ w. w .2)
+    let point : t .before .if2 .point ≡ getD (a .e .points) (l .k) blankPoint = ⊎-elim (λ w. w .2)
     (λ w. w .1 ∙ t .before .before .before .before .blank-point .ensures ∙ sym (List·getD-eq-default (a .e .points) blankPoint {n = l .k} (omega (arith, w .0 .left))))
-    (t .before .if1 .came) in
-    let put = b .put-packet .ensures ∙ ap (λ (p : Packet). sets (l .out) (l .p) (packetBytes p)) (t .timing-point-of .ensures ∙ packet-62 (routeIn (a .e)) (a .e .train .position) _ (t .before .before .before .before .before .before .header-of .ensures) (l .k) 0 _ (t .before .if1 .point) point) in
+    (t .before .if2 .came) in
+    let put = b .put-packet .ensures ∙ ap (λ (p : Packet). sets (l .out) (l .p) (packetBytes p)) (t .timing-point-of .ensures ∙ packet-62 (routeIn (a .e)) (a .e .train .position) _ (t .before .before .before .before .before .before .header-of .ensures) (l .k) 0 _ (t .before .if2 .point) point) in
     (passings-next (a .e) (a .to) (l .k) (omega arith) (l .out) _ (l .p) put ∙ l .inv .0, (omega arith, ap length (b .put-packet .ensures) ∙ length-sets (l .out) (l .p) (packetBytes (t .timing-point-of .result)) ∙ l .inv .1 .1))
 
 same-length : tie.Need-same-length Inv-loop μ-loop
 same-length c = c .before .loop .inv .1 .1
 
-returns : tie.Need-returns Inv-loop μ-loop
-returns c = let l = c .before .loop in
-    let a = c .before .before .before .before .before .before .args in
+returns-2 : tie.Need-returns-2 Inv-loop μ-loop
+returns-2 c = let l = c .before .loop in
+    let a = c .before .before .before .before .before .before .before .args in
     record {
       memory = sym (passings-end (a .e) (a .to) (l .k) (omega arith) (l .out) (l .p)) ∙ l .inv .0;
       next = omega (arith, size-passings (a .e) (a .to - a .from) (a .from));
@@ -91,10 +99,11 @@ put-passings-spec =
     (tie.spec
     Inv-loop
     μ-loop
+    returns
     header-of-requires
     blank-point-requires
     loop-holds
-    add-t16
+    add-t17
     cast-i
     mul-point
     array-copy-out-point
@@ -105,4 +114,4 @@ put-passings-spec =
     loop-less
     loop-again
     same-length
-    returns)
+    returns-2)
