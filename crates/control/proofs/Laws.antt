@@ -1,5 +1,5 @@
 -- Laws of the states' definitions, by case, for the proofs of the functions.
-use mathlib.Core.Path.{_≡_, refl, sym, ap, _∙_}
+use mathlib.Core.Path.{_≡_, refl, ap, _∙_}
 use mathlib.Core.List.{List, [], _∷_}
 use mathlib.Core.Bool.{Bool, true, false, not, _&&_, _||_}
 use Prim.Native.Nat.{ℕ, zero, suc, _+_, _-_, _*_, min, _≤_, _<_}
@@ -22,7 +22,6 @@ use Rattle.timing.specs.Standing.{standing, isPassed, behind}
 use Rattle.timing.specs.declared.Found.{Found}
 use Rattle.timing.specs.declared.Found.the-variants.{At, Nothing}
 use Rattle.timing.specs.declared.Named.{Named}
-use Rattle.timing.specs.declared.Standing.{Standing}
 use Rattle.timing.specs.declared.Standing.the-variants.{Targeted, Reached}
 use Rattle.event.proofs.Event
 use Rattle.event.specs.declared.Event.{Event}

@@ -4,5 +4,6 @@ pub mod Effect
 pub mod Call
 pub mod Shown
 pub mod Laws
+pub mod Sizes
 pub mod Computed
 pub mod Trials
