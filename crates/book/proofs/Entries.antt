@@ -1,18 +1,19 @@
 -- Laws of look-ups and of the tests for doubles, one turn of a loop each.
 use Prim.Native.Nat.{ℕ, zero, suc, _+_, _-_, _*_, _≤_, _<_}
-use mathlib.Core.Path.{_≡_, refl, ap, _∙_}
-use mathlib.Core.List.{List, [], _∷_, map}
+use mathlib.Core.Path.{_≡_, refl, sym, ap, _∙_, subst}
+use mathlib.Core.List.{List, [], _∷_, _++_, map, append-assoc, append-nil}
 use mathlib.Core.Bool.{Bool, true, false, _||_}
 use mathlib.Core.Option.{some}
-use lib.ListN.{length, drop, take, getD, length-take, drop-of-length-le}
-use lib.Seq.{drop-cons, drop-drop, getD-take}
+use lib.ListN.{length, drop, take, getD, set, length-take, drop-of-length-le}
+use lib.Seq.{drop-cons, drop-drop, getD-take, take-suc-set}
 use native.Mathlib.Numerals.{add-one}
 use native.Mathlib.Omega.{arith}
 use borrow.Author.Tests.{eq-eqb, ne-eqb}
 use Rattle.data.specs.declared.Zone.{Zone}
 use Rattle.wire.specs.Numbers.{number}
 use Rattle.book.specs.Book.{BookPoint, lookup, isSome, lookupPoint}
-use Rattle.book.specs.Answers.{items, pointOf, zoneOf, entrySegment, isNamed, indexFrom, pointSeen}
+use Rattle.book.specs.Answers.{items, pointOf, zoneOf, entrySegment, blankEntry, isNamed, indexFrom, pointSeen}
+use Rattle.book.specs.Fits.{All, SegmentFits}
 use Rattle.book.specs.declared.Entry.{Entry}
 use Rattle.book.specs.declared.Found.{Found}
 use Rattle.book.specs.declared.PointFound.{PointFound}
@@ -24,8 +25,8 @@ or-true-left a b e = rw e
 pub or-false-left : (a b : Bool) → a ≡ false → (a || b) ≡ b
 or-false-left a b e = rw e
 
--- the first n of the entries es, i of them behind
-module _ (n : ℕ) (es : List Entry) (d : Entry) where
+-- the first n of the elements es, i of them behind
+module _ {A : Type 0} (n : ℕ) (es : List A) (d : A) where
   pub entry-step : (i : ℕ) → i < n → n ≤ length es → drop i (take n es) ≡ getD es i d ∷ drop (i + 1) (take n es)
   entry-step i h k =
       let m : i < length (take n es) = rw length-take (omega arith) in
@@ -74,6 +75,24 @@ module _ {A : Type 0} (v : List ℕ → A) (k n : ℕ) where
   pub items-end : (i : ℕ) (l : List ℕ) → n ≤ i → items v k (n - i) l ≡ []
   items-end i l h = let e : n - i ≡ 0 = omega arith in rw e
 
+pub items-length : {A : Type 0} (v : List ℕ → A) (k n : ℕ) (l : List ℕ) → length (items v k n l) ≡ n
+items-length v k zero l = refl
+items-length v k (suc n) l = ap suc (items-length v k n (drop k l))
+
+-- the values of n items one by one: i of them stand in xs
+module _ (xs : List ℕ) (i n x : ℕ) (all l r : List ℕ) (v : List ℕ → ℕ) (k : ℕ) where
+  pub kept-more : i < length xs → all ≡ take i xs ++ items v k (n - i) l → items v k (n - i) l ≡ v l ∷ items v k (n - (i + 1)) r → x ≡ v l
+      → all ≡ take (i + 1) (set xs i x) ++ items v k (n - (i + 1)) r
+  kept-more h e s q =
+      e ∙ ap (λ (y : List ℕ). take i xs ++ y) (s ∙ ap (λ (y : ℕ). y ∷ items v k (n - (i + 1)) r) (sym q))
+      ∙ sym (append-assoc (take i xs) (x ∷ []) (items v k (n - (i + 1)) r))
+      ∙ ap (λ (y : List ℕ). y ++ items v k (n - (i + 1)) r) (sym (ap (λ (m : ℕ). take m (set xs i x)) (add-one i) ∙ take-suc-set xs i x h))
+
+  pub kept-all : i ≤ n → n ≤ i → all ≡ take i xs ++ items v k (n - i) l → take n xs ≡ all
+  kept-all a b e =
+      let m : i ≡ n = omega arith in
+      sym (e ∙ ap (λ (y : List ℕ). take i xs ++ y) (items-end v k n i l b) ∙ append-nil (take i xs) ∙ ap (λ (j : ℕ). take j xs) m)
+
 -- the item of an index
 pub items-at : {A : Type 0} (v : List ℕ → A) (k : ℕ) (d : A) (n i : ℕ) (l : List ℕ) → i < n → getD (items v k n l) i d ≡ v (drop (k * i) l)
 items-at v k d zero i l h = absurd (omega arith)
@@ -86,6 +105,18 @@ pub items-past : {A : Type 0} (v : List ℕ → A) (k : ℕ) (d : A) (n i : ℕ)
 items-past v k d zero i l h = refl
 items-past v k d (suc n) zero l h = absurd (omega arith)
 items-past v k d (suc n) (suc i) l h = items-past v k d n i (drop k l) (omega arith)
+
+-- an entry whose record fits has 16 points at most
+module _ (s : List ℕ) where
+  few-of : (es : List Entry) (i : ℕ) → i < length es → All SegmentFits (map (entrySegment s) es) → getD es i blankEntry .points ≤ 16
+  few-of [] i h f = absurd (omega arith)
+  few-of (e ∷ es) zero h f = omega (arith, f .0 .pointcount, items-length pointOf 10 (e .points) (drop (e .pointsat) s))
+  few-of (e ∷ es) (suc i) h f = few-of es i (omega arith) (f .1)
+
+  pub few-points : (n : ℕ) (es : List Entry) (i : ℕ) → i < n → n ≤ length es → All SegmentFits (map (entrySegment s) (take n es)) → getD es i blankEntry .points ≤ 16
+  few-points n es i h k f =
+      let m : i < length (take n es) = rw length-take (omega arith) in
+      subst (λ (e : Entry). e .points ≤ 16) (getD-take n es i blankEntry h) (few-of (take n es) i m f)
 
 -- the names of a record's points
 pub names : (n : ℕ) (l : List ℕ) → map (λ (p : BookPoint). p .nidtp) (items pointOf 10 n l) ≡ items (number 4) 10 n l

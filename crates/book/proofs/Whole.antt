@@ -1,6 +1,6 @@
 -- Laws of a whole book: its records one by one, the pass that keeps the first 40, and the number that it gets.
 use Prim.Native.Nat.{ℕ, zero, suc, _+_, _-_, _≤_, _<_, min}
-use mathlib.Core.Path.{_≡_, refl, sym, ap, _∙_}
+use mathlib.Core.Path.{_≡_, refl, sym, ap, _∙_, subst}
 use mathlib.Core.List.{List, [], _∷_, _++_, map, append-assoc, append-nil}
 use mathlib.Core.Bool.{Bool, true, false, cond, _||_, false≢true}
 use lib.ListN.{length, drop, take, set, replicate, length-drop, length-append, length-set, drop-of-length-le}
@@ -14,6 +14,7 @@ use Rattle.wire.specs.Judged.Judged.{refuse, accept}
 use Rattle.book.specs.Book.{BookSegment, segmentRecord, records, segmentTwice, pointTwice, misbooked, bookOf}
 use Rattle.book.specs.Answers.{entrySegment, segmentsIn, bookSeen, blankEntry, BookRead}
 use Rattle.book.specs.Parts.{allRecords, ReadTo, refusedBook}
+use Rattle.book.specs.Fits.{All, SegmentFits, records-give}
 use Rattle.book.specs.declared.Entry.{Entry}
 use Rattle.book.specs.declared.Book.{Book}
 use Rattle.book.proofs.Reading.{segment-takes}
@@ -139,10 +140,16 @@ module _ (s : List ℕ) where
   unfolding bookOf allRecords
   book-all gs r e = rw e
 
+  all-read : (n : ℕ) (es : List Entry) (gs : List BookSegment) → ReadTo s (length s) n es gs → allRecords s ≡ good gs (drop (length s) s)
+  all-read n es gs g =
+      g .all ∙ ap (before gs) (all-end (drop (length s) s) (rw length-drop (omega arith))) ∙ ap (λ (x : List BookSegment). good x (drop (length s) s)) (append-nil gs)
+
   pub book-read : (n : ℕ) (es : List Entry) (gs : List BookSegment) → ReadTo s (length s) n es gs → bookOf s ≡ cond (misbooked gs) (refuse 8) (accept gs)
-  book-read n es gs g =
-      book-all gs (drop (length s) s)
-      (g .all ∙ ap (before gs) (all-end (drop (length s) s) (rw length-drop (omega arith))) ∙ ap (λ (x : List BookSegment). good x (drop (length s) s)) (append-nil gs))
+  book-read n es gs g = book-all gs (drop (length s) s) (all-read n es gs g)
+
+  all-fit : (gs : List BookSegment) (r : List ℕ) → allRecords s ≡ good gs r → All SegmentFits gs
+  unfolding allRecords
+  all-fit gs r e = records-give (suc (length s)) s gs r e
 
   -- a refusal
   pub book-refused : (k : ℕ) → eqb k 0 ≡ false → bookOf s ≡ refuse k → BookRead s (refusedBook k)
@@ -164,6 +171,9 @@ module _ (s : List ℕ) where
 
     few : gs ≡ segmentsIn s book
     few = sym (take-all 40 gs (omega (arith, g .count))) ∙ g .first
+
+    pub book-fit : All SegmentFits (segmentsIn s book)
+    book-fit = subst (All SegmentFits) few (all-fit gs _ (all-read n es gs g))
 
     judged : bookOf s ≡ cond (segmentTwice (segmentsIn s book) || (pointTwice (segmentsIn s book) || false)) (refuse 8) (accept (segmentsIn s book))
     judged = book-read n es gs g ∙ rw (le-ltb 40 (length gs) (omega (arith, g .count)), few)

@@ -42,7 +42,7 @@ pub record SegmentFits (g : BookSegment) : Type 0 where
   pub zonecount : length (g .zones) ≤ 4
 
 -- of each value that a reader gives, P holds
-abbrev Gives : {A : Type 0} → (A → Type 0) → Reader A → Type 0
+abbrev pub Gives : {A : Type 0} → (A → Type 0) → Reader A → Type 0
 Gives {A} P p = (l : List ℕ) (a : A) (r : List ℕ) → p l ≡ good a r → P a
 
 gives-give : {A : Type 0} (P : A → Type 0) (x : A) → P x → Gives P (give x)
@@ -101,7 +101,7 @@ segment-gives =
     gives-give SegmentFits (record { nidc = c; nidsp = sp; length = len; points = ps; zones = zs })
     (record { nidc = hc .1; nidsp = hs .1; least = hl .0; most = hl .1; points = hp .0; pointcount = hp .1; zones = hz .0; zonecount = hz .1 }))))))))
 
-records-give : (n : ℕ) → Gives (All SegmentFits) (records n)
+pub records-give : (n : ℕ) → Gives (All SegmentFits) (records n)
 unfolding records
 records-give zero l a r e = let z : _≡_ {A = ℕ} 0 1 = cc in absurd (omega arith)
 records-give (suc n) l a r e = go (eqb (length l) 0) (records-give n) e

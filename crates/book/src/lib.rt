@@ -5,12 +5,13 @@ use wire::Width;
 use wire::read_field;
 ghost use mathlib.Core.Path.{_≡_};
 ghost use mathlib.Core.List.{List, map};
-ghost use Prim.Native.Nat.{ℕ, min};
-ghost use lib.ListN.{drop};
+ghost use Prim.Native.Nat.{ℕ, _≤_, min};
+ghost use lib.ListN.{length, drop, take};
 ghost use Rattle.wire.specs.Numbers.{number};
 ghost use Rattle.book.specs.Book.{segmentRecord, among, twice, lookup, lookupPoint, isSome, segmentTwice, pointTwice};
 ghost use Rattle.book.specs.Answers.{items, entrySegment, segmentsIn, blankEntry, entriesIn, isNamed, indexFrom, pointSeen, zoneIn, zonesOf, BookRead};
 ghost use Rattle.book.specs.Parts.{item, most, skip, extent, endsSeen, itemsSeen, segmentSeen, RecordsRead, refusedBook};
+ghost use Rattle.book.specs.Fits.{All, SegmentFits};
 
 // A segment record that was read: its numbers, and where its lists stand in the book's bytes.
 pub struct Entry {
@@ -322,41 +323,66 @@ fn after(s: &[u8], p: usize, k: usize) -> usize
     p + k
 }
 
-// A name is among those of n points.
-fn has_name(s: &[u8], at: usize, n: u8, nidtp: u32) -> bool
-    ensures { λ r. ⌜ r ≡ among nidtp (items (number 4) 10 n (drop at (now (s .entry)))) ⌝ }
+// The names of n points.
+fn names_of(s: &[u8], at: usize, n: usize) -> [u32; 16]
+    requires { ⌜ n ≤ 16 ⌝ }
+    ensures { λ r. ⌜ take n r ≡ items (number 4) 10 n (drop at (now (s .entry))) ⌝ }
 {
+    let mut names = [0; 16];
     let mut p = at;
-    let mut i: u8 = 0;
+    let mut i: usize = 0;
     while i < n {
-        if wire::be32(s, p) == nidtp {
-            return true;
-        }
+        names[i] = wire::be32(s, p);
         p = after(s, p, 10);
         i += 1;
+    }
+    names
+}
+
+// A name is among the first n, from an index on.
+fn has_name(names: &[u32; 16], from: usize, n: usize, nidtp: u32) -> bool
+    requires { ⌜ (n ≤ 16) × (n ≤ length (now names)) ⌝ }
+    ensures { λ r. ⌜ r ≡ among nidtp (drop from (take n (now (names .entry)))) ⌝ }
+{
+    let mut i = from;
+    while i < n {
+        if names[i] == nidtp {
+            return true;
+        }
+        i += 1;
+    }
+    false
+}
+
+// Two of the first n names are the same.
+fn repeated(names: &[u32; 16], n: usize) -> bool
+    requires { ⌜ (n ≤ 16) × (n ≤ length (now names)) ⌝ }
+    ensures { λ r. ⌜ r ≡ twice (take n (now (names .entry))) ⌝ }
+{
+    let mut i: usize = 0;
+    while i < n {
+        let nidtp = names[i];
+        i += 1;
+        if has_name(names, i, n, nidtp) {
+            return true;
+        }
     }
     false
 }
 
 // Two of n points have one name.
 fn name_twice(s: &[u8], at: usize, n: u8) -> bool
+    requires { ⌜ n ≤ 16 ⌝ }
     ensures { λ r. ⌜ r ≡ twice (items (number 4) 10 n (drop at (now (s .entry)))) ⌝ }
 {
-    let mut p = at;
-    let mut i: u8 = 0;
-    while i < n {
-        let nidtp = wire::be32(s, p);
-        p = after(s, p, 10);
-        i += 1;
-        if has_name(s, p, n - i, nidtp) {
-            return true;
-        }
-    }
-    false
+    let k = n as usize;
+    let names = names_of(s, at, k);
+    repeated(&names, k)
 }
 
 // In one record two points have one name.
 fn point_twice(s: &[u8], b: Book) -> bool
+    requires { ⌜ All SegmentFits (segmentsIn (now s) b) ⌝ }
     ensures { λ r. ⌜ r ≡ pointTwice (segmentsIn (now (s .entry)) b) ⌝ }
 {
     let n = count_of(b.count);

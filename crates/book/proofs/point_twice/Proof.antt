@@ -6,7 +6,7 @@ use lib.ListN.{length, drop, getD, length-map}
 use native.Mathlib.Omega.{arith}
 use Rattle.book.specs.Book.{twice, pointTwice}
 use Rattle.book.specs.Answers.{entrySegment, entriesIn, segmentsIn, blankEntry}
-use Rattle.book.proofs.Entries.{entry-step, entry-end, names, or-true-left, or-false-left}
+use Rattle.book.proofs.Entries.{entry-step, entry-end, few-points, names, or-true-left, or-false-left}
 use borrow.Author.Needs.{needs}
 use Rattle.book.proofs.point_twice.Statement.{statement}
 use Rattle.book.proofs.point_twice.Tie as tie
@@ -33,7 +33,12 @@ add-i : tie.Need-add-i Inv-loop μ-loop
 add-i c = search needs
 
 name-twice-requires : tie.Need-name-twice-requires Inv-loop μ-loop
-name-twice-requires c κs = search needs
+name-twice-requires c κs =
+    let a = c .before .before .before .before .before .args in
+    let b = a .t2 in
+    let w = c .before .before .loop in
+    let long : length (b .entries) ≡ 40 = sym (length-map (b .entries) _) ∙ c .before .before .before .before .before .good .1 .0 .1 .1 .1 .1 .0 .1 .0 .1 in
+    few-points (now (a .s)) (min (b .count) 40) (b .entries) (w .i) (omega (arith, c .before .before .before .count-of .ensures)) (omega arith) (c .before .before .before .before .before .pre)
 
 returns : tie.Need-returns Inv-loop μ-loop
 returns c =

@@ -1,7 +1,7 @@
 use borrow.Author.Tests.{not-true, not-false}
 use denote.Ref.{now}
 use mathlib.Core.Path.{refl, _∙_, sym}
-use Rattle.book.proofs.Whole.{book-bad, book-refused, book-many, book-segment, book-point, book-good}
+use Rattle.book.proofs.Whole.{book-bad, book-refused, book-many, book-fit, book-segment, book-point, book-good}
 use borrow.Author.Needs.{needs}
 use Rattle.book.proofs.read_book.Statement.{statement}
 use Rattle.book.proofs.read_book.Tie as tie
@@ -45,7 +45,11 @@ returns-3 c =
     rw (c .refused3 .ensures) (book-refused s 8 refl (book-segment s (all .count) (all .first) (g .0) (g .1) (c .before .before .before .before .if2 .left) t))
 
 point-twice-requires : tie.Need-point-twice-requires
-point-twice-requires c κs = search needs
+point-twice-requires c κs =
+    let s = now (c .before .before .before .before .before .before .before .args .s) in
+    let all = c .before .before .before .before .before .read-records .result in
+    let g = c .before .before .before .before .before .read-records .ensures .good (not-false _ (c .before .before .before .before .if1 .left)) in
+    book-fit s (all .count) (all .first) (g .0) (g .1) (c .before .before .before .if2 .left)
 
 refused-requires-4 : tie.Need-refused-requires-4
 refused-requires-4 c κs = search needs
