@@ -25,8 +25,8 @@ or-true-left a b e = rw e
 pub or-false-left : (a b : Bool) → a ≡ false → (a || b) ≡ b
 or-false-left a b e = rw e
 
--- the first n of the elements es, i of them behind
-module _ {A : Type 0} (n : ℕ) (es : List A) (d : A) where
+-- the first n of the entries es, i of them behind
+module _ (n : ℕ) (es : List Entry) (d : Entry) where
   pub entry-step : (i : ℕ) → i < n → n ≤ length es → drop i (take n es) ≡ getD es i d ∷ drop (i + 1) (take n es)
   entry-step i h k =
       let m : i < length (take n es) = rw length-take (omega arith) in
@@ -34,6 +34,13 @@ module _ {A : Type 0} (n : ℕ) (es : List A) (d : A) where
 
   pub entry-end : (i : ℕ) → n ≤ i → drop i (take n es) ≡ []
   entry-end i h = let m : length (take n es) ≤ i = rw length-take (omega arith) in drop-of-length-le (take n es) m
+
+-- a list of numbers, i of them behind
+pub number-step : (l : List ℕ) (i : ℕ) → i < length l → drop i l ≡ getD l i 0 ∷ drop (i + 1) l
+number-step l i h = rw (add-one, drop-cons l i 0 h)
+
+pub number-end : (l : List ℕ) (i : ℕ) → length l ≤ i → drop i l ≡ []
+number-end l i h = drop-of-length-le l h
 
 -- one entry of a look-up
 module _ (c sp i : ℕ) (e : Entry) (es : List Entry) where

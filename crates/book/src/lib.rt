@@ -6,7 +6,7 @@ use wire::read_field;
 ghost use mathlib.Core.Path.{_≡_};
 ghost use mathlib.Core.List.{List, map};
 ghost use Prim.Native.Nat.{ℕ, _≤_, min};
-ghost use lib.ListN.{length, drop, take};
+ghost use lib.ListN.{drop, take};
 ghost use Rattle.wire.specs.Numbers.{number};
 ghost use Rattle.book.specs.Book.{segmentRecord, among, twice, lookup, lookupPoint, isSome, segmentTwice, pointTwice};
 ghost use Rattle.book.specs.Answers.{items, entrySegment, segmentsIn, blankEntry, entriesIn, isNamed, indexFrom, pointSeen, zoneIn, zonesOf, BookRead};
@@ -339,14 +339,13 @@ fn names_of(s: &[u8], at: usize, n: usize) -> [u32; 16]
     names
 }
 
-// A name is among the first n, from an index on.
-fn has_name(names: &[u32; 16], from: usize, n: usize, nidtp: u32) -> bool
-    requires { ⌜ (n ≤ 16) × (n ≤ length (now names)) ⌝ }
-    ensures { λ r. ⌜ r ≡ among nidtp (drop from (take n (now (names .entry)))) ⌝ }
+// A name is among those from an index on.
+fn has_name(names: &[u32], from: usize, name: u32) -> bool
+    ensures { λ r. ⌜ r ≡ among name (drop from (now (names .entry))) ⌝ }
 {
     let mut i = from;
-    while i < n {
-        if names[i] == nidtp {
+    while i < names.len() {
+        if names[i] == name {
             return true;
         }
         i += 1;
@@ -354,16 +353,15 @@ fn has_name(names: &[u32; 16], from: usize, n: usize, nidtp: u32) -> bool
     false
 }
 
-// Two of the first n names are the same.
-fn repeated(names: &[u32; 16], n: usize) -> bool
-    requires { ⌜ (n ≤ 16) × (n ≤ length (now names)) ⌝ }
-    ensures { λ r. ⌜ r ≡ twice (take n (now (names .entry))) ⌝ }
+// A name stands twice.
+pub fn repeated(names: &[u32]) -> bool
+    ensures { λ r. ⌜ r ≡ twice (now (names .entry)) ⌝ }
 {
     let mut i: usize = 0;
-    while i < n {
-        let nidtp = names[i];
+    while i < names.len() {
+        let name = names[i];
         i += 1;
-        if has_name(names, i, n, nidtp) {
+        if has_name(names, i, name) {
             return true;
         }
     }
@@ -377,7 +375,7 @@ fn name_twice(s: &[u8], at: usize, n: u8) -> bool
 {
     let k = n as usize;
     let names = names_of(s, at, k);
-    repeated(&names, k)
+    repeated(&names[..k])
 }
 
 // In one record two points have one name.

@@ -1,37 +1,36 @@
 use Prim.Native.Nat.{_-_}
 use denote.Ref.{now}
 use mathlib.Core.Path.{_≡_, refl, _∙_, sym, ap}
-use lib.ListN.{drop, take}
+use lib.ListN.{length, drop}
 use native.Mathlib.Omega.{arith}
 use borrow.Author.Needs.{needs}
 use borrow.Author.Tests.{eq-eqb, ne-eqb}
 use Rattle.book.specs.Book.{among}
-use Rattle.book.proofs.Entries.{entry-step, entry-end, or-true-left, or-false-left}
+use Rattle.book.proofs.Entries.{number-step, number-end, or-true-left, or-false-left}
 use Rattle.book.proofs.has_name.Statement.{statement}
 use Rattle.book.proofs.has_name.Tie as tie
 
 abbrev Inv-loop : tie.InvT-loop
-Inv-loop names from n nidtp i₀ i = among nidtp (drop from (take n names)) ≡ among nidtp (drop i (take n names))
+Inv-loop names from name i₀ i = among name (drop from names) ≡ among name (drop i names)
 
 abbrev μ-loop : tie.MeasureT-loop
-μ-loop names from n nidtp i₀ i = n - i
+μ-loop names from name i₀ i = length names - i
 
 loop-holds : tie.Need-loop-holds Inv-loop μ-loop
 loop-holds c = refl
 
 mul-if1 : tie.Need-mul-if1 Inv-loop μ-loop
-mul-if1 c = omega arith
+mul-if1 c = search needs
 
-element-copy-out-if1 : tie.Need-element-copy-out-if1 Inv-loop μ-loop
-element-copy-out-if1 c = omega arith
+shared-slice-read-if1 : tie.Need-shared-slice-read-if1 Inv-loop μ-loop
+shared-slice-read-if1 c = search needs
 
 returns : tie.Need-returns Inv-loop μ-loop
 returns c =
     let a = c .before .before .before .before .args in
     let w = c .before .before .before .loop in
-    let l = now (a .names) in
-    let step = entry-step (a .n) l 0 (w .i) (omega arith) (omega arith) in
-    sym (w .inv ∙ ap (among (a .nidtp)) step ∙ or-true-left _ _ (eq-eqb _ _ (c .if1 .taken)))
+    let step = number-step (now (a .names)) (w .i) (omega arith) in
+    sym (w .inv ∙ ap (among (a .name)) step ∙ or-true-left _ _ (eq-eqb _ _ (c .if1 .taken)))
 
 add-i : tie.Need-add-i Inv-loop μ-loop
 add-i c = search needs
@@ -43,15 +42,14 @@ loop-again : tie.Need-loop-again Inv-loop μ-loop
 loop-again c =
     let a = c .before .before .before .before .args in
     let w = c .before .before .before .loop in
-    let l = now (a .names) in
-    let step = entry-step (a .n) l 0 (w .i) (omega arith) (omega arith) in
-    w .inv ∙ ap (among (a .nidtp)) step ∙ or-false-left _ _ (ne-eqb _ _ (c .if1 .left))
+    let step = number-step (now (a .names)) (w .i) (omega arith) in
+    w .inv ∙ ap (among (a .name)) step ∙ or-false-left _ _ (ne-eqb _ _ (c .if1 .left))
 
 returns-2 : tie.Need-returns-2 Inv-loop μ-loop
 returns-2 c =
     let a = c .before .before .args in
     let w = c .before .loop in
-    sym (w .inv ∙ ap (among (a .nidtp)) (entry-end (a .n) (now (a .names)) 0 (w .i) (c .loop-test .left)))
+    sym (w .inv ∙ ap (among (a .name)) (number-end (now (a .names)) (w .i) (c .loop-test .left)))
 
 pub has-name-spec : {M : Type 1} → statement M
 has-name-spec =
@@ -61,7 +59,7 @@ has-name-spec =
     μ-loop
     loop-holds
     mul-if1
-    element-copy-out-if1
+    shared-slice-read-if1
     returns
     add-i
     loop-less
