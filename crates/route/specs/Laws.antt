@@ -1,13 +1,15 @@
 -- Laws of placing, a step of a loop each.
-use Prim.Native.Nat.{ℕ, zero, suc, _+_, _*_, _^_, _≤_, _<_}
+use Prim.Native.Nat.{ℕ, zero, suc, _+_, _*_, _^_, _≤_, _<_, min}
 use mathlib.Core.Path.{_≡_, refl, sym, ap, _∙_}
 use mathlib.Core.List.{List, [], _∷_, _++_, map, append-assoc, append-nil}
-use mathlib.Core.Bool.{Bool, true, false, not, _&&_}
+use mathlib.Core.Bool.{Bool, true, false, not, _&&_, _||_, false≢true}
 use mathlib.Core.Option.{Option, some}
 use native.Mathlib.Omega.{arith}
 use native.Mathlib.Numerals.{add-one}
-use lib.ListN.{length, getD, take, drop, set, replicate, List·getD-map}
-use lib.Seq.{take-suc-set, length-take-le}
+use lib.ListN.{length, getD, take, drop, set, replicate, length-take, List·getD-map}
+use lib.Seq.{take-suc-set, length-take-le, getD-take}
+use lib.Dec.{leb}
+use borrow.Author.Tests.{leb-false}
 use Rattle.wire.specs.Numbers.{if_then_else_}
 use Rattle.data.specs.Engine.{blankSegment, blankPoint, filled}
 use Rattle.data.specs.declared.Segment.{Segment}
@@ -17,14 +19,25 @@ use Rattle.book.specs.Answers.{items, zoneOf, entrySegment, zonesOf, blankEntry
 use Rattle.book.specs.declared.Entry.{Entry}
 use Rattle.book.specs.declared.Zones.{Zones}
 use Rattle.journey.specs.Filled.{filled-at, Filling, filling-none, filling-more, filling-end}
+use Rattle.journey.specs.Journey.{JourneyValue}
+use Rattle.journey.specs.Answers.{namesIn, pointsIn, blankJourneyPoint}
+use Rattle.journey.specs.declared.Journey.{Journey}
 use Rattle.journey.specs.declared.Name.{Name}
 use Rattle.journey.specs.declared.JourneyPoint.{JourneyPoint}
 use Rattle.route.specs.Placing.{recordOf, lengthIn, pointsOn, segmentOf, segmentsFrom, segmentsOf, recordPoints, placeIn, reachIn, pointOf, recordPoint, pointsFrom}
-use Rattle.route.specs.Table.{lacks}
+use Rattle.route.specs.Table.{indexBeyond, nidtps, lacks, mismatched}
 use Rattle.route.specs.Answers.{recordSeen, entryIn, recordsIn, PlacesFit, PlacingRead}
 use Rattle.route.specs.Limits.{Sound, length-limit, starts-limit, places-limit}
 use Rattle.route.specs.declared.Recorded.{Recorded}
 use Rattle.route.specs.declared.Placing.{Placing}
+
+or-false-first : (a b : Bool) → (a || b) ≡ false → a ≡ false
+or-false-first false b e = refl
+or-false-first true b e = e
+
+or-false-second : (a b : Bool) → (a || b) ≡ false → b ≡ false
+or-false-second false b e = e
+or-false-second true b e = absurd (false≢true (sym e))
 
 pub items-length : {A : Type 0} (v : List ℕ → A) (k n : ℕ) (l : List ℕ) → length (items v k n l) ≡ n
 items-length v k zero l = refl
@@ -54,6 +67,16 @@ map-append {B = B} f (x ∷ xs) ys = ap (λ (l : List B). f x ∷ l) (map-append
 
 one-more : {A : Type 0} (i : ℕ) (xs : List A) (a : A) → i < length xs → take (i + 1) (set xs i a) ≡ take i xs ++ (a ∷ [])
 one-more i xs a h = ap (λ (k : ℕ). take k (set xs i a)) (add-one i) ∙ take-suc-set xs i a h
+
+-- NID_TPs one by one: those of the first i points stand in xs
+module _ (xs : List ℕ) (i : ℕ) (all : List ℕ) (l : List JourneyPoint) (e : all ≡ take i xs ++ nidtps l) where
+  pub nidtps-more : (p : JourneyPoint) (r : List JourneyPoint) → i < length xs → l ≡ p ∷ r → all ≡ take (i + 1) (set xs i (p .nidtp)) ++ nidtps r
+  nidtps-more p r h d = e ∙ ap (λ (x : List JourneyPoint). take i xs ++ nidtps x) d ∙ sym (rw (one-more i xs (p .nidtp) h, append-assoc))
+
+  pub nidtps-all : (n : ℕ) → i ≤ n → n ≤ i → l ≡ [] → take n xs ≡ all
+  nidtps-all n a b d =
+      let m : i ≡ n = omega arith in
+      sym (e ∙ ap (λ (x : List JourneyPoint). take i xs ++ nidtps x) d ∙ append-nil (take i xs) ∙ ap (λ (k : ℕ). take k xs) m)
 
 -- the first i segments are placed; `before` and `start` are those of the next
 pub record Placed (s : List ℕ) (book : List BookSegment) (names : List Name) (i : ℕ) (segments : List Segment) (entries : List Entry) (before : Bool) (start : ℕ) : Type 0 where
@@ -156,14 +179,38 @@ pub entry-point : (s : List ℕ) (m : Placing) (p : JourneyPoint) (e : Entry) �
     → lookupPoint (p .nidtp) (entrySegment s e .points) ≡ recordPoint (recordsIn s m) p
 entry-point s m p e q = rw q (ap (lookupPoint (p .nidtp)) (sym (List·getD-map (pointsOfEntry s) (m .entries) (p .index) blankEntry)))
 
--- what the code finds for a point p: its segment g, and o, the record's point of its name
+-- a point of a journey by its index: where no index is beyond the segments, it is below 40
+module _ (j : Journey) where
+  below : (n : ℕ) (ps : List JourneyPoint) (i : ℕ) → indexBeyond n ps ≡ false → i < length ps → getD ps i blankJourneyPoint .index < n
+  below n [] i e h = absurd (omega arith)
+  below n (p ∷ ps) zero e h = leb-false n (p .index) (or-false-first (leb n (p .index)) _ e)
+  below n (p ∷ ps) (suc i) e h = below n ps i (or-false-second (leb n (p .index)) _ e) (omega arith)
+
+  pub index-below : (i : ℕ) → indexBeyond (length (namesIn j)) (pointsIn j) ≡ false → i < min (j .pointcount) 64 → length (j .points) ≡ 64 → getD (j .points) i blankJourneyPoint .index < 40
+  index-below i e h z =
+      let k : i < length (pointsIn j) = rw length-take (omega arith) in
+      let w : getD (pointsIn j) i blankJourneyPoint .index < length (namesIn j) = below (length (namesIn j)) (pointsIn j) i e k in
+      let same = ap (λ (p : JourneyPoint). p .index) (getD-take (min (j .pointcount) 64) (j .points) i blankJourneyPoint h) in
+      omega (arith, w, same, length-take (min (j .namecount) 40) (j .names))
+
+pub index-fits : (segments : List Segment) (records : List (List BookPoint)) (v : JourneyValue) → mismatched segments records v ≡ false → indexBeyond (length (v .names)) (v .points) ≡ false
+unfolding mismatched
+index-fits segments records v e = or-false-first (indexBeyond (length (v .names)) (v .points)) _ e
+
+-- a booked segment without the point, by the answer of the look-up
+module _ (g : Segment) (o : Option BookPoint) where
+  pub unbooked-lacks : g .booked ≡ false → false ≡ (g .booked && not (isSome o))
+  unbooked-lacks b = rw b
+
+  pub booked-lacks : (f : Option BookPoint) → g .booked ≡ true → f ≡ o → not (isSome f) ≡ (g .booked && not (isSome o))
+  booked-lacks f b e = rw (b, e)
+
+-- what the code finds for a point p: its segment g, the entry x beside it, and o, the record's point of its name
+pub lacks-is : (s : List ℕ) (m : Placing) (p : JourneyPoint) (g : Segment) (x : Entry) → g ≡ getD (m .segments) (p .index) blankSegment → x ≡ getD (m .entries) (p .index) blankEntry
+    → (g .booked && not (isSome (lookupPoint (p .nidtp) (entrySegment s x .points)))) ≡ lacks (m .segments) (recordsIn s m) p
+lacks-is s m p g x e f = rw (e, entry-point s m p x f)
+
 module _ (s : List ℕ) (m : Placing) (p : JourneyPoint) (g : Segment) (o : Option BookPoint) (e : g ≡ getD (m .segments) (p .index) blankSegment) where
-  pub unbooked-lacks : g .booked ≡ false → false ≡ lacks (m .segments) (recordsIn s m) p
-  unbooked-lacks b = let q : getD (m .segments) (p .index) blankSegment .booked ≡ false = ap (λ (x : Segment). x .booked) (sym e) ∙ b in rw q
-
-  pub booked-lacks : g .booked ≡ true → o ≡ recordPoint (recordsIn s m) p → not (isSome o) ≡ lacks (m .segments) (recordsIn s m) p
-  booked-lacks b f = let q : getD (m .segments) (p .index) blankSegment .booked ≡ true = ap (λ (x : Segment). x .booked) (sym e) ∙ b in rw (q, f)
-
   pub point-fits : o ≡ recordPoint (recordsIn s m) p → PlacesFit s m → g .start + placeIn o < 2 ^ 32
   point-fits f h = rw (e, f) (h (p .index) (p .nidtp))
 

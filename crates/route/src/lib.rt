@@ -13,18 +13,18 @@ use journey::JourneyPoint;
 use journey::Name;
 ghost use mathlib.Core.Path.{_≡_};
 ghost use mathlib.Core.List.{List};
-ghost use mathlib.Core.Bool.{Bool, _&&_};
+ghost use mathlib.Core.Bool.{Bool, false, not, _&&_};
 ghost use mathlib.Core.Option.{none, some};
 ghost use Prim.Native.Nat.{ℕ, _+_, _^_, _<_, _≤_, min};
 ghost use lib.ListN.{length, getD, drop, take};
 ghost use lib.Dec.{ltb};
 ghost use Rattle.wire.specs.Numbers.{flag, if_then_else_};
 ghost use Rattle.data.specs.Engine.{blankSegment, blankPoint, filled};
-ghost use Rattle.book.specs.Book.{among, twice, lookup, isSome};
+ghost use Rattle.book.specs.Book.{twice, lookup, lookupPoint, isSome};
 ghost use Rattle.book.specs.Answers.{entrySegment, segmentsIn, blankEntry, pointSeen};
 ghost use Rattle.journey.specs.Answers.{namesIn, pointsIn, valueIn};
-ghost use Rattle.route.specs.Placing.{segmentOf, placeIn, reachIn, pointOf, recordPoint, pointsFrom};
-ghost use Rattle.route.specs.Table.{isNamed, named, nameTwice, indexBeyond, nidtps, ends, lacks, pointMissing, indexFalls, placeFalls, mismatched, disordered};
+ghost use Rattle.route.specs.Placing.{segmentOf, placeIn, reachIn, pointOf, pointsFrom};
+ghost use Rattle.route.specs.Table.{isNamed, named, nameTwice, indexBeyond, nidtps, ends, pointMissing, indexFalls, placeFalls, mismatched, disordered};
 ghost use Rattle.route.specs.Route.{endingOf, loadGroup, refusedBy};
 ghost use Rattle.route.specs.Answers.{recordSeen, entryIn, recordsIn, PlacesFit, PlacingRead, placedBy, AnsweredBy, LoadRead};
 ghost use Rattle.route.specs.Limits.{Sound};
@@ -119,35 +119,27 @@ fn index_beyond(j: Journey) -> bool
     false
 }
 
-// An NID_TP is among those from an index on.
-fn among_from(j: Journey, from: usize, nidtp: u32) -> bool
-    ensures { λ r. ⌜ r ≡ among nidtp (nidtps (drop from (pointsIn j))) ⌝ }
+// NID_TP of each point.
+fn nidtps_of(j: Journey) -> [u32; 64]
+    ensures { λ r. ⌜ take (min (j .pointcount) 64) r ≡ nidtps (pointsIn j) ⌝ }
 {
     let n = point_count(j);
-    let mut i = from;
+    let mut names = [0; 64];
+    let mut i: usize = 0;
     while i < n {
         let p = j.points[i];
-        if p.nidtp == nidtp {
-            return true;
-        }
+        names[i] = p.nidtp;
         i += 1;
     }
-    false
+    names
 }
 
 fn point_twice(j: Journey) -> bool
     ensures { λ r. ⌜ r ≡ twice (nidtps (pointsIn j)) ⌝ }
 {
     let n = point_count(j);
-    let mut i: usize = 0;
-    while i < n {
-        let p = j.points[i];
-        i += 1;
-        if among_from(j, i, p.nidtp) {
-            return true;
-        }
-    }
-    false
+    let names = nidtps_of(j);
+    book::repeated(&names[..n])
 }
 
 // A test as a number.
@@ -329,57 +321,32 @@ fn place_segments(j: Journey, b: Book, s: &[u8]) -> Placing
     }
 }
 
-// The segment of an index, and the book's entry beside it; blank beyond the arrays.
-fn segment_at(m: Placing, k: u8) -> Segment
-    ensures { λ r. ⌜ r ≡ getD (m .segments) k blankSegment ⌝ }
-{
-    let i = k as usize;
-    if i < 40 {
-        return m.segments[i];
-    }
-    data::blank_segment()
-}
-
-fn entry_at(m: Placing, k: u8) -> Entry
-    ensures { λ r. ⌜ r ≡ getD (m .entries) k blankEntry ⌝ }
-{
-    let i = k as usize;
-    if i < 40 {
-        return m.entries[i];
-    }
-    blank_entry()
-}
-
-// The record's point that bears the name of a point of the journey.
-fn point_in(m: Placing, s: &[u8], p: JourneyPoint) -> PointFound
-    ensures { λ r. ⌜ pointSeen (p .nidtp) r ≡ recordPoint (recordsIn (now (s .entry)) m) p ⌝ }
-{
-    let e = entry_at(m, p.index);
-    book::find_point(s, e, p.nidtp)
-}
-
 // The segment is in the book, and its record lacks the point.
-fn lacks(m: Placing, s: &[u8], p: JourneyPoint) -> bool
-    ensures { λ r. ⌜ r ≡ lacks (m .segments) (recordsIn (now (s .entry)) m) p ⌝ }
+fn lacks(s: &[u8], g: Segment, e: Entry, nidtp: u32) -> bool
+    ensures { λ r. ⌜ r ≡ (g .booked && not (isSome (lookupPoint nidtp (entrySegment (now (s .entry)) e .points)))) ⌝ }
 {
-    let g = segment_at(m, p.index);
     if !g.booked {
         return false;
     }
-    match point_in(m, s, p) {
+    match book::find_point(s, e, nidtp) {
         PointFound::Found { place: _, reach: _ } => false,
         PointFound::Missing => true,
     }
 }
 
+// Each index is that of a segment.
 fn point_missing(j: Journey, m: Placing, s: &[u8]) -> bool
+    requires { ⌜ indexBeyond (length (namesIn j)) (pointsIn j) ≡ false ⌝ }
     ensures { λ r. ⌜ r ≡ pointMissing (m .segments) (recordsIn (now (s .entry)) m) (pointsIn j) ⌝ }
 {
     let n = point_count(j);
     let mut i: usize = 0;
     while i < n {
         let p = j.points[i];
-        if lacks(m, s, p) {
+        let k = p.index as usize;
+        let g = m.segments[k];
+        let e = m.entries[k];
+        if lacks(s, g, e, p.nidtp) {
             return true;
         }
         i += 1;
@@ -437,18 +404,9 @@ fn point_of(p: JourneyPoint, g: Segment, f: PointFound) -> Point
     }
 }
 
-fn point_at(m: Placing, s: &[u8], p: JourneyPoint) -> Point
-    requires { ⌜ PlacesFit (now s) m ⌝ }
-    ensures { λ r. ⌜ r ≡ pointOf p (getD (m .segments) (p .index) blankSegment) (recordPoint (recordsIn (now (s .entry)) m) p) ⌝ }
-{
-    let g = segment_at(m, p.index);
-    let f = point_in(m, s, p);
-    point_of(p, g, f)
-}
-
 // Each point of the journey by the segments.
 fn place_points(j: Journey, m: Placing, s: &[u8]) -> [Point; 64]
-    requires { ⌜ PlacesFit (now s) m ⌝ }
+    requires { ⌜ (indexBeyond (length (namesIn j)) (pointsIn j) ≡ false) × PlacesFit (now s) m ⌝ }
     ensures { λ r. ⌜ r ≡ filled 64 blankPoint (pointsFrom (m .segments) (recordsIn (now (s .entry)) m) (pointsIn j)) ⌝ }
 {
     let n = point_count(j);
@@ -457,7 +415,11 @@ fn place_points(j: Journey, m: Placing, s: &[u8]) -> [Point; 64]
     let mut i: usize = 0;
     while i < n {
         let p = j.points[i];
-        let q = point_at(m, s, p);
+        let k = p.index as usize;
+        let g = m.segments[k];
+        let e = m.entries[k];
+        let f = book::find_point(s, e, p.nidtp);
+        let q = point_of(p, g, f);
         points[i] = q;
         i += 1;
     }
@@ -580,16 +542,16 @@ fn place(j: Journey, b: Book, s: &[u8]) -> Loaded
     ensures { λ r. ⌜ AnsweredBy (placedBy (segmentsIn (now (s .entry)) b) (valueIn j)) r ⌝ }
 {
     let m = place_segments(j, b, s);
-    let points = place_points(j, m, s);
     let twice = name_twice(j);
     let mismatch = mismatched(j, m, s);
-    let disorder = disordered(j, points);
     if twice {
         return refused(10);
     }
     if mismatch {
         return refused(11);
     }
+    let points = place_points(j, m, s);
+    let disorder = disordered(j, points);
     if disorder {
         return refused(12);
     }

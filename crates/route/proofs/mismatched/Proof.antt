@@ -27,7 +27,7 @@ unfolding mismatched
 returns-3 c = rw (sym (c .before .before .before .before .before .index-beyond .ensures) ∙ c .before .before .before .before .if1 .left, sym (c .before .before .before .point-twice .ensures) ∙ c .before .before .if2 .left, sym (c .before .end-count .ensures), ne-eqb (c .before .end-count .result) 1 (c .if3 .taken))
 
 point-missing-requires : tie.Need-point-missing-requires
-point-missing-requires c κs = search needs
+point-missing-requires c κs = sym (c .before .before .before .before .before .index-beyond .ensures) ∙ c .before .before .before .before .if1 .left
 
 returns-4 : tie.Need-returns-4
 unfolding mismatched

@@ -1,20 +1,30 @@
 use Prim.Native.Nat.{_-_, _<_, _≤_, min}
-use lib.ListN.{length, getD, length-take}
+use mathlib.Core.Path.{_≡_, refl, sym, _∙_}
+use lib.ListN.{length, getD, drop, length-map, length-take}
 use native.Mathlib.Omega.{arith}
-use borrow.Author.Needs.{needs}
-use Rattle.journey.specs.Answers.{pointsIn, blankJourneyPoint}
-use Rattle.route.specs.Loops.{left-more, left-none}
 use denote.Ref.{now}
+use borrow.Author.Needs.{needs}
+use Rattle.data.specs.Engine.{blankSegment}
+use Rattle.book.specs.Answers.{blankEntry}
+use Rattle.journey.specs.Answers.{pointsIn, blankJourneyPoint}
+use Rattle.route.specs.Loops.{left-more, left-none, getD-there}
 use Rattle.route.specs.Answers.{recordsIn}
-use Rattle.route.specs.Laws.{PlacedPoints, points-none, points-more, points-end}
+use Rattle.route.specs.Laws.{index-below, entry-point, point-fits, point-is, PlacedPoints, points-none, points-more, points-end}
 use Rattle.route.proofs.place_points.Statement.{statement}
 use Rattle.route.proofs.place_points.Tie as tie
 
 abbrev Inv-loop : tie.InvT-loop
-Inv-loop m s j n points₀ i₀ points i = PlacedPoints (m .segments) (recordsIn s m) (pointsIn j) i points
+Inv-loop s j m n points₀ i₀ points i = PlacedPoints (m .segments) (recordsIn s m) (pointsIn j) i points
 
 abbrev μ-loop : tie.MeasureT-loop
-μ-loop m s j n points₀ i₀ points i = n - i
+μ-loop s j m n points₀ i₀ points i = n - i
+
+-- the index of the point is that of a segment
+small : (c : tie.After-struct-known Inv-loop μ-loop) → getD (c .before .before .before .before .before .before .before .args .t1 .points) (c .before .before .before .loop .i) blankJourneyPoint .index < 40
+small c = index-below (c .before .before .before .before .before .before .before .args .t1) (c .before .before .before .loop .i) (c .before .before .before .before .before .before .before .pre .0) (omega arith) (omega arith)
+
+long : (c : tie.After-struct-known Inv-loop μ-loop) → length (c .before .before .before .before .before .before .before .args .t2 .segments) ≡ 40
+long c = sym (length-map (c .before .before .before .before .before .before .before .args .t2 .segments) _) ∙ c .before .before .before .before .before .before .before .good .1 .0 .1 .1 .0 .1 .0 .1
 
 point-count-requires : tie.Need-point-count-requires Inv-loop μ-loop
 point-count-requires c κs = search needs
@@ -27,7 +37,7 @@ loop-holds c =
     let a = c .before .before .before .args in
     let j = a .t1 in
     let n : length (pointsIn j) ≤ 64 = rw length-take (omega arith) in
-    rw (c .blank-point .ensures) (points-none (a .m .segments) (recordsIn (now (a .s)) (a .m)) (pointsIn j) n)
+    rw (c .blank-point .ensures) (points-none (a .t2 .segments) (recordsIn (now (a .s)) (a .t2)) (pointsIn j) n)
 
 mul-p : tie.Need-mul-p Inv-loop μ-loop
 mul-p c = omega arith
@@ -35,8 +45,35 @@ mul-p c = omega arith
 element-copy-out-p : tie.Need-element-copy-out-p Inv-loop μ-loop
 element-copy-out-p c = omega arith
 
-point-at-requires : tie.Need-point-at-requires Inv-loop μ-loop
-point-at-requires c κs = c .before .before .before .before .before .before .pre
+cast-k : tie.Need-cast-k Inv-loop μ-loop
+cast-k c = omega arith
+
+mul-g : tie.Need-mul-g Inv-loop μ-loop
+mul-g c = omega (arith, small c)
+
+element-copy-out-g : tie.Need-element-copy-out-g Inv-loop μ-loop
+element-copy-out-g c = small c
+
+mul-e : tie.Need-mul-e Inv-loop μ-loop
+mul-e c = omega (arith, small (c .before))
+
+element-copy-out-e : tie.Need-element-copy-out-e Inv-loop μ-loop
+element-copy-out-e c = small (c .before)
+
+find-point-requires : tie.Need-find-point-requires Inv-loop μ-loop
+find-point-requires c κs = search needs
+
+point-of-requires : tie.Need-point-of-requires Inv-loop μ-loop
+point-of-requires c κs =
+    let w = c .before .before .before .before .before .before .loop in
+    let a = c .before .before .before .before .before .before .before .before .before .before .args in
+    let j = a .t1 in
+    let m = a .t2 in
+    let p = getD (j .points) (w .i) blankJourneyPoint in
+    let k = small (c .before .before .before) in
+    let g = getD-there (m .segments) (p .index) _ blankSegment (omega (arith, k, long (c .before .before .before))) in
+    let f = c .find-point .ensures ∙ entry-point (now (a .s)) m p (getD (m .entries) (p .index) blankEntry) refl in
+    point-fits (now (a .s)) m p _ _ g f (c .before .before .before .before .before .before .before .before .before .before .pre .1)
 
 mul-points : tie.Need-mul-points Inv-loop μ-loop
 mul-points c = omega arith
@@ -52,20 +89,24 @@ loop-less c = omega arith
 
 loop-again : tie.Need-loop-again Inv-loop μ-loop
 loop-again c =
-    let w = c .before .before .before .loop in
-    let a = c .before .before .before .before .before .before .before .args in
+    let w = c .before .before .before .before .before .before .before .loop in
+    let a = c .before .before .before .before .before .before .before .before .before .before .before .args in
     let j = a .t1 in
+    let m = a .t2 in
     let s = now (a .s) in
+    let p = getD (j .points) (w .i) blankJourneyPoint in
+    let k = small (c .before .before .before .before) in
+    let g = getD-there (m .segments) (p .index) _ blankSegment (omega (arith, k, long (c .before .before .before .before))) in
+    let f = c .before .find-point .ensures ∙ entry-point s m p (getD (m .entries) (p .index) blankEntry) refl in
     let n : w .i < length (pointsIn j) = rw length-take (omega arith) in
-    points-more (a .m .segments) (recordsIn s (a .m)) (pointsIn j) (w .i) (w .points) (getD (j .points) (w .i) blankJourneyPoint) _ n (left-more blankJourneyPoint (min (j .pointcount) 64) (w .i) (j .points) (omega arith) (omega arith)) (c .point-at .ensures) (w .inv)
+    points-more (m .segments) (recordsIn s m) (pointsIn j) (w .i) (w .points) p _ n (left-more blankJourneyPoint (min (j .pointcount) 64) (w .i) (j .points) (omega arith) (omega arith)) (c .point-of .ensures ∙ point-is s m p _ _ g f) (w .inv)
 
 returns : tie.Need-returns Inv-loop μ-loop
 returns c =
     let w = c .before .loop in
     let a = c .before .before .before .before .before .args in
     let j = a .t1 in
-    let s = now (a .s) in
-    points-end (a .m .segments) (recordsIn s (a .m)) (pointsIn j) (w .i) (w .points) (left-none blankJourneyPoint (min (j .pointcount) 64) (w .i) (j .points) (omega arith)) (w .inv)
+    points-end (a .t2 .segments) (recordsIn (now (a .s)) (a .t2)) (pointsIn j) (w .i) (w .points) (left-none blankJourneyPoint (min (j .pointcount) 64) (w .i) (j .points) (omega arith)) (w .inv)
 
 pub place-points-spec : {M : Type 1} → statement M
 place-points-spec =
@@ -78,7 +119,13 @@ place-points-spec =
     loop-holds
     mul-p
     element-copy-out-p
-    point-at-requires
+    cast-k
+    mul-g
+    element-copy-out-g
+    mul-e
+    element-copy-out-e
+    find-point-requires
+    point-of-requires
     mul-points
     array-set-from-points
     add-i

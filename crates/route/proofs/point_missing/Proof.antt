@@ -1,20 +1,31 @@
-use Prim.Native.Nat.{_-_, min}
+use Prim.Native.Nat.{_-_, _<_, min}
 use mathlib.Core.Path.{_≡_, refl, sym, _∙_}
-use lib.ListN.{drop}
+use lib.ListN.{length, getD, drop, length-map}
 use native.Mathlib.Omega.{arith}
+use denote.Ref.{now}
 use borrow.Author.Needs.{needs}
+use Rattle.data.specs.Engine.{blankSegment}
+use Rattle.book.specs.Answers.{blankEntry}
 use Rattle.journey.specs.Answers.{pointsIn, blankJourneyPoint}
 use Rattle.route.specs.Table.{pointMissing}
-use Rattle.route.specs.Loops.{left-more, left-none}
+use Rattle.route.specs.Loops.{left-more, left-none, getD-there}
 use Rattle.route.specs.Answers.{recordsIn}
+use Rattle.route.specs.Laws.{index-below, lacks-is}
 use Rattle.route.proofs.point_missing.Statement.{statement}
 use Rattle.route.proofs.point_missing.Tie as tie
 
 abbrev Inv-loop : tie.InvT-loop
-Inv-loop m s j n i₀ i = pointMissing (m .segments) (recordsIn s m) (pointsIn j) ≡ pointMissing (m .segments) (recordsIn s m) (drop i (pointsIn j))
+Inv-loop s j m n i₀ i = pointMissing (m .segments) (recordsIn s m) (pointsIn j) ≡ pointMissing (m .segments) (recordsIn s m) (drop i (pointsIn j))
 
 abbrev μ-loop : tie.MeasureT-loop
-μ-loop m s j n i₀ i = n - i
+μ-loop s j m n i₀ i = n - i
+
+-- the index of the point is that of a segment
+small : (c : tie.After-struct-known Inv-loop μ-loop) → getD (c .before .before .before .before .before .before .args .t1 .points) (c .before .before .before .loop .i) blankJourneyPoint .index < 40
+small c = index-below (c .before .before .before .before .before .before .args .t1) (c .before .before .before .loop .i) (c .before .before .before .before .before .before .pre) (omega arith) (omega arith)
+
+long : (c : tie.After-struct-known Inv-loop μ-loop) → length (c .before .before .before .before .before .before .args .t2 .segments) ≡ 40
+long c = sym (length-map (c .before .before .before .before .before .before .args .t2 .segments) _) ∙ c .before .before .before .before .before .before .good .1 .0 .1 .1 .0 .1 .0 .1
 
 point-count-requires : tie.Need-point-count-requires Inv-loop μ-loop
 point-count-requires c κs = search needs
@@ -28,14 +39,35 @@ mul-p c = omega arith
 element-copy-out-p : tie.Need-element-copy-out-p Inv-loop μ-loop
 element-copy-out-p c = omega arith
 
+cast-k : tie.Need-cast-k Inv-loop μ-loop
+cast-k c = omega arith
+
+mul-g : tie.Need-mul-g Inv-loop μ-loop
+mul-g c = omega (arith, small c)
+
+element-copy-out-g : tie.Need-element-copy-out-g Inv-loop μ-loop
+element-copy-out-g c = small c
+
+mul-e : tie.Need-mul-e Inv-loop μ-loop
+mul-e c = omega (arith, small (c .before))
+
+element-copy-out-e : tie.Need-element-copy-out-e Inv-loop μ-loop
+element-copy-out-e c = small (c .before)
+
 lacks-requires : tie.Need-lacks-requires Inv-loop μ-loop
 lacks-requires c κs = search needs
 
 returns : tie.Need-returns Inv-loop μ-loop
 returns c =
-    let w = c .before .before .before .before .loop in
-    let j = c .before .before .before .before .before .before .before .args .t1 in
-    sym (w .inv ∙ rw (left-more blankJourneyPoint (min (j .pointcount) 64) (w .i) (j .points) (omega arith) (omega arith), sym (c .before .lacks .ensures) ∙ c .if1 .taken))
+    let w = c .before .before .before .before .before .before .before .loop in
+    let a = c .before .before .before .before .before .before .before .before .before .before .args in
+    let j = a .t1 in
+    let m = a .t2 in
+    let p = getD (j .points) (w .i) blankJourneyPoint in
+    let k = small (c .before .before .before .before) in
+    let g = getD-there (m .segments) (p .index) _ blankSegment (omega (arith, k, long (c .before .before .before .before))) in
+    let e = c .before .lacks .ensures ∙ lacks-is (now (a .s)) m p _ (getD (m .entries) (p .index) blankEntry) g refl in
+    sym (w .inv ∙ rw (left-more blankJourneyPoint (min (j .pointcount) 64) (w .i) (j .points) (omega arith) (omega arith), sym e ∙ c .if1 .taken))
 
 add-i : tie.Need-add-i Inv-loop μ-loop
 add-i c = omega arith
@@ -45,9 +77,15 @@ loop-less c = omega arith
 
 loop-again : tie.Need-loop-again Inv-loop μ-loop
 loop-again c =
-    let w = c .before .before .before .before .loop in
-    let j = c .before .before .before .before .before .before .before .args .t1 in
-    w .inv ∙ rw (left-more blankJourneyPoint (min (j .pointcount) 64) (w .i) (j .points) (omega arith) (omega arith), sym (c .before .lacks .ensures) ∙ c .if1 .left)
+    let w = c .before .before .before .before .before .before .before .loop in
+    let a = c .before .before .before .before .before .before .before .before .before .before .args in
+    let j = a .t1 in
+    let m = a .t2 in
+    let p = getD (j .points) (w .i) blankJourneyPoint in
+    let k = small (c .before .before .before .before) in
+    let g = getD-there (m .segments) (p .index) _ blankSegment (omega (arith, k, long (c .before .before .before .before))) in
+    let e = c .before .lacks .ensures ∙ lacks-is (now (a .s)) m p _ (getD (m .entries) (p .index) blankEntry) g refl in
+    w .inv ∙ rw (left-more blankJourneyPoint (min (j .pointcount) 64) (w .i) (j .points) (omega arith) (omega arith), sym e ∙ c .if1 .left)
 
 returns-2 : tie.Need-returns-2 Inv-loop μ-loop
 returns-2 c =
@@ -65,6 +103,11 @@ point-missing-spec =
     loop-holds
     mul-p
     element-copy-out-p
+    cast-k
+    mul-g
+    element-copy-out-g
+    mul-e
+    element-copy-out-e
     lacks-requires
     returns
     add-i

@@ -1,73 +1,45 @@
-use Prim.Native.Nat.{_-_, min}
-use mathlib.Core.Path.{_≡_, refl, sym, _∙_}
-use lib.ListN.{drop}
+use Prim.Native.Nat.{ℕ, min}
+use mathlib.Core.Path.{ap, _∙_}
+use lib.ListN.{length, take, length-map, length-take}
 use native.Mathlib.Omega.{arith}
-use borrow.Author.Needs.{needs}
 use Rattle.book.specs.Book.{twice}
-use Rattle.journey.specs.Answers.{pointsIn, blankJourneyPoint}
-use Rattle.route.specs.Table.{nidtps}
-use Rattle.route.specs.Loops.{left-more, left-none}
+use Rattle.journey.specs.Answers.{pointsIn}
+use Rattle.journey.specs.declared.JourneyPoint.{JourneyPoint}
+use borrow.Author.Needs.{needs}
 use Rattle.route.proofs.point_twice.Statement.{statement}
 use Rattle.route.proofs.point_twice.Tie as tie
 
-abbrev Inv-loop : tie.InvT-loop
-Inv-loop j n i₀ i = twice (nidtps (pointsIn j)) ≡ twice (nidtps (drop i (pointsIn j)))
-
-abbrev μ-loop : tie.MeasureT-loop
-μ-loop j n i₀ i = n - i
-
-point-count-requires : tie.Need-point-count-requires Inv-loop μ-loop
+point-count-requires : tie.Need-point-count-requires
 point-count-requires c κs = search needs
 
-loop-holds : tie.Need-loop-holds Inv-loop μ-loop
-loop-holds c = refl
+nidtps-of-requires : tie.Need-nidtps-of-requires
+nidtps-of-requires c κs = search needs
 
-mul-p : tie.Need-mul-p Inv-loop μ-loop
-mul-p c = omega arith
+array-share-prefix-names : tie.Need-array-share-prefix-names
+array-share-prefix-names c = search needs
 
-element-copy-out-p : tie.Need-element-copy-out-p Inv-loop μ-loop
-element-copy-out-p c = omega arith
+slice-aggregate-repeated : tie.Need-slice-aggregate-repeated
+slice-aggregate-repeated c =
+    let j = c .before .before .before .args .j in
+    let n = c .before .before .point-count in
+    let e = ap (λ (k : ℕ). take k (c .before .nidtps-of .result)) (n .ensures .0) ∙ c .before .nidtps-of .ensures in
+    omega (arith, ap length e, length-map (pointsIn j) (λ (p : JourneyPoint). p .nidtp), length-take (min (j .pointcount) 64) (j .points), n .ensures .0, n .ensures .1)
 
-add-i : tie.Need-add-i Inv-loop μ-loop
-add-i c = omega arith
+repeated-requires : tie.Need-repeated-requires
+repeated-requires c κs = search needs
 
-among-from-requires : tie.Need-among-from-requires Inv-loop μ-loop
-among-from-requires c κs = search needs
-
-returns : tie.Need-returns Inv-loop μ-loop
+returns : tie.Need-returns
 returns c =
-    let w = c .before .before .before .before .loop in
-    let j = c .before .before .before .before .before .before .args .t1 in
-    sym (w .inv ∙ rw (left-more blankJourneyPoint (min (j .pointcount) 64) (w .i) (j .points) (omega arith) (omega arith), sym (c .before .among-from .ensures) ∙ c .if1 .taken))
-
-loop-less : tie.Need-loop-less Inv-loop μ-loop
-loop-less c = omega arith
-
-loop-again : tie.Need-loop-again Inv-loop μ-loop
-loop-again c =
-    let w = c .before .before .before .before .loop in
-    let j = c .before .before .before .before .before .before .args .t1 in
-    w .inv ∙ rw (left-more blankJourneyPoint (min (j .pointcount) 64) (w .i) (j .points) (omega arith) (omega arith), sym (c .before .among-from .ensures) ∙ c .if1 .left)
-
-returns-2 : tie.Need-returns-2 Inv-loop μ-loop
-returns-2 c =
-    let w = c .before .loop in
-    let j = c .before .before .before .args .t1 in
-    sym (w .inv ∙ rw (left-none blankJourneyPoint (min (j .pointcount) 64) (w .i) (j .points) (omega arith)))
+    let n = c .before .before .before .point-count in
+    c .repeated .ensures ∙ ap twice (ap (λ (k : ℕ). take k (c .before .before .nidtps-of .result)) (n .ensures .0) ∙ c .before .before .nidtps-of .ensures)
 
 pub point-twice-spec : {M : Type 1} → statement M
 point-twice-spec =
     tie.close
     (tie.spec
-    Inv-loop
-    μ-loop
     point-count-requires
-    loop-holds
-    mul-p
-    element-copy-out-p
-    add-i
-    among-from-requires
-    returns
-    loop-less
-    loop-again
-    returns-2)
+    nidtps-of-requires
+    array-share-prefix-names
+    slice-aggregate-repeated
+    repeated-requires
+    returns)

@@ -1,0 +1,72 @@
+use Prim.Native.Nat.{_-_, _≤_, min}
+use mathlib.Core.Path.{_≡_, refl, _∙_}
+use mathlib.Core.List.{_++_}
+use lib.ListN.{length, getD, drop, take, length-set}
+use native.Mathlib.Omega.{arith}
+use borrow.Author.Needs.{needs}
+use Rattle.journey.specs.Answers.{pointsIn, blankJourneyPoint}
+use Rattle.route.specs.Table.{nidtps}
+use Rattle.route.specs.Loops.{left-more, left-none}
+use Rattle.route.specs.Laws.{nidtps-more, nidtps-all}
+use Rattle.route.proofs.nidtps_of.Statement.{statement}
+use Rattle.route.proofs.nidtps_of.Tie as tie
+
+abbrev Inv-loop : tie.InvT-loop
+Inv-loop j n names₀ i₀ names i = (i ≤ min (j .pointcount) 64) × (length names ≡ 64) × (nidtps (pointsIn j) ≡ take i names ++ nidtps (drop i (pointsIn j)))
+
+abbrev μ-loop : tie.MeasureT-loop
+μ-loop j n names₀ i₀ names i = n - i
+
+point-count-requires : tie.Need-point-count-requires Inv-loop μ-loop
+point-count-requires c κs = search needs
+
+loop-holds : tie.Need-loop-holds Inv-loop μ-loop
+loop-holds c = (omega arith, refl, refl)
+
+mul-p : tie.Need-mul-p Inv-loop μ-loop
+mul-p c = omega arith
+
+element-copy-out-p : tie.Need-element-copy-out-p Inv-loop μ-loop
+element-copy-out-p c = omega arith
+
+mul-names : tie.Need-mul-names Inv-loop μ-loop
+mul-names c = omega arith
+
+array-write-names : tie.Need-array-write-names Inv-loop μ-loop
+array-write-names c = omega arith
+
+add-i : tie.Need-add-i Inv-loop μ-loop
+add-i c = omega arith
+
+loop-less : tie.Need-loop-less Inv-loop μ-loop
+loop-less c = omega arith
+
+loop-again : tie.Need-loop-again Inv-loop μ-loop
+loop-again c =
+    let w = c .before .before .loop in
+    let j = c .before .before .before .before .args .t1 in
+    let long : length (w .names) ≡ 64 = w .inv .1 in
+    (omega arith, length-set (w .names) (w .i) _ ∙ long, nidtps-more (w .names) (w .i) _ _ (w .inv .2) (getD (j .points) (w .i) blankJourneyPoint) _ (omega arith) (left-more blankJourneyPoint (min (j .pointcount) 64) (w .i) (j .points) (omega arith) (omega arith)))
+
+returns : tie.Need-returns Inv-loop μ-loop
+returns c =
+    let w = c .before .loop in
+    let j = c .before .before .before .args .t1 in
+    nidtps-all (w .names) (w .i) _ _ (w .inv .2) (min (j .pointcount) 64) (w .inv .0) (omega arith) (left-none blankJourneyPoint (min (j .pointcount) 64) (w .i) (j .points) (omega arith))
+
+pub nidtps-of-spec : {M : Type 1} → statement M
+nidtps-of-spec =
+    tie.close
+    (tie.spec
+    Inv-loop
+    μ-loop
+    point-count-requires
+    loop-holds
+    mul-p
+    element-copy-out-p
+    mul-names
+    array-write-names
+    add-i
+    loop-less
+    loop-again
+    returns)
