@@ -16,10 +16,10 @@ ghost use mathlib.Core.List.{List};
 ghost use mathlib.Core.Bool.{Bool, false, not, _&&_};
 ghost use mathlib.Core.Option.{none, some};
 ghost use Prim.Native.Nat.{ℕ, _+_, _^_, _<_, _≤_, min};
-ghost use lib.ListN.{length, drop, take};
+ghost use lib.ListN.{length, drop, take, replicate};
 ghost use lib.Dec.{ltb};
 ghost use Rattle.wire.specs.Numbers.{flag, if_then_else_};
-ghost use Rattle.data.specs.Engine.{blankPoint, filled};
+ghost use Rattle.data.specs.Engine.{blankSegment, blankPoint, filled};
 ghost use Rattle.book.specs.Book.{twice, lookup, lookupPoint, isSome};
 ghost use Rattle.book.specs.Answers.{entrySegment, segmentsIn, blankEntry, pointSeen};
 ghost use Rattle.journey.specs.Answers.{namesIn, pointsIn, valueIn};
@@ -291,16 +291,26 @@ fn segment_of(s: &[u8], n: Name, before: bool, start: u32, r: Recorded) -> Segme
     }
 }
 
+fn blank_placing() -> Placing
+    ensures { λ r. ⌜ (r .segments ≡ replicate 40 blankSegment) × (r .entries ≡ replicate 40 blankEntry) ⌝ }
+{
+    let blank = data::blank_segment();
+    let none = blank_entry();
+    let segments = [blank; 40];
+    let entries = [none; 40];
+    Placing {
+        segments: segments,
+        entries: entries,
+    }
+}
+
 // Each segment of the journey by the book. The lengths of an accepted book add up within four bytes.
 fn place_segments(j: Journey, b: Book, s: &[u8]) -> Placing
     requires { ⌜ Sound (segmentsIn (now s) b) ⌝ }
     ensures { λ r. ⌜ PlacingRead (now (s .entry)) (segmentsIn (now (s .entry)) b) (namesIn j) r ⌝ }
 {
     let n = name_count(j);
-    let blank = data::blank_segment();
-    let none = blank_entry();
-    let mut segments = [blank; 40];
-    let mut entries = [none; 40];
+    let mut m = blank_placing();
     let mut before = true;
     let mut start: u32 = 0;
     let mut i: usize = 0;
@@ -309,16 +319,13 @@ fn place_segments(j: Journey, b: Book, s: &[u8]) -> Placing
         let r = record_of(b, name);
         let e = entry_in(r);
         let g = segment_of(s, name, before, start, r);
-        segments[i] = g;
-        entries[i] = e;
+        m.segments[i] = g;
+        m.entries[i] = e;
         before = goes_on(before, r);
         start += e.length;
         i += 1;
     }
-    Placing {
-        segments: segments,
-        entries: entries,
-    }
+    m
 }
 
 // The segment is in the book, and its record lacks the point.

@@ -11,26 +11,23 @@ use Rattle.route.proofs.place_segments.Statement.{statement}
 use Rattle.route.proofs.place_segments.Tie as tie
 
 abbrev Inv-loop : tie.InvT-loop
-Inv-loop b s j n segments₀ entries₀ before₀ start₀ i₀ segments entries before start i = Placed s (segmentsIn s b) (namesIn j) i segments entries before start
+Inv-loop b s j n m₀ before₀ start₀ i₀ m before start i = Placed s (segmentsIn s b) (namesIn j) i (m .segments) (m .entries) before start
 
 abbrev μ-loop : tie.MeasureT-loop
-μ-loop b s j n segments₀ entries₀ before₀ start₀ i₀ segments entries before start i = n - i
+μ-loop b s j n m₀ before₀ start₀ i₀ m before start i = n - i
 
 name-count-requires : tie.Need-name-count-requires Inv-loop μ-loop
 name-count-requires c κs = search needs
 
-blank-segment-requires : tie.Need-blank-segment-requires Inv-loop μ-loop
-blank-segment-requires c κs = search needs
-
-blank-entry-requires : tie.Need-blank-entry-requires Inv-loop μ-loop
-blank-entry-requires c κs = search needs
+blank-placing-requires : tie.Need-blank-placing-requires Inv-loop μ-loop
+blank-placing-requires c κs = search needs
 
 loop-holds : tie.Need-loop-holds Inv-loop μ-loop
 loop-holds c =
-    let a = c .before .before .before .before .args in
+    let a = c .before .before .before .args in
     let j = a .t1 in
     let n : length (namesIn j) ≤ 40 = rw length-take (omega arith) in
-    rw (c .before .blank-segment .ensures, c .blank-entry .ensures) (placed-none (now (a .s)) (segmentsIn (now (a .s)) (a .b)) (namesIn j) n)
+    rw (c .blank-placing .ensures .0, c .blank-placing .ensures .1) (placed-none (now (a .s)) (segmentsIn (now (a .s)) (a .b)) (namesIn j) n)
 
 mul-name : tie.Need-mul-name Inv-loop μ-loop
 mul-name c = omega arith
@@ -47,17 +44,17 @@ entry-in-requires c κs = search needs
 segment-of-requires : tie.Need-segment-of-requires Inv-loop μ-loop
 segment-of-requires c κs = search needs
 
-mul-segments : tie.Need-mul-segments Inv-loop μ-loop
-mul-segments c = omega arith
+mul-g : tie.Need-mul-g Inv-loop μ-loop
+mul-g c = omega arith
 
-array-set-from-segments : tie.Need-array-set-from-segments Inv-loop μ-loop
-array-set-from-segments c = omega arith
+element-set-from-g : tie.Need-element-set-from-g Inv-loop μ-loop
+element-set-from-g c = omega arith
 
-mul-entries : tie.Need-mul-entries Inv-loop μ-loop
-mul-entries c = omega arith
+mul-e : tie.Need-mul-e Inv-loop μ-loop
+mul-e c = omega arith
 
-array-set-from-entries : tie.Need-array-set-from-entries Inv-loop μ-loop
-array-set-from-entries c = omega arith
+element-set-from-e : tie.Need-element-set-from-e Inv-loop μ-loop
+element-set-from-e c = omega arith
 
 goes-on-requires : tie.Need-goes-on-requires Inv-loop μ-loop
 goes-on-requires c κs = search needs
@@ -65,10 +62,10 @@ goes-on-requires c κs = search needs
 add-start : tie.Need-add-start Inv-loop μ-loop
 add-start c =
     let w = c .before .before .before .before .before .before .before .loop in
-    let a = c .before .before .before .before .before .before .before .before .before .before .before .before .args in
+    let a = c .before .before .before .before .before .before .before .before .before .before .before .args in
     let j = a .t1 in
     let s = now (a .s) in
-    let e = next-length s (segmentsIn s (a .b)) (namesIn j) (getD (j .names) (w .i) blankName) (c .before .before .before .before .record-of .result) (c .before .before .before .before .before .before .before .before .before .before .before .before .pre) (c .before .before .before .before .record-of .ensures s) in
+    let e = next-length s (segmentsIn s (a .b)) (namesIn j) (getD (j .names) (w .i) blankName) (c .before .before .before .before .record-of .result) (c .before .before .before .before .before .before .before .before .before .before .before .pre) (c .before .before .before .before .record-of .ensures s) in
     let f : c .before .before .before .entry-in .result .length ≤ 16777214 = rw (c .before .before .before .entry-in .ensures) e in
     omega (arith, f, w .inv .sum)
 
@@ -81,21 +78,21 @@ loop-less c = omega arith
 loop-again : tie.Need-loop-again Inv-loop μ-loop
 loop-again c =
     let w = c .before .before .before .before .before .before .before .loop in
-    let a = c .before .before .before .before .before .before .before .before .before .before .before .before .args in
+    let a = c .before .before .before .before .before .before .before .before .before .before .before .args in
     let j = a .t1 in
     let s = now (a .s) in
     let n : w .i < length (namesIn j) = rw length-take (omega arith) in
-    placed-more s (segmentsIn s (a .b)) (namesIn j) (w .i) (w .segments) (w .entries) (w .before) (w .start) (getD (j .names) (w .i) blankName) (c .before .before .before .before .record-of .result) _ _ _ (c .before .before .before .before .before .before .before .before .before .before .before .before .pre) n
+    placed-more s (segmentsIn s (a .b)) (namesIn j) (w .i) (w .m .segments) (w .m .entries) (w .before) (w .start) (getD (j .names) (w .i) blankName) (c .before .before .before .before .record-of .result) _ _ _ (c .before .before .before .before .before .before .before .before .before .before .before .pre) n
     (left-more blankName (min (j .namecount) 40) (w .i) (j .names) (omega arith) (omega arith)) (c .before .before .before .before .record-of .ensures s) (c .before .before .before .entry-in .ensures) (c .before .before .segment-of .ensures) (c .before .goes-on .ensures s) (w .inv)
 
 returns : tie.Need-returns Inv-loop μ-loop
 returns c =
     let w = c .before .loop in
-    let a = c .before .before .before .before .before .before .args in
+    let a = c .before .before .before .before .before .args in
     let j = a .t1 in
     let s = now (a .s) in
     let n : length (namesIn j) ≤ w .i = rw length-take (omega arith) in
-    placed-end s (segmentsIn s (a .b)) (namesIn j) (w .i) (w .segments) (w .entries) (w .before) (w .start) (c .before .before .before .before .before .before .pre) n (left-none blankName (min (j .namecount) 40) (w .i) (j .names) (omega arith)) (w .inv)
+    placed-end s (segmentsIn s (a .b)) (namesIn j) (w .i) (w .m .segments) (w .m .entries) (w .before) (w .start) (c .before .before .before .before .before .pre) n (left-none blankName (min (j .namecount) 40) (w .i) (j .names) (omega arith)) (w .inv)
 
 pub place-segments-spec : {M : Type 1} → statement M
 place-segments-spec =
@@ -104,18 +101,17 @@ place-segments-spec =
     Inv-loop
     μ-loop
     name-count-requires
-    blank-segment-requires
-    blank-entry-requires
+    blank-placing-requires
     loop-holds
     mul-name
     element-copy-out-name
     record-of-requires
     entry-in-requires
     segment-of-requires
-    mul-segments
-    array-set-from-segments
-    mul-entries
-    array-set-from-entries
+    mul-g
+    element-set-from-g
+    mul-e
+    element-set-from-e
     goes-on-requires
     add-start
     add-i
