@@ -102,7 +102,7 @@ static_assert(offsetof(PacketFields, nidtp) == 40 && offsetof(PacketFields, cond
 void hollwern_fresh(Engine *e);
 
 /* Takes one event. Accepted: the engine moves on, the packets stand at the front of `out`, `bytes` long, and the bytes behind are kept.
- * Refused: engine and `out` stay as they were. No event writes more than 4,096 bytes. */
+ * Refused: engine and `out` stay as they were. No event writes more than 1,669 bytes (proved). */
 Answer hollwern_step(Engine *e, const uint8_t *event, size_t event_n, const uint8_t *journey, size_t journey_n,
                      const uint8_t *book, size_t book_n, uint8_t *out, size_t out_n);
 
