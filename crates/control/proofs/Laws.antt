@@ -17,7 +17,8 @@ use Rattle.data.specs.declared.Load as group
 use Rattle.data.specs.declared.Zone.{Zone}
 use Rattle.data.specs.declared.Position.{Position}
 use Rattle.data.specs.declared.Progress.{Progress}
-use Rattle.timing.specs.Position.{segment, segmentNamed, segmentIn, pointCount, placed}
+use Rattle.timing.specs.Position.{segment, segmentNamed, pointCount, placed}
+use Rattle.timing.specs.Seen.{segmentIn}
 use Rattle.timing.specs.Standing.{standing, isPassed, behind}
 use Rattle.timing.specs.declared.Found.{Found}
 use Rattle.timing.specs.declared.Found.the-variants.{At, Nothing}
@@ -29,7 +30,8 @@ use Rattle.event.specs.declared.Event.the-variants.{PowerOn, Configured, PowerO
 use Rattle.control.specs.Codes.{code, is, isAD}
 use Rattle.control.specs.Conditions.{etcsFulfilled, noEmergencyBrake, noInconsistency, dataValid, located, outsideZones, conditions}
 use Rattle.control.specs.Conditions.{endAhead, lastAhead, firstAhead, profilesThere, tooFar, countsIn, counts, inZones, outsideIn}
-use Rattle.control.specs.Conditions.{wordOf, bare, locatedBy, insideBy, viewBy, viewIn, conditionsBy}
+use Rattle.control.specs.Conditions.{wordOf}
+use Rattle.control.specs.Seen.{bare, locatedBy, insideBy, viewBy, viewIn, conditionsBy}
 use Rattle.control.specs.States.{machine, N, U, fromRE, byState, settled, given}
 use Rattle.control.specs.declared.Values.{Values}
 use Rattle.control.specs.declared.Machine.{Machine}

@@ -6,18 +6,14 @@ use lib.ListN.{getD}
 use lib.Dec.{ltb, leb, eqb}
 use Rattle.wire.specs.Numbers.{bit, flag, if_then_else_}
 use Rattle.data.specs.Engine.{Route, blankZone, undefined}
-use Rattle.data.specs.declared.Load.{Load}
-use Rattle.data.specs.declared.Progress.{Progress}
 use Rattle.data.specs.declared.Zone.{Zone}
 use Rattle.data.specs.declared.Segment.{Segment}
 use Rattle.data.specs.declared.Position.{Position}
 use Rattle.timing.specs.Position.{segment, segmentNamed, pointCount, placed}
-use Rattle.timing.specs.Standing.{standing, isPassed, behind}
+use Rattle.timing.specs.Standing.{isPassed, behind}
 use Rattle.timing.specs.declared.Found.{Found}
 use Rattle.timing.specs.declared.Found.the-variants.{At, Nothing}
-use Rattle.timing.specs.declared.Named.{Named}
 use Rattle.timing.specs.declared.Standing.{Standing}
-use Rattle.control.specs.declared.View.{View}
 
 -- "0, 1, 5, 8 are report bits 0, 1, 2, 3."
 abbrev pub etcsFulfilled : ℕ → Bool
@@ -109,37 +105,6 @@ allOf (b ∷ bs) = b && allOf bs
 
 unfoldable pub conditions : Route → ℕ → Position → (ℕ → Standing) → ℕ
 conditions j reports x standing = wordOf (nine j reports x standing)
-
--- ---- the same from the load's group, and from what a position and a progress show of the journey
-
-abbrev pub bare : Load → Route
-bare l = record { load = l; points = []; segments = [] }
-
--- by the segment that the position names
-abbrev pub locatedBy : Named → Position → Bool
-locatedBy s x = not (eqb (x .offset) undefined) && (s .found && not (tooFar x (s .segment)))
-
-abbrev pub insideBy : Named → Position → Bool
-insideBy s x = inZones (s .segment .zones) (min (s .segment .zonecount) 4) (x .offset)
-
-abbrev pub viewBy : Named → Position → Bool → View
-viewBy s x placed = record { located = locatedBy s x; outside = if locatedBy s x then not (insideBy s x) else true; placed = placed }
-
-abbrev pub viewIn : Route → Position → Progress → View
-viewIn j x p = record { located = located j x; outside = outsideZones j x; placed = placed j (p .next) }
-
-unfoldable pub conditionsBy : Load → ℕ → View → Progress → ℕ
-conditionsBy l reports w p =
-    wordOf (etcsFulfilled reports
-    ∷ noEmergencyBrake reports
-    ∷ endAhead (bare l) (standing p)
-    ∷ lastAhead (bare l) (standing p)
-    ∷ (l .valid && (leb (pointCount (bare l)) (p .next) || w .placed))
-    ∷ noInconsistency reports
-    ∷ w .located
-    ∷ w .outside
-    ∷ dataValid reports
-    ∷ [])
 
 -- "O means all nine; T is report bit 4; N lever neutral."
 unfoldable pub O : Route → ℕ → Position → (ℕ → Standing) → Bool

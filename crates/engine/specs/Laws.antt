@@ -18,7 +18,8 @@ use Rattle.event.specs.Events.{eventOf, kindOf}
 use Rattle.event.specs.declared.Event.{Event}
 use Rattle.packets.specs.Packets.{joined}
 use Rattle.packets.specs.declared.Packet.{Packet}
-use Rattle.timing.specs.Position.{segmentNamed, namedIn, segmentIn}
+use Rattle.timing.specs.Position.{segmentNamed}
+use Rattle.timing.specs.Seen.{namedIn, segmentIn}
 use Rattle.timing.specs.Distance.{reportIn}
 use Rattle.timing.specs.Standing.{standing, behind}
 use Rattle.timing.specs.Load.{target}

@@ -21,7 +21,8 @@ use Rattle.timing.specs.Changes.{statusDeparted, statusSkipped, statusRevoked}
 use Rattle.timing.specs.declared.Named.{Named}
 use Rattle.timing.specs.declared.Reported.{Reported}
 use Rattle.control.specs.Codes.{stateAt}
-use Rattle.control.specs.Conditions.{tooFar, viewIn}
+use Rattle.control.specs.Conditions.{tooFar}
+use Rattle.control.specs.Seen.{viewIn}
 use Rattle.control.specs.declared.View.{View}
 use Rattle.control.specs.Numbers.{powerRows, stateRow}
 use Rattle.route.specs.declared.Loaded.{Loaded}

@@ -1,7 +1,7 @@
 -- No event writes more than 1,669 bytes, whatever engine it finds: with so much memory 16 does not come.
 use Prim.Native.Nat.{ℕ, zero, suc, _+_, _-_, _*_, _≤_}
 use mathlib.Core.Path.{_≡_, refl, ap, subst, _∙_}
-use mathlib.Core.List.{List, [], _∷_, _++_, map, append-nil}
+use mathlib.Core.List.{List, [], _∷_, _++_, map}
 use mathlib.Core.Bool.{Bool, true, false, _&&_, _||_}
 use mathlib.Core.Option.{Option, none, some}
 use lib.ListN.{length, length-append, getD}
@@ -16,9 +16,8 @@ use Rattle.data.specs.declared.Progress.{Progress}
 use Rattle.data.specs.declared.Engine.{Engine}
 use Rattle.event.specs.declared.Event.{Event}
 use Rattle.event.specs.declared.Event.the-variants.{PowerOn, Configured, PowerOff, Fault, Reports, Mode, Lever, Press, Report, Length, Load, Skip, Revoke}
-use Rattle.packets.specs.Packets.{packetBytes, joined, sizeOf}
-use Rattle.packets.specs.Laws.{length-packetBytes, joined-append}
-use Rattle.packets.specs.declared.Packet.{Packet}
+use Rattle.packets.specs.Packets.{packetBytes, joined}
+use Rattle.packets.specs.Laws.{length-packetBytes, length-joined, length-one}
 use Rattle.journey.specs.declared.Head.{Head}
 use Rattle.route.specs.Route.{LoadValue, loadOf}
 use Rattle.timing.specs.Position.{pointCount, placed, known}
@@ -115,12 +114,6 @@ small e journey book (Revoke t) = small-skip e false _
 
 -- ---- the packets
 
-length-joined : (ps qs : List Packet) → length (joined (ps ++ qs)) ≡ length (joined ps) + length (joined qs)
-length-joined ps qs = ap length (joined-append ps qs) ∙ length-append (joined ps) (joined qs)
-
-one : (p : Packet) → length (joined (p ∷ [])) ≡ sizeOf p
-one p = ap length (append-nil (packetBytes p)) ∙ length-packetBytes p
-
 module _ (j : Route) (x : Position) where
   size-62s : (l : List Change) → length (joined (map (timingPoint j x) l)) ≡ 25 * length l
   unfolding timingPoint
@@ -130,11 +123,11 @@ module _ (j : Route) (x : Position) where
   size-65 : (h : Option Head) → length (joined (received j x h)) ≡ loadBytes h
   unfolding jpReceived
   size-65 none = refl
-  size-65 (some h) = one (jpReceived j x h)
+  size-65 (some h) = length-one (jpReceived j x h) 29 refl
 
   size-68 : (b : Bool) (s n : ℕ) → length (joined (when b (atoStatus j x s n))) ≤ 19
   unfolding atoStatus
-  size-68 true s n = omega (arith, one (atoStatus j x s n))
+  size-68 true s n = omega (arith, length-one (atoStatus j x s n) 19 refl)
   size-68 false s n = omega arith
 
 -- "16 shorter than this event's packets"

@@ -74,6 +74,12 @@ pub joined-append : (ps qs : List Packet) → joined (ps ++ qs) ≡ joined ps ++
 joined-append [] qs = refl
 joined-append (p ∷ ps) qs = rw (joined-append ps qs, append-assoc)
 
+pub length-joined : (ps qs : List Packet) → length (joined (ps ++ qs)) ≡ length (joined ps) + length (joined qs)
+length-joined ps qs = ap length (joined-append ps qs) ∙ length-append (joined ps) (joined qs)
+
+pub length-one : (p : Packet) (n : ℕ) → sizeOf p ≡ n → length (joined (p ∷ [])) ≡ n
+length-one p n e = ap length (append-nil (packetBytes p)) ∙ length-packetBytes p ∙ e
+
 -- the next packet, written behind the earlier ones: the memory is then that of all of them
 pub append-next : (ps : List Packet) (p : Packet) (memory front : List ℕ) → packetFits p ≡ true → length (joined ps) + sizeOf p ≤ length memory
     → front ≡ joined ps ++ drop (length (joined ps)) memory

@@ -15,7 +15,7 @@ use Rattle.data.specs.declared.Progress.{Progress}
 use Rattle.data.specs.declared.Position.{Position}
 use Rattle.data.specs.declared.Engine.{Engine}
 use Rattle.packets.specs.Packets.{packetBytes, joined, sizeOf}
-use Rattle.packets.specs.Laws.{length-packetBytes, joined-append}
+use Rattle.packets.specs.Laws.{length-packetBytes, joined-append, length-one}
 use Rattle.packets.specs.Parts.{sets-more}
 use Rattle.packets.specs.declared.Header.{Header}
 use Rattle.packets.specs.declared.Packet.{Packet}
@@ -23,7 +23,8 @@ use Rattle.journey.specs.declared.Head.{Head}
 use Rattle.timing.specs.Position.{point, known}
 use Rattle.timing.specs.Standing.{standing}
 use Rattle.timing.specs.Changes.{Change, change, passings, when, statusPassed, statusStopped}
-use Rattle.control.specs.Conditions.{bare, endAhead}
+use Rattle.control.specs.Conditions.{endAhead}
+use Rattle.control.specs.Seen.{bare}
 use Rattle.model.specs.Packets.{Status, statusDue, header, timingPoint, jpReceived, atoStatus, packetsOf}
 use Rattle.recording.specs.Written.{timingPointOf, packets62, packets65, packets68, changesIn, firstIn, passingsIn, stoppedIn, loadedIn, packetsIn, sizeIn, Put}
 use Rattle.recording.specs.declared.Writes.{Writes}
@@ -33,12 +34,6 @@ use Rattle.recording.specs.declared.Writes.{Writes}
 pub size-62 : (j : Route) (x : Position) (c : Change) → sizeOf (timingPoint j x c) ≡ 25
 unfolding timingPoint
 size-62 j x c = refl
-
-one : (p : Packet) (n : ℕ) → sizeOf p ≡ n → length (joined (p ∷ [])) ≡ n
-one p n e = ap length (append-nil (packetBytes p)) ∙ length-packetBytes p ∙ e
-
-length-joined : (ps qs : List Packet) → length (joined (ps ++ qs)) ≡ length (joined ps) + length (joined qs)
-length-joined ps qs = ap length (joined-append ps qs) ∙ length-append (joined ps) (joined qs)
 
 pub size-passings : (e : Engine) (n k : ℕ) → length (joined (packets62 e (passings n k))) ≡ 25 * n
 unfolding passings
@@ -50,7 +45,7 @@ size-passings e (suc n) k =
     ∙ omega (arith, length-packetBytes p, size-62 (routeIn e) (e .train .position) c, size-passings e n (k + 1))
 
 size-when : (e : Engine) (b : Bool) (c : Change) → length (joined (packets62 e (when b c))) ≡ 25 * flag b
-size-when e true c = one (timingPoint (routeIn e) (e .train .position) c) 25 (size-62 (routeIn e) (e .train .position) c)
+size-when e true c = length-one (timingPoint (routeIn e) (e .train .position) c) 25 (size-62 (routeIn e) (e .train .position) c)
 size-when e false c = refl
 
 size-65 : (e : Engine) (w : Writes) → length (joined (packets65 e w)) ≡ 29 * flag (w .loaded)
@@ -58,7 +53,7 @@ unfolding jpReceived
 size-65 e w = go (w .loaded) refl
   where
     go : (b : Bool) → w .loaded ≡ b → length (joined (packets65 e w)) ≡ 29 * flag (w .loaded)
-    go true q = rw q (one (jpReceived (routeIn e) (e .train .position) (w .head)) 29 refl)
+    go true q = rw q (length-one (jpReceived (routeIn e) (e .train .position) (w .head)) 29 refl)
     go false q = rw q
 
 size-68 : (e : Engine) (w : Writes) → length (joined (packets68 e w)) ≡ 19 * flag (w .due)
@@ -66,7 +61,7 @@ unfolding atoStatus
 size-68 e w = go (w .due) refl
   where
     go : (b : Bool) → w .due ≡ b → length (joined (packets68 e w)) ≡ 19 * flag (w .due)
-    go true q = rw q (one (atoStatus (routeIn e) (e .train .position) (e .control .state) (w .conditions)) 19 refl)
+    go true q = rw q (length-one (atoStatus (routeIn e) (e .train .position) (e .control .state) (w .conditions)) 19 refl)
     go false q = rw q
 
 -- the bytes of an event's packets, kind by kind
@@ -118,7 +113,7 @@ module _ (at : ℕ) (l : List ℕ) where
   pub put-one : (p : Packet) (ps : List Packet) (n : ℕ) (m : List ℕ) → ps ≡ p ∷ [] → sizeOf p ≡ n → n ≤ 29 → m ≡ sets l at (packetBytes p) → Put at ps l m (at + n)
   put-one p ps n m q s h e = record {
     memory = e ∙ ap (sets l at) (sym (ap joined q ∙ append-nil (packetBytes p)));
-    next = ap (λ (k : ℕ). at + k) (sym (ap (λ (x : List Packet). length (joined x)) q ∙ one p n s));
+    next = ap (λ (k : ℕ). at + k) (sym (ap (λ (x : List Packet). length (joined x)) q ∙ length-one p n s));
     near = omega arith;
   }
 

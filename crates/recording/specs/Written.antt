@@ -18,7 +18,8 @@ use Rattle.packets.specs.declared.Header.{Header}
 use Rattle.packets.specs.declared.TimingPoint.{TimingPoint}
 use Rattle.packets.specs.declared.Packet.{Packet}
 use Rattle.timing.specs.Standing.{standing}
-use Rattle.control.specs.Conditions.{bare, endAhead}
+use Rattle.control.specs.Conditions.{endAhead}
+use Rattle.control.specs.Seen.{bare}
 use Rattle.timing.specs.Changes.{Change, change, passings, when, statusStopped}
 use Rattle.model.specs.Packets.{Status, received, timingPoint, atoStatus}
 use Rattle.recording.specs.declared.Changes.{Changes}

@@ -17,7 +17,8 @@ use Rattle.timing.specs.declared.Found.{Found}
 use Rattle.timing.specs.declared.Named.{Named}
 use Rattle.timing.specs.declared.Found.the-variants.{At, Nothing}
 use Rattle.timing.specs.declared.Front.the-variants.{Known, Unknown}
-use Rattle.timing.specs.Position.{segmentFrom, segmentNamed, namedIn, segmentIn, segment, point, placed, frontIn, front, frontBy}
+use Rattle.timing.specs.Position.{segmentFrom, segmentNamed, segment, point, placed, frontIn, front}
+use Rattle.timing.specs.Seen.{namedIn, segmentIn, frontBy}
 use Rattle.timing.specs.Distance.{Report, beyond, atStop, exceeds, stopsAt}
 use Rattle.timing.specs.Load.{targetFrom}
 use Rattle.timing.specs.Standing.{following}

@@ -1,5 +1,6 @@
 -- Document 01, "Timing points", in its order.
 pub mod Position
+pub mod Seen
 pub mod Distance
 pub mod Standing
 pub mod Load

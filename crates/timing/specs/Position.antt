@@ -11,7 +11,6 @@ use Rattle.data.specs.declared.Point.{Point}
 use Rattle.data.specs.declared.Position.{Position}
 use Rattle.timing.specs.declared.Found.{Found}
 use Rattle.timing.specs.declared.Found.the-variants.{At, Nothing}
-use Rattle.timing.specs.declared.Named.{Named}
 use Rattle.timing.specs.declared.Front.{Front}
 use Rattle.timing.specs.declared.Front.the-variants.{Known, Unknown}
 
@@ -50,19 +49,6 @@ frontIn j x (At k) =
 -- "The position is known if the offset is defined, its segment placed and the offset within its length"; the front, counted from the journey's start
 unfoldable pub front : Route → Position → Front
 front j x = if eqb (x .offset) undefined then Unknown else frontIn j x (segmentNamed j x)
-
--- a segment as a search answers it, and the front by it
-abbrev pub namedIn : List Segment → Found → Named
-namedIn l Nothing = record { found = false; segment = blankSegment }
-namedIn l (At k) = record { found = true; segment = getD l k blankSegment }
-
-abbrev pub segmentIn : Route → Position → Named
-segmentIn j x = namedIn (j .segments) (segmentNamed j x)
-
-abbrev pub frontBy : Named → Position → Front
-frontBy s x =
-    if eqb (x .offset) undefined then Unknown else
-    if s .found && (s .segment .placed && leb (x .offset) (s .segment .length)) then Known (s .segment .start + x .offset) else Unknown
 
 abbrev pub isKnown : Front → Bool
 isKnown (Known f) = true

@@ -5,7 +5,8 @@ use mathlib.Core.Bool.{Bool, false, not, _&&_}
 use Rattle.wire.specs.Numbers.{if_then_else_}
 use Rattle.data.specs.Engine.{Route, progress}
 use Rattle.data.specs.declared.Progress.{Progress}
-use Rattle.timing.specs.Position.{pointCount, placed, known, segmentIn}
+use Rattle.timing.specs.Position.{pointCount, placed, known}
+use Rattle.timing.specs.Seen.{segmentIn}
 use Rattle.timing.specs.Distance.{Report, beyond, atStop, moving}
 use Rattle.timing.specs.Standing.{following}
 use Rattle.timing.specs.declared.Reported.{Reported}

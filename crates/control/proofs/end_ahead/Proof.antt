@@ -1,5 +1,5 @@
 use borrow.Author.Tests.{not-false, not-true}
-use Rattle.control.specs.Conditions.{bare}
+use Rattle.control.specs.Seen.{bare}
 use Rattle.control.proofs.Laws.{end-passed, end-next, end-later}
 use Rattle.control.proofs.end_ahead.Statement.{statement}
 use Rattle.control.proofs.end_ahead.Tie as tie

@@ -1,7 +1,7 @@
 use mathlib.Core.Path.{ap, _∙_}
 use borrow.Author.Tests.{not-false, not-true}
 use Prim.Native.Nat.{_-_}
-use Rattle.control.specs.Conditions.{bare}
+use Rattle.control.specs.Seen.{bare}
 use Rattle.control.proofs.Laws.{last-is}
 use borrow.Author.Needs.{needs}
 use Rattle.control.proofs.last_ahead.Statement.{statement}

@@ -1,5 +1,5 @@
 use mathlib.Core.Path.{ap₂, _∙_}
-use Rattle.control.specs.Conditions.{viewBy}
+use Rattle.control.specs.Seen.{viewBy}
 use Rattle.control.proofs.Laws.{view-is}
 use borrow.Author.Needs.{needs}
 use Rattle.control.proofs.view_of.Statement.{statement}

@@ -1,5 +1,5 @@
 use mathlib.Core.Path.{ap, _∙_}
-use Rattle.control.specs.Conditions.{conditionsBy}
+use Rattle.control.specs.Seen.{conditionsBy}
 use Rattle.control.proofs.Laws.{conditions-view}
 use borrow.Author.Needs.{needs}
 use Rattle.engine.proofs.conditions.Statement.{statement}

@@ -2,9 +2,10 @@ use mathlib.Core.Path.{_≡_, refl, sym, ap, ap₂, _∙_}
 use Rattle.data.specs.Engine.{routeIn}
 use Rattle.data.specs.declared.Position.{Position}
 use Rattle.data.specs.declared.Engine.{Engine}
-use Rattle.timing.specs.Position.{segmentIn, placed}
+use Rattle.timing.specs.Position.{placed}
+use Rattle.timing.specs.Seen.{segmentIn}
 use Rattle.timing.specs.declared.Reported.{Reported}
-use Rattle.control.specs.Conditions.{viewBy}
+use Rattle.control.specs.Seen.{viewBy}
 use Rattle.control.specs.declared.View.{View}
 use Rattle.control.proofs.Laws.{view-is}
 use Rattle.model.specs.Effect.{offsetBeyond}

@@ -2,7 +2,7 @@ use denote.Ref.{now}
 use mathlib.Core.Path.{_≡_, ap₂, _∙_}
 use Rattle.event.specs.Events.{kindOf}
 use Rattle.control.specs.Codes.{stateAt}
-use Rattle.control.specs.Conditions.{viewBy}
+use Rattle.control.specs.Seen.{viewBy}
 use Rattle.control.proofs.Laws.{view-is}
 use Rattle.control.specs.Numbers.{judged, stateRows}
 use Rattle.engine.specs.Seen.{viewOf}

@@ -1,5 +1,5 @@
 use mathlib.Core.Path.{ap, _∙_}
-use Rattle.timing.specs.Position.{frontBy}
+use Rattle.timing.specs.Seen.{frontBy}
 use Rattle.timing.proofs.Laws.{front-named, report-stays, report-departs, report-looks}
 use borrow.Author.Needs.{needs}
 use Rattle.timing.proofs.report.Statement.{statement}

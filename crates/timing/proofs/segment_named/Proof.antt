@@ -7,7 +7,8 @@ use borrow.Author.Tests.{eq-eqb, ne-eqb}
 use native.Mathlib.Omega.{arith}
 use borrow.Author.Needs.{needs}
 use Rattle.data.specs.Engine.{blankSegment}
-use Rattle.timing.specs.Position.{segmentFrom, namedIn}
+use Rattle.timing.specs.Position.{segmentFrom}
+use Rattle.timing.specs.Seen.{namedIn}
 use Rattle.timing.proofs.Laws.{getD-there, and-first, left-all, segment-none, segment-hit, segment-miss}
 use Rattle.timing.proofs.segment_named.Statement.{statement}
 use Rattle.timing.proofs.segment_named.Tie as tie
