@@ -9,15 +9,16 @@ use lib.Seq.{drop-cons, drop-drop, getD-take, take-suc-set}
 use native.Mathlib.Numerals.{add-one}
 use native.Mathlib.Omega.{arith}
 use borrow.Author.Tests.{eq-eqb, ne-eqb}
-use Rattle.data.specs.declared.Zone.{Zone}
+use Rattle.engine_value.specs.declared.Zone.{Zone}
 use Rattle.wire.specs.Numbers.{number}
 use Rattle.book.specs.Book.{BookPoint, lookup, isSome, lookupPoint}
-use Rattle.book.specs.Answers.{items, pointOf, zoneOf, entrySegment, blankEntry, isNamed, indexFrom, pointSeen}
-use Rattle.book.specs.Fits.{All, SegmentFits}
+use Rattle.book.specs.Answers.{items, pointOf, zoneOf, entrySegment, blankEntry, isNamed, indexFrom, pointView}
+use Rattle.wire.specs.Lists.{All}
+use Rattle.book.specs.Ranges.{SegmentFits}
 use Rattle.book.specs.declared.Entry.{Entry}
 use Rattle.book.specs.declared.Found.{Found}
 use Rattle.book.specs.declared.PointFound.{PointFound}
-use Rattle.data.specs.Engine.{filled}
+use Rattle.engine_value.specs.Engine.{filled}
 
 pub or-true-left : (a b : Bool) → a ≡ true → (a || b) ≡ true
 or-true-left a b e = rw e
@@ -117,7 +118,7 @@ items-past v k d (suc n) (suc i) l h = items-past v k d n i (drop k l) (omega ar
 module _ (s : List ℕ) where
   few-of : (es : List Entry) (i : ℕ) → i < length es → All SegmentFits (map (entrySegment s) es) → getD es i blankEntry .points ≤ 16
   few-of [] i h f = absurd (omega arith)
-  few-of (e ∷ es) zero h f = omega (arith, f .0 .pointcount, items-length pointOf 10 (e .points) (drop (e .pointsat) s))
+  few-of (e ∷ es) zero h f = omega (arith, f .0 .«point_count», items-length pointOf 10 (e .points) (drop (e .«points_at») s))
   few-of (e ∷ es) (suc i) h f = few-of es i (omega arith) (f .1)
 
   pub few-points : (n : ℕ) (es : List Entry) (i : ℕ) → i < n → n ≤ length es → All SegmentFits (map (entrySegment s) (take n es)) → getD es i blankEntry .points ≤ 16
@@ -141,7 +142,7 @@ module _ (t : ℕ) (l : List ℕ) (ps : List BookPoint) where
   unfolding pointOf
   name-next e = rw (ne-eqb (number 4 l) t e)
 
-pub point-answer : (t : ℕ) (l : List ℕ) (x y : ℕ) → number 4 l ≡ t → x ≡ number 4 (drop 4 l) → y ≡ number 2 (drop 8 l) → pointSeen t (PointFound.Found x y) ≡ some (pointOf l)
+pub point-answer : (t : ℕ) (l : List ℕ) (x y : ℕ) → number 4 l ≡ t → x ≡ number 4 (drop 4 l) → y ≡ number 2 (drop 8 l) → pointView t (PointFound.Found x y) ≡ some (pointOf l)
 unfolding pointOf
 point-answer t l x y e a b = rw (a, b, ← e)
 

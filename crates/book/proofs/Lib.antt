@@ -1,3 +1,5 @@
 pub mod Reading
 pub mod Whole
 pub mod Entries
+pub mod LookUps
+pub mod Accepted

@@ -7,12 +7,12 @@ use lib.ListN.{length, drop, length-drop}
 use lib.Seq.{drop-drop}
 use lib.Dec.{eqb}
 use native.Mathlib.Omega.{arith}
-use Rattle.data.specs.Engine.{max4}
-use Rattle.data.specs.declared.Zone.{Zone}
+use Rattle.engine_value.specs.Engine.{max4}
+use Rattle.engine_value.specs.declared.Zone.{Zone}
 use Rattle.wire.specs.Numbers.{number, bit}
 use Rattle.wire.specs.Parse.{Parse, Reader, andThen, field, many, counted, listed, must, give}
 use Rattle.wire.specs.Parse.Parse.{bad, good}
-use Rattle.wire.specs.ParseLaws.{then-inv, FieldRead, field-inv}
+use Rattle.wire.proofs.ReaderLaws.{then-inv, FieldRead, field-inv}
 use Rattle.book.specs.Book.{BookPoint, bookPoint, zoneRecord, segmentRecord}
 use Rattle.book.specs.Answers.{items, pointOf, zoneOf}
 use Rattle.book.specs.Parts.{bare, checked, skip, most, Extent, extent}

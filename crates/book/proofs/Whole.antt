@@ -12,9 +12,11 @@ use Rattle.wire.specs.Parse.{Parse, andThen}
 use Rattle.wire.specs.Parse.Parse.{bad, good}
 use Rattle.wire.specs.Judged.Judged.{refuse, accept}
 use Rattle.book.specs.Book.{BookSegment, segmentRecord, records, segmentTwice, pointTwice, misbooked, bookOf}
-use Rattle.book.specs.Answers.{entrySegment, segmentsIn, bookSeen, blankEntry, BookRead}
+use Rattle.book.specs.Answers.{entrySegment, segmentsIn, bookView, blankEntry, BookRead}
 use Rattle.book.specs.Parts.{allRecords, ReadTo, refusedBook}
-use Rattle.book.specs.Fits.{All, SegmentFits, records-give}
+use Rattle.wire.specs.Lists.{All}
+use Rattle.book.specs.Ranges.{SegmentFits}
+use Rattle.book.proofs.Accepted.{records-give}
 use Rattle.book.specs.declared.Entry.{Entry}
 use Rattle.book.specs.declared.Book.{Book}
 use Rattle.book.proofs.Reading.{segment-takes}
@@ -153,7 +155,7 @@ module _ (s : List ℕ) where
 
   -- a refusal
   pub book-refused : (k : ℕ) → eqb k 0 ≡ false → bookOf s ≡ refuse k → BookRead s (refusedBook k)
-  unfolding bookSeen
+  unfolding bookView
   book-refused k z e = record { seen = rw z (sym e); few = omega arith; none = λ u. refl; blank = refl }
 
   or-last : (a b : Bool) → (a || (b || true)) ≡ true
@@ -185,5 +187,5 @@ module _ (s : List ℕ) where
     book-point t u = judged ∙ rw (t, u)
 
     pub book-good : segmentTwice (segmentsIn s book) ≡ false → pointTwice (segmentsIn s book) ≡ false → BookRead s book
-    unfolding bookSeen
+    unfolding bookView
     book-good t u = record { seen = sym (judged ∙ rw (t, u)); few = h; none = λ z. absurd (false≢true (sym z)); blank = let m : min n 40 ≡ n = omega arith in rw m at (g .blank) }

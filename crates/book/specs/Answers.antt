@@ -9,8 +9,8 @@ use lib.Dec.{eqb}
 use Rattle.wire.specs.Numbers.{number, if_then_else_}
 use Rattle.wire.specs.Judged.{Judged}
 use Rattle.wire.specs.Judged.Judged.{refuse, accept}
-use Rattle.data.specs.Engine.{blankZone, filled}
-use Rattle.data.specs.declared.Zone.{Zone}
+use Rattle.engine_value.specs.Engine.{blankZone, filled}
+use Rattle.engine_value.specs.declared.Zone.{Zone}
 use Rattle.book.specs.Book.{BookPoint, BookSegment, bookOf}
 use Rattle.book.specs.declared.Entry.{Entry}
 use Rattle.book.specs.declared.Book.{Book}
@@ -35,8 +35,8 @@ entrySegment s e = record {
   nidc = e .nidc;
   nidsp = e .nidsp;
   length = e .length;
-  points = items pointOf 10 (e .points) (drop (e .pointsat) s);
-  zones = items zoneOf 8 (e .zones) (drop (e .zonesat) s);
+  points = items pointOf 10 (e .points) (drop (e .«points_at») s);
+  zones = items zoneOf 8 (e .zones) (drop (e .«zones_at») s);
 }
 
 -- the records that the answer lists; safe for every value of the struct
@@ -46,16 +46,16 @@ entriesIn b = take (min (b .count) 40) (b .entries)
 abbrev pub segmentsIn : List ℕ → Book → List BookSegment
 segmentsIn s b = map (entrySegment s) (entriesIn b)
 
-unfoldable pub bookSeen : List ℕ → Book → Judged (List BookSegment)
-bookSeen s b = if eqb (b .number) 0 then accept (segmentsIn s b) else refuse (b .number)
+unfoldable pub bookView : List ℕ → Book → Judged (List BookSegment)
+bookView s b = if eqb (b .number) 0 then accept (segmentsIn s b) else refuse (b .number)
 
 -- what stands in the array beyond the count
 abbrev pub blankEntry : Entry
-blankEntry = record { nidc = 0; nidsp = 0; length = 0; points = 0; pointsat = 0; zones = 0; zonesat = 0 }
+blankEntry = record { nidc = 0; nidsp = 0; length = 0; points = 0; «points_at» = 0; zones = 0; «zones_at» = 0 }
 
 -- the answer for a book of the bytes s: what it says, and that nothing stands beyond the count, so that a refusal lists no record
 pub record BookRead (s : List ℕ) (b : Book) : Type 0 where
-  pub seen : bookSeen s b ≡ bookOf s
+  pub seen : bookView s b ≡ bookOf s
   pub few : b .count ≤ 40
   pub none : eqb (b .number) 0 ≡ false → b .count ≡ 0
   pub blank : drop (b .count) (b .entries) ≡ replicate (40 - b .count) blankEntry
@@ -70,14 +70,14 @@ indexFrom c sp i [] = Found.Missing
 indexFrom c sp i (e ∷ es) = if isNamed c sp e then Found.At i else indexFrom c sp (i + 1) es
 
 -- the record of the index that was found
-abbrev pub foundSeen : List ℕ → Book → Found → Option BookSegment
-foundSeen s b (Found.At i) = some (entrySegment s (getD (b .entries) i blankEntry))
-foundSeen s b Found.Missing = none
+abbrev pub foundView : List ℕ → Book → Found → Option BookSegment
+foundView s b (Found.At i) = some (entrySegment s (getD (b .entries) i blankEntry))
+foundView s b Found.Missing = none
 
 -- the point of the name t that was found
-abbrev pub pointSeen : ℕ → PointFound → Option BookPoint
-pointSeen t (PointFound.Found p r) = some (record { nidtp = t; place = p; reach = r })
-pointSeen t PointFound.Missing = none
+abbrev pub pointView : ℕ → PointFound → Option BookPoint
+pointView t (PointFound.Found p r) = some (record { nidtp = t; place = p; reach = r })
+pointView t PointFound.Missing = none
 
 unfoldable pub zoneIn : List ℕ → Entry → ℕ → Zone
 zoneIn s e k = getD (entrySegment s e .zones) k blankZone

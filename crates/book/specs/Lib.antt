@@ -1,5 +1,4 @@
 pub mod Book
 pub mod Answers
 pub mod Parts
-pub mod Laws
-pub mod Fits
+pub mod Ranges

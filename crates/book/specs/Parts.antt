@@ -50,17 +50,17 @@ extent present high p l =
     andThen (field 1 1 high l) (λ n r. andThen (skip n p r) (λ u r′. good (record { count = n; from = r }) r′)) else
     good (record { count = 0; from = l }) l
 
-abbrev pub endsSeen : List ℕ → Ends → Parse (Unit {0})
-endsSeen s (Ends.At next) = good tt (drop next s)
-endsSeen s Ends.Bad = bad
+abbrev pub endsView : List ℕ → Ends → Parse (Unit {0})
+endsView s (Ends.At next) = good tt (drop next s)
+endsView s Ends.Bad = bad
 
-abbrev pub itemsSeen : List ℕ → Items → Parse Extent
-itemsSeen s (Items.Read n p next) = good (record { count = n; from = drop p s }) (drop next s)
-itemsSeen s Items.Bad = bad
+abbrev pub itemsView : List ℕ → Items → Parse Extent
+itemsView s (Items.Read n p next) = good (record { count = n; from = drop p s }) (drop next s)
+itemsView s Items.Bad = bad
 
-abbrev pub segmentSeen : List ℕ → SegmentRead → Parse BookSegment
-segmentSeen s (SegmentRead.Record e next) = good (entrySegment s e) (drop next s)
-segmentSeen s SegmentRead.Bad = bad
+abbrev pub segmentView : List ℕ → SegmentRead → Parse BookSegment
+segmentView s (SegmentRead.Record e next) = good (entrySegment s e) (drop next s)
+segmentView s SegmentRead.Bad = bad
 
 -- the records of a whole book
 unfoldable pub allRecords : Reader (List BookSegment)

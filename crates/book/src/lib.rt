@@ -1,5 +1,5 @@
 // Books: segment records end to end, read and checked (7, 8), and look-ups in them.
-use data::Zone;
+use engine_value::Zone;
 use wire::Field;
 use wire::Width;
 use wire::read_field;
@@ -9,9 +9,10 @@ ghost use Prim.Native.Nat.{ℕ, _≤_, min};
 ghost use lib.ListN.{drop, take};
 ghost use Rattle.wire.specs.Numbers.{number};
 ghost use Rattle.book.specs.Book.{segmentRecord, among, twice, lookup, lookupPoint, isSome, segmentTwice, pointTwice};
-ghost use Rattle.book.specs.Answers.{items, entrySegment, segmentsIn, blankEntry, entriesIn, isNamed, indexFrom, pointSeen, zoneIn, zonesOf, BookRead};
-ghost use Rattle.book.specs.Parts.{item, most, skip, extent, endsSeen, itemsSeen, segmentSeen, RecordsRead, refusedBook};
-ghost use Rattle.book.specs.Fits.{All, SegmentFits};
+ghost use Rattle.book.specs.Answers.{items, entrySegment, segmentsIn, blankEntry, entriesIn, isNamed, indexFrom, pointView, zoneIn, zonesOf, BookRead};
+ghost use Rattle.book.specs.Parts.{item, most, skip, extent, endsView, itemsView, segmentView, RecordsRead, refusedBook};
+ghost use Rattle.wire.specs.Lists.{All};
+ghost use Rattle.book.specs.Ranges.{SegmentFits};
 
 // A segment record that was read: its numbers, and where its lists stand in the book's bytes.
 pub struct Entry {
@@ -19,9 +20,9 @@ pub struct Entry {
     pub nidsp: u32,
     pub length: u32,
     pub points: u8,
-    pub pointsat: usize,
+    pub points_at: usize,
     pub zones: u8,
-    pub zonesat: usize,
+    pub zones_at: usize,
 }
 
 // The records of a book in their order; number is 0, or that of the row that refuses.
@@ -81,7 +82,7 @@ struct Records {
 
 // The position behind a point whose fields are in their ranges.
 fn point_end(s: &[u8], at: usize, length: u32) -> Ends
-    ensures { λ r. ⌜ endsSeen (now (s .entry)) r ≡ item Kind.Points length (drop at (now (s .entry))) ⌝ }
+    ensures { λ r. ⌜ endsView (now (s .entry)) r ≡ item Kind.Points length (drop at (now (s .entry))) ⌝ }
 {
     let Field::Value(_, a) = read_field(s, at, Width::Four, 0, 4294967294) else {
         return Ends::Bad;
@@ -97,7 +98,7 @@ fn point_end(s: &[u8], at: usize, length: u32) -> Ends
 
 // The position behind a zone whose ends are in their ranges.
 fn zone_end(s: &[u8], at: usize, length: u32) -> Ends
-    ensures { λ r. ⌜ endsSeen (now (s .entry)) r ≡ item Kind.Zones length (drop at (now (s .entry))) ⌝ }
+    ensures { λ r. ⌜ endsView (now (s .entry)) r ≡ item Kind.Zones length (drop at (now (s .entry))) ⌝ }
 {
     let Field::Value(start, a) = read_field(s, at, Width::Four, 0, length) else {
         return Ends::Bad;
@@ -109,7 +110,7 @@ fn zone_end(s: &[u8], at: usize, length: u32) -> Ends
 }
 
 fn item_end(s: &[u8], at: usize, kind: Kind, length: u32) -> Ends
-    ensures { λ r. ⌜ endsSeen (now (s .entry)) r ≡ item kind length (drop at (now (s .entry))) ⌝ }
+    ensures { λ r. ⌜ endsView (now (s .entry)) r ≡ item kind length (drop at (now (s .entry))) ⌝ }
 {
     match kind {
         Kind::Points => point_end(s, at, length),
@@ -119,7 +120,7 @@ fn item_end(s: &[u8], at: usize, kind: Kind, length: u32) -> Ends
 
 // The position behind n items.
 fn items_end(s: &[u8], at: usize, n: u32, kind: Kind, length: u32) -> Ends
-    ensures { λ r. ⌜ endsSeen (now (s .entry)) r ≡ skip n (item kind length) (drop at (now (s .entry))) ⌝ }
+    ensures { λ r. ⌜ endsView (now (s .entry)) r ≡ skip n (item kind length) (drop at (now (s .entry))) ⌝ }
 {
     let mut p = at;
     let mut i: u32 = 0;
@@ -145,7 +146,7 @@ fn most_of(kind: Kind) -> u32
 
 // A list that stands only where its bit does.
 fn read_items(s: &[u8], at: usize, present: bool, kind: Kind, length: u32) -> Items
-    ensures { λ r. ⌜ itemsSeen (now (s .entry)) r ≡ extent present (most kind) (item kind length) (drop at (now (s .entry))) ⌝ }
+    ensures { λ r. ⌜ itemsView (now (s .entry)) r ≡ extent present (most kind) (item kind length) (drop at (now (s .entry))) ⌝ }
 {
     if present {
         let high = most_of(kind);
@@ -162,7 +163,7 @@ fn read_items(s: &[u8], at: usize, present: bool, kind: Kind, length: u32) -> It
 }
 
 fn read_segment(s: &[u8], at: usize) -> SegmentRead
-    ensures { λ r. ⌜ segmentSeen (now (s .entry)) r ≡ segmentRecord (drop at (now (s .entry))) ⌝ }
+    ensures { λ r. ⌜ segmentView (now (s .entry)) r ≡ segmentRecord (drop at (now (s .entry))) ⌝ }
 {
     let Field::Value(map, a) = read_field(s, at, Width::One, 0, 31) else {
         return SegmentRead::Bad;
@@ -179,12 +180,17 @@ fn read_segment(s: &[u8], at: usize) -> SegmentRead
     let Field::Value(length, p) = read_field(s, d, Width::Four, 1, 16777214) else {
         return SegmentRead::Bad;
     };
-    let Items::Read(points, pointsat, z) = read_items(s, p, map / 8 % 2 == 1, Kind::Points, length)
+    let Items::Read(points, points_at, z) = read_items(s, p, map / 8 % 2 == 1, Kind::Points, length)
     else {
         return SegmentRead::Bad;
     };
-    let Items::Read(zones, zonesat, next) = read_items(s, z, map / 16 % 2 == 1, Kind::Zones, length)
-    else {
+    let Items::Read(zones, zones_at, next) = read_items(
+        s,
+        z,
+        map / 16 % 2 == 1,
+        Kind::Zones,
+        length,
+    ) else {
         return SegmentRead::Bad;
     };
     SegmentRead::Record(
@@ -193,9 +199,9 @@ fn read_segment(s: &[u8], at: usize) -> SegmentRead
             nidsp: nidsp,
             length: length,
             points: points,
-            pointsat: pointsat,
+            points_at: points_at,
             zones: zones,
-            zonesat: zonesat,
+            zones_at: zones_at,
         },
         next,
     )
@@ -209,9 +215,9 @@ fn blank_entry() -> Entry
         nidsp: 0,
         length: 0,
         points: 0,
-        pointsat: 0,
+        points_at: 0,
         zones: 0,
-        zonesat: 0,
+        zones_at: 0,
     }
 }
 
@@ -388,7 +394,7 @@ fn point_twice(s: &[u8], b: Book) -> bool
     while i < n {
         let e = b.entries[i];
         i += 1;
-        if name_twice(s, e.pointsat, e.points) {
+        if name_twice(s, e.points_at, e.points) {
             return true;
         }
     }
@@ -437,10 +443,10 @@ pub fn read_book(s: &[u8]) -> Book
 
 // Place and reached distance of a record's point.
 pub fn find_point(s: &[u8], e: Entry, nidtp: u32) -> PointFound
-    ensures { λ r. ⌜ pointSeen nidtp r ≡ lookupPoint nidtp (entrySegment (now (s .entry)) e .points) ⌝ }
+    ensures { λ r. ⌜ pointView nidtp r ≡ lookupPoint nidtp (entrySegment (now (s .entry)) e .points) ⌝ }
 {
     let n = e.points;
-    let mut p = e.pointsat;
+    let mut p = e.points_at;
     let mut i: u8 = 0;
     while i < n {
         if wire::be32(s, p) == nidtp {
@@ -462,7 +468,7 @@ fn zone_in(s: &[u8], e: Entry, k: u8) -> Zone
     ensures { λ r. ⌜ r ≡ zoneIn (now (s .entry)) e k ⌝ }
 {
     if k < e.zones {
-        let a = after(s, e.zonesat, 8 * (k as usize));
+        let a = after(s, e.zones_at, 8 * (k as usize));
         let b = after(s, a, 4);
         Zone {
             start: wire::be32(s, a),

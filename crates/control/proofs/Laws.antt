@@ -8,15 +8,13 @@ use native.Mathlib.Numerals.{add-one}
 use lib.ListN.{getD}
 use lib.Dec.{eqb, ltb, leb}
 use borrow.Author.Tests.{lt-ltb, le-ltb, le-leb, lt-leb, eq-eqb, ne-eqb, ltb-true, ltb-false, leb-true, leb-false}
-use types.Run.{OneOf, miss}
-use denote.Enum.Declared.{tagOf}
 use Rattle.wire.specs.Numbers.{flag, if_then_else_}
-use Rattle.data.specs.Engine.{Route, undefined, blankZone}
-use Rattle.data.specs.declared.Control.{Control}
-use Rattle.data.specs.declared.Load as group
-use Rattle.data.specs.declared.Zone.{Zone}
-use Rattle.data.specs.declared.Position.{Position}
-use Rattle.data.specs.declared.Progress.{Progress}
+use Rattle.engine_value.specs.Engine.{Route, undefined, blankZone}
+use Rattle.engine_value.specs.declared.Control.{Control}
+use Rattle.engine_value.specs.declared.Load as group
+use Rattle.engine_value.specs.declared.Zone.{Zone}
+use Rattle.engine_value.specs.declared.Position.{Position}
+use Rattle.engine_value.specs.declared.Progress.{Progress}
 use Rattle.timing.specs.Position.{segment, segmentNamed, pointCount, placed}
 use Rattle.timing.specs.Seen.{segmentIn}
 use Rattle.timing.specs.Standing.{standing, isPassed, behind}
@@ -24,15 +22,12 @@ use Rattle.timing.specs.declared.Found.{Found}
 use Rattle.timing.specs.declared.Found.the-variants.{At, Nothing}
 use Rattle.timing.specs.declared.Named.{Named}
 use Rattle.timing.specs.declared.Standing.the-variants.{Targeted, Reached}
-use Rattle.event.proofs.Event
-use Rattle.event.specs.declared.Event.{Event}
-use Rattle.event.specs.declared.Event.the-variants.{PowerOn, Configured, PowerOff, Fault, Reports, Mode, Lever, Press, Report, Length, Load, Skip, Revoke}
 use Rattle.control.specs.Codes.{code, is, isAD}
 use Rattle.control.specs.Conditions.{etcsFulfilled, noEmergencyBrake, noInconsistency, dataValid, located, outsideZones, conditions}
 use Rattle.control.specs.Conditions.{endAhead, lastAhead, firstAhead, profilesThere, tooFar, countsIn, counts, inZones, outsideIn}
 use Rattle.control.specs.Conditions.{wordOf}
 use Rattle.control.specs.Seen.{bare, locatedBy, insideBy, viewBy, viewIn, conditionsBy}
-use Rattle.control.specs.States.{machine, N, U, fromRE, byState, settled, given}
+use Rattle.control.specs.States.{machine, N, U, fromRE, given}
 use Rattle.control.specs.declared.Values.{Values}
 use Rattle.control.specs.declared.Machine.{Machine}
 use Rattle.control.specs.declared.View.{View}
@@ -43,28 +38,6 @@ use Rattle.control.specs.declared.State.the-variants.{RE}
 pub press-stays : (press : Bool) (v : Values) → (press && (v .O && (v .T && (N v && isAD (v .mode))))) ≡ false → press ≡ true
     → machine (U v) (is (U v) RE) ≡ fromRE press v
 press-stays press v e q = rw (e, q)
-
--- the positions, in the enum, of the events that have no row of their own
-abbrev plainTags : List ℕ
-plainTags = 4 ∷ 5 ∷ 6 ∷ 8 ∷ 9 ∷ 10 ∷ 11 ∷ 12 ∷ []
-
--- such an event takes the row of the state
-pub settled-plain : (m : Machine) (e : Event) (r : Bool) (v : Values) → OneOf plainTags (tagOf Event.the-type e)
-    → byState (m .state) (m .press) r v ≡ settled m e r v
-unfolding settled
-settled-plain m PowerOn r v h = absurd (miss plainTags 0 tt h)
-settled-plain m Configured r v h = absurd (miss plainTags 1 tt h)
-settled-plain m PowerOff r v h = absurd (miss plainTags 2 tt h)
-settled-plain m Fault r v h = absurd (miss plainTags 3 tt h)
-settled-plain m (Reports n) r v h = refl
-settled-plain m (Mode n) r v h = refl
-settled-plain m (Lever n) r v h = refl
-settled-plain m Press r v h = absurd (miss plainTags 7 tt h)
-settled-plain m (Report p) r v h = refl
-settled-plain m (Length n) r v h = refl
-settled-plain m Load r v h = refl
-settled-plain m (Skip t) r v h = refl
-settled-plain m (Revoke t) r v h = refl
 
 -- ---- where a point stands, by the first point not passed
 

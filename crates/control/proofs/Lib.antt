@@ -1,3 +1,2 @@
 pub mod Laws
-pub mod Engaged
-pub mod Requests
+pub mod CodeLaws

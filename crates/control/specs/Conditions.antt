@@ -5,10 +5,10 @@ use mathlib.Core.Bool.{Bool, true, false, not, _&&_, _||_}
 use lib.ListN.{getD}
 use lib.Dec.{ltb, leb, eqb}
 use Rattle.wire.specs.Numbers.{bit, flag, if_then_else_}
-use Rattle.data.specs.Engine.{Route, blankZone, undefined}
-use Rattle.data.specs.declared.Zone.{Zone}
-use Rattle.data.specs.declared.Segment.{Segment}
-use Rattle.data.specs.declared.Position.{Position}
+use Rattle.engine_value.specs.Engine.{Route, blankZone, undefined}
+use Rattle.engine_value.specs.declared.Zone.{Zone}
+use Rattle.engine_value.specs.declared.Segment.{Segment}
+use Rattle.engine_value.specs.declared.Position.{Position}
 use Rattle.timing.specs.Position.{segment, segmentNamed, pointCount, placed}
 use Rattle.timing.specs.Standing.{isPassed, behind}
 use Rattle.timing.specs.declared.Found.{Found}
@@ -74,7 +74,7 @@ inZones l (suc n) o = inZones l n o || (leb (getD l n blankZone .start) o && leb
 
 unfoldable pub outsideIn : Route → Position → Found → Bool
 outsideIn j x Nothing = true
-outsideIn j x (At k) = not (inZones (segment j k .zones) (min (segment j k .zonecount) 4) (x .offset))
+outsideIn j x (At k) = not (inZones (segment j k .zones) (min (segment j k .«zone_count») 4) (x .offset))
 
 -- "7: not within a zone of a journey segment in the book, both ends inside." A segment that is not in the book has no zones
 abbrev pub outsideZones : Route → Position → Bool

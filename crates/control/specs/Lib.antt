@@ -5,6 +5,3 @@ pub mod Seen
 pub mod States
 pub mod Settled
 pub mod Numbers
-pub mod Engagement
-pub mod Run
-pub mod Laws

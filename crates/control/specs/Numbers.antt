@@ -27,5 +27,5 @@ stateRows s kind = do
   stateRow s kind
 
 -- the number of the row that refuses; 0 where none does
-abbrev pub judged : ℕ → Judged (Unit {0})
-judged n = if eqb n 0 then accept tt else refuse n
+abbrev pub rowView : ℕ → Judged (Unit {0})
+rowView n = if eqb n 0 then accept tt else refuse n

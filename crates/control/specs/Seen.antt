@@ -5,10 +5,10 @@ use mathlib.Core.List.{[], _∷_}
 use mathlib.Core.Bool.{Bool, true, not, _&&_, _||_}
 use lib.Dec.{leb, eqb}
 use Rattle.wire.specs.Numbers.{if_then_else_}
-use Rattle.data.specs.Engine.{Route, undefined}
-use Rattle.data.specs.declared.Load.{Load}
-use Rattle.data.specs.declared.Progress.{Progress}
-use Rattle.data.specs.declared.Position.{Position}
+use Rattle.engine_value.specs.Engine.{Route, undefined}
+use Rattle.engine_value.specs.declared.Load.{Load}
+use Rattle.engine_value.specs.declared.Progress.{Progress}
+use Rattle.engine_value.specs.declared.Position.{Position}
 use Rattle.timing.specs.Position.{pointCount, placed}
 use Rattle.timing.specs.Standing.{standing}
 use Rattle.timing.specs.declared.Named.{Named}
@@ -24,7 +24,7 @@ abbrev pub locatedBy : Named → Position → Bool
 locatedBy s x = not (eqb (x .offset) undefined) && (s .found && not (tooFar x (s .segment)))
 
 abbrev pub insideBy : Named → Position → Bool
-insideBy s x = inZones (s .segment .zones) (min (s .segment .zonecount) 4) (x .offset)
+insideBy s x = inZones (s .segment .zones) (min (s .segment .«zone_count») 4) (x .offset)
 
 abbrev pub viewBy : Named → Position → Bool → View
 viewBy s x placed = record { located = locatedBy s x; outside = if locatedBy s x then not (insideBy s x) else true; placed = placed }

@@ -2,7 +2,7 @@
 use Prim.Native.Nat.{ℕ}
 use mathlib.Core.Bool.{Bool}
 use lib.Dec.{eqb}
-use Rattle.data.specs.declared.Control.{Control}
+use Rattle.engine_value.specs.declared.Control.{Control}
 use Rattle.event.specs.declared.Event.{Event}
 use Rattle.control.specs.Codes.{code, stateAt, modeAt, leverAt}
 use Rattle.control.specs.Conditions.{T}

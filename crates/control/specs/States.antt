@@ -2,7 +2,9 @@
 use mathlib.Core.Bool.{Bool, true, false, not, _&&_, _||_}
 use Rattle.wire.specs.Numbers.{if_then_else_}
 use Rattle.event.specs.declared.Event.{Event}
-use Rattle.event.specs.declared.Event.the-variants.{PowerOn, Configured, PowerOff, Fault, Reports, Mode, Lever, Press, Report, Length, Load, Skip, Revoke}
+use Rattle.event.specs.declared.Row.{Row}
+use Rattle.event.specs.declared.Row.the-variants.{SwitchOn, Configure, SwitchOff, Fail, EngagePress, ByState}
+use Rattle.event.specs.Kinds.{rowOf}
 use Rattle.control.specs.Codes.{is, isAD, isNeutral, isBrake}
 use Rattle.control.specs.declared.State.{State}
 use Rattle.control.specs.declared.State.the-variants.{NP, CO, NA, AV, RE, EG, DE, FA}
@@ -47,20 +49,16 @@ byState DE press reached v = machine (fromDE v) false
 byState FA press reached v = machine FA false
 
 -- "After each accepted event: power on gives CO; CO waits for configured, then U; fault gives FA until power off. NA, AV: U. .."
+abbrev pub byRow : Machine → Row → Bool → Values → Machine
+byRow m SwitchOn reached v = machine CO false
+byRow m Configure reached v = machine (U v) false
+byRow m SwitchOff reached v = machine NP false
+byRow m Fail reached v = machine FA false
+byRow m EngagePress reached v = byState (m .state) true reached v
+byRow m ByState reached v = byState (m .state) (m .press) reached v
+
 unfoldable pub settled : Machine → Event → Bool → Values → Machine
-settled m PowerOn reached v = machine CO false
-settled m Configured reached v = machine (U v) false
-settled m PowerOff reached v = machine NP false
-settled m Fault reached v = machine FA false
-settled m (Reports n) reached v = byState (m .state) (m .press) reached v
-settled m (Mode n) reached v = byState (m .state) (m .press) reached v
-settled m (Lever n) reached v = byState (m .state) (m .press) reached v
-settled m Press reached v = byState (m .state) true reached v
-settled m (Report p) reached v = byState (m .state) (m .press) reached v
-settled m (Length n) reached v = byState (m .state) (m .press) reached v
-settled m Load reached v = byState (m .state) (m .press) reached v
-settled m (Skip t) reached v = byState (m .state) (m .press) reached v
-settled m (Revoke t) reached v = byState (m .state) (m .press) reached v
+settled m event reached v = byRow m (rowOf event) reached v
 
 -- "AD request (000 §9.12): wanted in RE, EG, DE, and in AV with AD and N"
 abbrev pub wanted : State → Values → Bool

@@ -4,7 +4,7 @@ ghost use mathlib.Core.Bool.{false, not, _&&_, _||_};
 ghost use Prim.Native.Nat.{_-_, _≤_, min};
 ghost use lib.Dec.{leb};
 ghost use Rattle.wire.specs.Numbers.{flag};
-ghost use Rattle.data.specs.Engine.{routeIn};
+ghost use Rattle.engine_value.specs.Engine.{routeIn};
 ghost use Rattle.timing.specs.Position.{pointCount, placed};
 ghost use Rattle.timing.specs.Standing.{standing};
 ghost use Rattle.control.specs.Codes.{code, stateAt, is, modeAt, isAD, leverAt, isNeutral, isBrake};
@@ -13,15 +13,17 @@ ghost use Rattle.control.specs.Conditions.{endAhead, lastAhead, tooFar, 
 ghost use Rattle.control.specs.Seen.{bare, locatedBy, viewBy, viewIn, conditionsBy};
 ghost use Rattle.control.specs.States.{machine, N, U, fromRE, fromEG, fromDE, byState, settled, wanted, given};
 ghost use Rattle.control.specs.Settled.{allNine, valuesIn, machineIn, controlAfter};
-ghost use Rattle.control.specs.Numbers.{judged, powerRows, stateRow, stateRows};
-use data::Control;
-use data::Engine;
-use data::Load;
-use data::Position;
-use data::Progress;
-use data::Segment;
-use data::Zone;
+ghost use Rattle.control.specs.Numbers.{rowView, powerRows, stateRow, stateRows};
+use engine_value::Control;
+use engine_value::Engine;
+use engine_value::Load;
+use engine_value::Position;
+use engine_value::Progress;
+use engine_value::Segment;
+use engine_value::Zone;
 use event::Event;
+use event::Row;
+use event::row_of;
 use timing::Named;
 
 // The states of document 01, by their codes 0 to 7 in this order.
@@ -225,7 +227,7 @@ fn last_ahead(l: Load, p: Progress) -> bool
     if !l.valid {
         return false;
     }
-    let last = one_less(at_most(l.pointcount, 64));
+    let last = one_less(at_most(l.point_count, 64));
     !(last < p.next)
 }
 
@@ -236,7 +238,7 @@ fn profiles_there(l: Load, p: Progress, placed: bool) -> bool
     if !l.valid {
         return false;
     }
-    if at_most(l.pointcount, 64) <= p.next {
+    if at_most(l.point_count, 64) <= p.next {
         true
     } else {
         placed
@@ -267,9 +269,9 @@ fn or_in_zone(before: bool, z: Zone, offset: u32) -> bool
 }
 
 fn in_zones(s: Segment, offset: u32) -> bool
-    ensures { λ r. ⌜ r ≡ inZones (s .zones) (min (s .zonecount) 4) offset ⌝ }
+    ensures { λ r. ⌜ r ≡ inZones (s .zones) (min (s .«zone_count») 4) offset ⌝ }
 {
-    let n = at_most(s.zonecount, 4);
+    let n = at_most(s.zone_count, 4);
     let mut i: u8 = 0;
     let mut inside = false;
     while i < n {
@@ -486,13 +488,14 @@ fn settled(m: Machine, event: Event, reached: bool, v: Values) -> Machine
     ensures { λ r. ⌜ r ≡ settled m event reached v ⌝ }
 {
     let s = m.state;
-    match event {
-        Event::PowerOn => at_rest(State::CO),
-        Event::Configured => at_rest(u(v)),
-        Event::PowerOff => at_rest(State::NP),
-        Event::Fault => at_rest(State::FA),
-        Event::Press => by_state(s, true, reached, v),
-        _ => by_state(s, m.press, reached, v),
+    let row = row_of(event);
+    match row {
+        Row::SwitchOn => at_rest(State::CO),
+        Row::Configure => at_rest(u(v)),
+        Row::SwitchOff => at_rest(State::NP),
+        Row::Fail => at_rest(State::FA),
+        Row::EngagePress => by_state(s, true, reached, v),
+        Row::ByState => by_state(s, m.press, reached, v),
     }
 }
 
@@ -590,7 +593,7 @@ pub fn settle(c: Control, event: Event, reached: bool, word: u16) -> Control
 // ---- the places "power" and "state" of the table of numbers
 
 fn power_row(s: State, kind: u8) -> u8
-    ensures { λ r. ⌜ judged r ≡ powerRows s kind ⌝ }
+    ensures { λ r. ⌜ rowView r ≡ powerRows s kind ⌝ }
 {
     if same(s, State::NP) {
         return if kind == 1 { 0 } else { 3 };
@@ -605,7 +608,7 @@ fn power_row(s: State, kind: u8) -> u8
 }
 
 fn state_row(s: State, kind: u8) -> u8
-    ensures { λ r. ⌜ judged r ≡ stateRow s kind ⌝ }
+    ensures { λ r. ⌜ rowView r ≡ stateRow s kind ⌝ }
 {
     if kind == 2 {
         return if same(s, State::CO) { 0 } else { 6 };
@@ -618,7 +621,7 @@ fn state_row(s: State, kind: u8) -> u8
 
 // The number of the first of these rows that refuses; 0 where none does.
 pub fn power_number(s: State, kind: u8) -> u8
-    ensures { λ r. ⌜ judged r ≡ stateRows s kind ⌝ }
+    ensures { λ r. ⌜ rowView r ≡ stateRows s kind ⌝ }
 {
     let n = power_row(s, kind);
     if n == 0 { state_row(s, kind) } else { n }

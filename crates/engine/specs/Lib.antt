@@ -1,3 +1,2 @@
 -- What the code's structs stand for, and laws of the parts of a call.
-pub mod Seen
-pub mod Laws
+pub mod View

@@ -1,20 +1,20 @@
 // The event call: one event, with the profiles and the output memory that the host lends.
+use call::Answer;
 use control::View;
-use data::Control;
-use data::Engine;
-use data::Load;
-use data::Point;
-use data::Position;
-use data::Progress;
-use data::Segment;
-use data::Train;
+use engine_value::Control;
+use engine_value::Engine;
+use engine_value::Load;
+use engine_value::Point;
+use engine_value::Position;
+use engine_value::Progress;
+use engine_value::Segment;
+use engine_value::Train;
 use event::Event;
 use event::EventRead;
+use event_packets::Changes;
+use event_packets::Shown;
+use event_packets::Writes;
 use journey::Head;
-use model::Answer;
-use recording::Changes;
-use recording::Shown;
-use recording::Writes;
 use route::Loaded;
 use timing::Found;
 use timing::Named;
@@ -24,7 +24,7 @@ ghost use mathlib.Core.Path.{_≡_};
 ghost use mathlib.Core.Bool.{false};
 ghost use Prim.Native.Nat.{_<_};
 ghost use lib.ListN.{set, replicate};
-ghost use Rattle.data.specs.Engine.{routeIn, blankPoint, blankSegment, fresh, progress, withPosition, withLength, withControl, withRoute, withSkips, withProgress};
+ghost use Rattle.engine_value.specs.Engine.{routeIn, blankPoint, blankSegment, fresh, progress, withPosition, withControl, withRoute, withSkips, withProgress};
 ghost use Rattle.journey.specs.Answers.{blankHead};
 ghost use Rattle.timing.specs.Position.{placed};
 ghost use Rattle.timing.specs.Standing.{standing, behind};
@@ -33,9 +33,10 @@ ghost use Rattle.timing.specs.Skips.{stopNamed};
 ghost use Rattle.timing.specs.Load.{target};
 ghost use Rattle.timing.specs.declared.Found.the-variants.{At};
 ghost use Rattle.control.specs.Settled.{controlAfter};
-ghost use Rattle.model.specs.Effect.{withMode, withLever, withReports, positionEffect, loadEffect, sameBool, skipEffect, effect};
-ghost use Rattle.model.specs.Call.{stepBy, outcomeOf, stepOf};
-ghost use Rattle.engine.specs.Seen.{noChanges, oneChange, changesOf, skipStatus, routeBy, viewOf, beyondBy, plainEffect, effectIn, Gives, outputRow, laterRows, call, refusedStep, acceptedStep, shownOf, writesOf, Steps};
+ghost use Rattle.event.specs.Kinds.{mode, lever, reports, trainLength, number, bringing};
+ghost use Rattle.call.specs.Effect.{taking, positionEffect, loadEffect, sameBool, skipEffect, effect};
+ghost use Rattle.call.specs.Call.{stepBy, outcomeOf, stepOf};
+ghost use Rattle.engine.specs.View.{noChanges, oneChange, changesOf, skipStatus, routeView, viewOf, beyondBy, plainEffect, effectIn, Gives, outputRow, laterRows, call, refusedStep, acceptedStep, shownOf, writesOf, Steps};
 
 // What an event does before the rows of the states: the engine with its values, the head of a journey that was loaded, the points that
 // changed, whether one became reached, and what the conditions look up after it. `number` is 0, or that of the row that refuses.
@@ -119,7 +120,7 @@ fn plain(e: Engine, number: u8, view: View) -> Effect
 }
 
 fn with_mode(e: Engine, n: u8) -> Engine
-    ensures { λ r. ⌜ r ≡ withMode e n ⌝ }
+    ensures { λ r. ⌜ r ≡ taking e (bringing (number mode n)) ⌝ }
 {
     let mut m = e;
     m.control.mode = n;
@@ -127,7 +128,7 @@ fn with_mode(e: Engine, n: u8) -> Engine
 }
 
 fn with_lever(e: Engine, n: u8) -> Engine
-    ensures { λ r. ⌜ r ≡ withLever e n ⌝ }
+    ensures { λ r. ⌜ r ≡ taking e (bringing (number lever n)) ⌝ }
 {
     let mut m = e;
     m.control.lever = n;
@@ -135,7 +136,7 @@ fn with_lever(e: Engine, n: u8) -> Engine
 }
 
 fn with_reports(e: Engine, n: u8) -> Engine
-    ensures { λ r. ⌜ r ≡ withReports e n ⌝ }
+    ensures { λ r. ⌜ r ≡ taking e (bringing (number reports n)) ⌝ }
 {
     let mut m = e;
     m.control.reports = n;
@@ -143,7 +144,7 @@ fn with_reports(e: Engine, n: u8) -> Engine
 }
 
 fn with_length(e: Engine, n: u32) -> Engine
-    ensures { λ r. ⌜ r ≡ withLength e n ⌝ }
+    ensures { λ r. ⌜ r ≡ taking e (bringing (number trainLength n)) ⌝ }
 {
     let mut m = e;
     m.train.length = n;
@@ -212,7 +213,7 @@ fn placed_after(m: Engine, next: u8, before: bool) -> bool
 // A position report.
 fn position(e: Engine, x: Position, view: View) -> Effect
     requires { ⌜ view ≡ viewOf e ⌝ }
-    ensures { λ r. ⌜ Gives (positionEffect e x) r ⌝ }
+    ensures { λ r. ⌜ Gives (positionEffect (withPosition e x)) r ⌝ }
 {
     let mut m = with_position(e, x);
     let t = timing::report(m);
@@ -239,7 +240,7 @@ fn position(e: Engine, x: Position, view: View) -> Effect
 
 // The route of a load in force, with no driver skip.
 fn with_route(e: Engine, l: Loaded) -> Engine
-    ensures { λ r. ⌜ r ≡ withRoute e (routeBy l) ⌝ }
+    ensures { λ r. ⌜ r ≡ withRoute e (routeView l) ⌝ }
 {
     let mut m = e;
     let points = l.points;
@@ -375,8 +376,8 @@ fn blank_arrays(e: Engine) -> Blanks
 {
     let mut points = e.points;
     let mut segments = e.segments;
-    let point = data::blank_point();
-    let segment = data::blank_segment();
+    let point = engine_value::blank_point();
+    let segment = engine_value::blank_segment();
     let mut k: usize = 0;
     while k < 64 {
         points[k] = point;
@@ -403,8 +404,8 @@ fn cleared(e: Engine) -> Engine
         valid: false,
         operational: 4294967295,
         ending: 0,
-        pointcount: 0,
-        segmentcount: 0,
+        point_count: 0,
+        segment_count: 0,
     };
     let progress = Progress {
         next: 0,
@@ -464,7 +465,7 @@ fn effect_of(e: Engine, v: Event, journey: &[u8], book: &[u8], view: View) -> Ef
         Event::Mode(n) => plain(with_mode(e, n), 0, view),
         Event::Lever(n) => plain(with_lever(e, n), 0, view),
         Event::Press => plain(e, 0, view),
-        Event::Report(x) => position(e, x, view),
+        Event::PositionReport(x) => position(e, x, view),
         Event::Length(n) => plain(with_length(e, n), 0, view),
         Event::Load => load(e, journey, book, view),
         Event::Skip(t) => skip(e, t, true, view),
@@ -550,14 +551,14 @@ fn conclude(e: Engine, view: View, v: Event, f: Effect, out: &mut [u8]) -> Stepp
     let word = conditions(f.engine, f.view);
     let m = settle(f.engine, v, f.reached, word);
     let after = shown(m, word);
-    let due = recording::status_due(before, after);
+    let due = event_packets::status_due(before, after);
     let w = writes_of(f, due, word);
-    let size = recording::size(w);
+    let size = event_packets::size(w);
     if out.len() < size {
         return refused(e, 16);
     }
     let r = accepted(m, size);
-    recording::write(m, w, out);
+    event_packets::write(m, w, out);
     r
 }
 

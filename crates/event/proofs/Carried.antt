@@ -10,7 +10,7 @@ use native.Mathlib.Omega.{arith}
 use borrow.Author.Tests.{ne-eqb}
 use Rattle.wire.specs.Parse.{Parse, andThen, field}
 use Rattle.wire.specs.Parse.Parse.{bad, good}
-use Rattle.wire.specs.ParseLaws.{field-inv}
+use Rattle.wire.proofs.ReaderLaws.{field-inv}
 use Rattle.wire.specs.Judged.{Judged, thenJudge, read}
 use Rattle.wire.specs.Judged.Judged.{refuse, accept}
 use Rattle.event.specs.Events.{carries, numbered, carried, eventOfKind, eventOf}

@@ -7,9 +7,9 @@ use Rattle.wire.specs.Numbers.{if_then_else_}
 use Rattle.wire.specs.Parse.{Reader, andThen, field, give, _>>=_}
 use Rattle.wire.specs.Judged.{Judged, read}
 use Rattle.wire.specs.Judged.Judged.{refuse, accept}
-use Rattle.data.specs.Engine.{max2, max4, undefined}
+use Rattle.engine_value.specs.Engine.{max2, max4, undefined}
 use Rattle.event.specs.declared.Event.{Event}
-use Rattle.event.specs.declared.Event.the-variants.{PowerOn, Configured, PowerOff, Fault, Reports, Mode, Lever, Press, Report, Length, Load, Skip, Revoke}
+use Rattle.event.specs.declared.Event.the-variants.{PowerOn, Configured, PowerOff, Fault, Reports, Mode, Lever, Press, PositionReport, Length, Load, Skip, Revoke}
 use Rattle.event.specs.declared.EventRead.{EventRead}
 use Rattle.event.specs.declared.NumberRead.{NumberRead}
 
@@ -30,7 +30,7 @@ positioned = do
   sp ← field 4 0 max4
   o ← field 4 0 undefined
   v ← field 2 0 max2
-  give (Report (record { nidc = c; nidsp = sp; offset = o; speed = v }))
+  give (PositionReport (record { nidc = c; nidsp = sp; offset = o; speed = v }))
 
 -- "1 power on; 2 configured; 3 power off; 4 fault; 5 reports (1: bit 0 ETCS conditions, .. 4 train conditions; 5-7 zero); 6 ETCS mode (1: 0 other,
 -- 1 AD); 7 lever (1: 0 neutral, 1 traction, 2 brake); 8 engage press; 9 position: ..; 10 train length (4, 1-100,000); 11 load, with journey and book
@@ -56,30 +56,15 @@ eventOfKind kind l =
 unfoldable pub eventOf : List ℕ → Judged Event
 eventOf l = if eqb (length l) 0 then refuse 1 else eventOfKind (getD l 0 0) (drop 1 l)
 
-abbrev pub kindOf : Event → ℕ
-kindOf PowerOn = 1
-kindOf Configured = 2
-kindOf PowerOff = 3
-kindOf Fault = 4
-kindOf (Reports n) = 5
-kindOf (Mode n) = 6
-kindOf (Lever n) = 7
-kindOf Press = 8
-kindOf (Report p) = 9
-kindOf (Length n) = 10
-kindOf Load = 11
-kindOf (Skip n) = 12
-kindOf (Revoke n) = 13
-
 -- what an answer says
-abbrev pub eventSeen : EventRead → Judged Event
-eventSeen (EventRead.Event e) = accept e
-eventSeen (EventRead.Refused n) = refuse n
+abbrev pub eventView : EventRead → Judged Event
+eventView (EventRead.Event e) = accept e
+eventView (EventRead.Refused n) = refuse n
 
 -- a number of w bytes that fills k bytes, and what its answer says
 unfoldable pub carried : ℕ → ℕ → ℕ → ℕ → List ℕ → Judged ℕ
 carried k w low high l = if eqb (length l) k then read 2 (field w low high l) else refuse 1
 
-abbrev pub numberSeen : NumberRead → Judged ℕ
-numberSeen (NumberRead.Value n) = accept n
-numberSeen (NumberRead.Refused n) = refuse n
+abbrev pub numberView : NumberRead → Judged ℕ
+numberView (NumberRead.Value n) = accept n
+numberView (NumberRead.Refused n) = refuse n

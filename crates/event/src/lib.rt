@@ -1,12 +1,13 @@
 // Events: one byte kind and what it carries, read and checked (1, 2).
-use data::Position;
+use engine_value::Position;
 use wire::Field;
 use wire::Width;
 use wire::read_field;
 ghost use mathlib.Core.Path.{_≡_};
 ghost use Rattle.wire.specs.Parse.{bytes, give};
-ghost use Rattle.data.specs.Engine.{max4};
-ghost use Rattle.event.specs.Events.{carries, numbered, positioned, carried, eventOf, kindOf, eventSeen, numberSeen};
+ghost use Rattle.engine_value.specs.Engine.{max4};
+ghost use Rattle.event.specs.Kinds.{kindOf, rowOf};
+ghost use Rattle.event.specs.Events.{carries, numbered, positioned, carried, eventOf, eventView, numberView};
 
 pub enum Event {
     PowerOn,
@@ -17,11 +18,21 @@ pub enum Event {
     Mode(u8),
     Lever(u8),
     Press,
-    Report(Position),
+    PositionReport(Position),
     Length(u32),
     Load,
     Skip(u32),
     Revoke(u32),
+}
+
+// The row of the states that an event takes: one of its own, or that of the state before.
+pub enum Row {
+    SwitchOn,
+    Configure,
+    SwitchOff,
+    Fail,
+    EngagePress,
+    ByState,
 }
 
 // An event, or the number that refuses it.
@@ -38,7 +49,7 @@ enum NumberRead {
 
 // An event that carries nothing.
 fn read_plain(s: &[u8], e: Event) -> EventRead
-    ensures { λ r. ⌜ eventSeen r ≡ carries 0 (give e) (now (s .entry)) ⌝ }
+    ensures { λ r. ⌜ eventView r ≡ carries 0 (give e) (now (s .entry)) ⌝ }
 {
     if s.len() == 0 {
         EventRead::Event(e)
@@ -49,7 +60,7 @@ fn read_plain(s: &[u8], e: Event) -> EventRead
 
 // A number that fills its k bytes.
 fn read_number(s: &[u8], k: usize, w: Width, low: u32, high: u32) -> NumberRead
-    ensures { λ r. ⌜ numberSeen r ≡ carried k (bytes w) low high (now (s .entry)) ⌝ }
+    ensures { λ r. ⌜ numberView r ≡ carried k (bytes w) low high (now (s .entry)) ⌝ }
 {
     if s.len() != k {
         return NumberRead::Refused(1);
@@ -61,7 +72,7 @@ fn read_number(s: &[u8], k: usize, w: Width, low: u32, high: u32) -> NumberRead
 }
 
 fn read_reports(s: &[u8]) -> EventRead
-    ensures { λ r. ⌜ eventSeen r ≡ carries 1 (numbered Event.Reports 1 0 31) (now (s .entry)) ⌝ }
+    ensures { λ r. ⌜ eventView r ≡ carries 1 (numbered Event.Reports 1 0 31) (now (s .entry)) ⌝ }
 {
     match read_number(s, 1, Width::One, 0, 31) {
         NumberRead::Value(n) => EventRead::Event(Event::Reports(n as u8)),
@@ -70,7 +81,7 @@ fn read_reports(s: &[u8]) -> EventRead
 }
 
 fn read_mode(s: &[u8]) -> EventRead
-    ensures { λ r. ⌜ eventSeen r ≡ carries 1 (numbered Event.Mode 1 0 1) (now (s .entry)) ⌝ }
+    ensures { λ r. ⌜ eventView r ≡ carries 1 (numbered Event.Mode 1 0 1) (now (s .entry)) ⌝ }
 {
     match read_number(s, 1, Width::One, 0, 1) {
         NumberRead::Value(n) => EventRead::Event(Event::Mode(n as u8)),
@@ -79,7 +90,7 @@ fn read_mode(s: &[u8]) -> EventRead
 }
 
 fn read_lever(s: &[u8]) -> EventRead
-    ensures { λ r. ⌜ eventSeen r ≡ carries 1 (numbered Event.Lever 1 0 2) (now (s .entry)) ⌝ }
+    ensures { λ r. ⌜ eventView r ≡ carries 1 (numbered Event.Lever 1 0 2) (now (s .entry)) ⌝ }
 {
     match read_number(s, 1, Width::One, 0, 2) {
         NumberRead::Value(n) => EventRead::Event(Event::Lever(n as u8)),
@@ -88,7 +99,7 @@ fn read_lever(s: &[u8]) -> EventRead
 }
 
 fn read_length(s: &[u8]) -> EventRead
-    ensures { λ r. ⌜ eventSeen r ≡ carries 4 (numbered Event.Length 4 1 100000) (now (s .entry)) ⌝ }
+    ensures { λ r. ⌜ eventView r ≡ carries 4 (numbered Event.Length 4 1 100000) (now (s .entry)) ⌝ }
 {
     match read_number(s, 4, Width::Four, 1, 100000) {
         NumberRead::Value(n) => EventRead::Event(Event::Length(n)),
@@ -97,7 +108,7 @@ fn read_length(s: &[u8]) -> EventRead
 }
 
 fn read_skip(s: &[u8]) -> EventRead
-    ensures { λ r. ⌜ eventSeen r ≡ carries 4 (numbered Event.Skip 4 0 max4) (now (s .entry)) ⌝ }
+    ensures { λ r. ⌜ eventView r ≡ carries 4 (numbered Event.Skip 4 0 max4) (now (s .entry)) ⌝ }
 {
     match read_number(s, 4, Width::Four, 0, 4294967295) {
         NumberRead::Value(n) => EventRead::Event(Event::Skip(n)),
@@ -106,7 +117,7 @@ fn read_skip(s: &[u8]) -> EventRead
 }
 
 fn read_revoke(s: &[u8]) -> EventRead
-    ensures { λ r. ⌜ eventSeen r ≡ carries 4 (numbered Event.Revoke 4 0 max4) (now (s .entry)) ⌝ }
+    ensures { λ r. ⌜ eventView r ≡ carries 4 (numbered Event.Revoke 4 0 max4) (now (s .entry)) ⌝ }
 {
     match read_number(s, 4, Width::Four, 0, 4294967295) {
         NumberRead::Value(n) => EventRead::Event(Event::Revoke(n)),
@@ -115,7 +126,7 @@ fn read_revoke(s: &[u8]) -> EventRead
 }
 
 fn read_report(s: &[u8]) -> EventRead
-    ensures { λ r. ⌜ eventSeen r ≡ carries 12 positioned (now (s .entry)) ⌝ }
+    ensures { λ r. ⌜ eventView r ≡ carries 12 positioned (now (s .entry)) ⌝ }
 {
     if s.len() != 12 {
         return EventRead::Refused(1);
@@ -132,7 +143,7 @@ fn read_report(s: &[u8]) -> EventRead
     let Field::Value(speed, _) = read_field(s, c, Width::Two, 0, 65535) else {
         return EventRead::Refused(2);
     };
-    EventRead::Event(Event::Report(Position {
+    EventRead::Event(Event::PositionReport(Position {
         nidc: nidc as u16,
         nidsp: nidsp,
         offset: offset,
@@ -142,7 +153,7 @@ fn read_report(s: &[u8]) -> EventRead
 
 // The event of the bytes: the kind byte, then exactly what that kind carries.
 pub fn read_event(s: &[u8]) -> EventRead
-    ensures { λ r. ⌜ eventSeen r ≡ eventOf (now (s .entry)) ⌝ }
+    ensures { λ r. ⌜ eventView r ≡ eventOf (now (s .entry)) ⌝ }
 {
     if s.len() == 0 {
         return EventRead::Refused(1);
@@ -180,10 +191,31 @@ pub fn kind_of(e: Event) -> u8
         Event::Mode(_) => 6,
         Event::Lever(_) => 7,
         Event::Press => 8,
-        Event::Report(_) => 9,
+        Event::PositionReport(_) => 9,
         Event::Length(_) => 10,
         Event::Load => 11,
         Event::Skip(_) => 12,
         Event::Revoke(_) => 13,
+    }
+}
+
+// The row of the states that an event takes.
+pub fn row_of(e: Event) -> Row
+    ensures { λ r. ⌜ r ≡ rowOf e ⌝ }
+{
+    match e {
+        Event::PowerOn => Row::SwitchOn,
+        Event::Configured => Row::Configure,
+        Event::PowerOff => Row::SwitchOff,
+        Event::Fault => Row::Fail,
+        Event::Reports(_) => Row::ByState,
+        Event::Mode(_) => Row::ByState,
+        Event::Lever(_) => Row::ByState,
+        Event::Press => Row::EngagePress,
+        Event::PositionReport(_) => Row::ByState,
+        Event::Length(_) => Row::ByState,
+        Event::Load => Row::ByState,
+        Event::Skip(_) => Row::ByState,
+        Event::Revoke(_) => Row::ByState,
     }
 }

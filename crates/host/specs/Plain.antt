@@ -4,9 +4,9 @@ use mathlib.Core.List.{List}
 use mathlib.Core.Bool.{true, false}
 use Rattle.wire.specs.Judged.{Judged}
 use Rattle.wire.specs.Judged.Judged.{refuse, accept}
-use Rattle.data.specs.declared.Engine.{Engine}
-use Rattle.model.specs.Call.{Accepted, stepOf}
-use Rattle.engine.specs.Seen.{call}
+use Rattle.engine_value.specs.declared.Engine.{Engine}
+use Rattle.call.specs.Call.{Accepted, stepOf}
+use Rattle.engine.specs.View.{call}
 use Rattle.host.specs.declared.Answer.{Answer}
 use Rattle.host.specs.declared.Stepped.{Stepped}
 

@@ -1,15 +1,15 @@
 // An engine that the host lends and keeps, and the packet reader: the calls that C, Ada, C++ and Rust hosts link. host/hollwern.h declares them.
-use data::Engine;
+use engine_value::Engine;
 use packets::AtoStatus;
 use packets::Header;
 use packets::JpReceived;
 use packets::TimingPoint;
 ghost use mathlib.Core.Path.{_≡_};
 ghost use Prim.Native.Nat.{_≤_};
-ghost use Rattle.data.specs.Engine.{fresh};
-ghost use Rattle.model.specs.Call.{answerOf, stepOf, conditionsIn};
-ghost use Rattle.model.specs.Shown.{stateIn, requestIn, standingIn};
-ghost use Rattle.engine.specs.Seen.{call};
+ghost use Rattle.engine_value.specs.Engine.{fresh};
+ghost use Rattle.call.specs.Call.{answerOf, stepOf, conditionsIn};
+ghost use Rattle.call.specs.Shown.{stateIn, requestIn, standingIn};
+ghost use Rattle.engine.specs.View.{call};
 ghost use Rattle.packets.specs.Packets.{packetOf};
 ghost use Rattle.host.specs.Plain.{plainAnswer, plainStep, memoryAfter};
 ghost use Rattle.host.specs.Fields.{fields62, fields65, fields68, fieldsOf, noFields, plainPacket};
@@ -29,11 +29,11 @@ pub struct Stepped {
     pub answer: Answer,
 }
 
-fn plain(a: model::Answer) -> Answer
+fn plain(a: call::Answer) -> Answer
     ensures { λ r. ⌜ r ≡ plainAnswer (answerOf a) ⌝ }
 {
     match a {
-        model::Answer::Accepted {
+        call::Answer::Accepted {
             state,
             request,
             bytes,
@@ -44,7 +44,7 @@ fn plain(a: model::Answer) -> Answer
             request: request,
             bytes: bytes,
         },
-        model::Answer::Refused(n) => Answer {
+        call::Answer::Refused(n) => Answer {
             accepted: false,
             number: n,
             state: 0,
@@ -92,7 +92,7 @@ pub extern "C" fn hollwern_step(
 pub extern "C" fn hollwern_fresh(e: &mut Engine)
     ensures { λ _. ⌜ now (e .exit) ≡ fresh ⌝ }
 {
-    let r = data::fresh();
+    let r = engine_value::fresh();
     *e = r;
 }
 
@@ -101,7 +101,7 @@ pub extern "C" fn hollwern_fresh(e: &mut Engine)
 pub extern "C" fn hollwern_state(e: &Engine) -> u8
     ensures { λ r. ⌜ r ≡ stateIn (now (e .entry)) ⌝ }
 {
-    model::state(*e)
+    call::state(*e)
 }
 
 // Whether AD is requested.
@@ -109,7 +109,7 @@ pub extern "C" fn hollwern_state(e: &Engine) -> u8
 pub extern "C" fn hollwern_request(e: &Engine) -> bool
     ensures { λ r. ⌜ r ≡ requestIn (now (e .entry)) ⌝ }
 {
-    model::request(*e)
+    call::request(*e)
 }
 
 // The nine conditions as a number, condition 0 the least significant bit.
@@ -117,7 +117,7 @@ pub extern "C" fn hollwern_request(e: &Engine) -> bool
 pub extern "C" fn hollwern_conditions(e: &Engine) -> u16
     ensures { λ r. ⌜ (r ≡ conditionsIn (now (e .entry))) × (r ≤ 511) ⌝ }
 {
-    model::conditions(*e)
+    call::conditions(*e)
 }
 
 // Where point k stands: 0 not used, 1 targeted, 2 reached, 3 passed.
@@ -125,7 +125,7 @@ pub extern "C" fn hollwern_conditions(e: &Engine) -> u16
 pub extern "C" fn hollwern_standing(e: &Engine, k: u8) -> u8
     ensures { λ r. ⌜ r ≡ standingIn (now (e .entry)) k ⌝ }
 {
-    model::standing(*e, k)
+    call::standing(*e, k)
 }
 
 // A packet that was read: its number as `kind`, its bytes as `size`, its fields. Else the number of the row that refuses. All else is 0.
@@ -138,7 +138,7 @@ pub struct PacketFields {
     pub header: Header,
     pub nidc: u16,
     pub nidtp: u32,
-    pub qeoj: u8,
+    pub q_eoj_reached: u8,
     pub alignment: u8,
     pub status: u8,
     pub stopping: u8,
@@ -162,7 +162,7 @@ fn timing_point(p: TimingPoint) -> PacketFields
         header: header,
         nidc: p.nidc,
         nidtp: p.nidtp,
-        qeoj: p.qeoj,
+        q_eoj_reached: p.q_eoj_reached,
         alignment: p.alignment,
         status: p.status,
         stopping: p.stopping,
@@ -187,7 +187,7 @@ fn jp_received(p: JpReceived) -> PacketFields
         header: header,
         nidc: p.nidc,
         nidtp: 0,
-        qeoj: 0,
+        q_eoj_reached: 0,
         alignment: 0,
         status: p.status,
         stopping: 0,
@@ -212,7 +212,7 @@ fn ato_status(p: AtoStatus) -> PacketFields
         header: header,
         nidc: 0,
         nidtp: 0,
-        qeoj: 0,
+        q_eoj_reached: 0,
         alignment: 0,
         status: 0,
         stopping: 0,
@@ -253,7 +253,7 @@ fn refused(n: u8) -> PacketFields
         header: header,
         nidc: 0,
         nidtp: 0,
-        qeoj: 0,
+        q_eoj_reached: 0,
         alignment: 0,
         status: 0,
         stopping: 0,

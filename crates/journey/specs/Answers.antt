@@ -20,19 +20,19 @@ use Rattle.journey.specs.declared.PointRead.{PointRead}
 use Rattle.journey.specs.declared.HeadRead.{HeadRead}
 use Rattle.journey.specs.declared.Names.{Names}
 use Rattle.journey.specs.declared.Points.{Points}
-use Rattle.data.specs.Engine.{filled}
+use Rattle.engine_value.specs.Engine.{filled}
 
-abbrev pub nameSeen : List ℕ → NameRead → Parse Name
-nameSeen s (NameRead.Read n next) = good n (drop next s)
-nameSeen s NameRead.Bad = bad
+abbrev pub nameView : List ℕ → NameRead → Parse Name
+nameView s (NameRead.Read n next) = good n (drop next s)
+nameView s NameRead.Bad = bad
 
-abbrev pub pointSeen : List ℕ → PointRead → Parse JourneyPoint
-pointSeen s (PointRead.Read p next) = good p (drop next s)
-pointSeen s PointRead.Bad = bad
+abbrev pub pointView : List ℕ → PointRead → Parse JourneyPoint
+pointView s (PointRead.Read p next) = good p (drop next s)
+pointView s PointRead.Bad = bad
 
-abbrev pub headSeen : List ℕ → HeadRead → Parse Head
-headSeen s (HeadRead.Read h next) = good h (drop next s)
-headSeen s HeadRead.Bad = bad
+abbrev pub headView : List ℕ → HeadRead → Parse Head
+headView s (HeadRead.Read h next) = good h (drop next s)
+headView s HeadRead.Bad = bad
 
 -- ---- what stands in the arrays beyond the counts
 
@@ -42,19 +42,19 @@ blankName = record { nidc = 0; nidsp = 0 }
 abbrev pub blankJourneyPoint : JourneyPoint
 blankJourneyPoint = record { nidtp = 0; index = 0; alignment = 0; stopping = 0; stop = false; trackside = false; end = false }
 
-abbrev pub namesSeen : List ℕ → Names → Parse (List Name)
-namesSeen s r = if r .ok then good (take (r .count) (r .names)) (drop (r .next) s) else bad
+abbrev pub namesView : List ℕ → Names → Parse (List Name)
+namesView s r = if r .ok then good (take (r .count) (r .names)) (drop (r .next) s) else bad
 
 pub record NamesRead (s : List ℕ) (at : ℕ) (r : Names) : Type 0 where
-  pub seen : namesSeen s r ≡ counted 40 nameRecord (drop at s)
+  pub seen : namesView s r ≡ counted 40 nameRecord (drop at s)
   pub most : r .count ≤ 40
   pub array : r .ok ≡ true → r .names ≡ filled 40 blankName (take (r .count) (r .names))
 
-abbrev pub pointsSeen : List ℕ → Points → Parse (List JourneyPoint)
-pointsSeen s r = if r .ok then good (take (r .count) (r .points)) (drop (r .next) s) else bad
+abbrev pub pointsView : List ℕ → Points → Parse (List JourneyPoint)
+pointsView s r = if r .ok then good (take (r .count) (r .points)) (drop (r .next) s) else bad
 
 pub record PointsRead (s : List ℕ) (at : ℕ) (r : Points) : Type 0 where
-  pub seen : pointsSeen s r ≡ counted 64 pointRecord (drop at s)
+  pub seen : pointsView s r ≡ counted 64 pointRecord (drop at s)
   pub most : r .count ≤ 64
   pub array : r .ok ≡ true → r .points ≡ filled 64 blankJourneyPoint (take (r .count) (r .points))
 
@@ -62,16 +62,16 @@ pub record PointsRead (s : List ℕ) (at : ℕ) (r : Points) : Type 0 where
 
 -- the names and the points that the answer lists; safe for every value of the struct
 abbrev pub namesIn : Journey → List Name
-namesIn j = take (min (j .namecount) 40) (j .names)
+namesIn j = take (min (j .«name_count») 40) (j .names)
 
 abbrev pub pointsIn : Journey → List JourneyPoint
-pointsIn j = take (min (j .pointcount) 64) (j .points)
+pointsIn j = take (min (j .«point_count») 64) (j .points)
 
 abbrev pub valueIn : Journey → JourneyValue
 valueIn j = record { head = j .head; names = namesIn j; points = pointsIn j }
 
-abbrev pub journeySeen : Journey → Judged JourneyValue
-journeySeen j = if eqb (j .number) 0 then accept (valueIn j) else refuse (j .number)
+abbrev pub journeyView : Journey → Judged JourneyValue
+journeyView j = if eqb (j .number) 0 then accept (valueIn j) else refuse (j .number)
 
 abbrev pub blankHead : Head
 blankHead = record { operational = 0; date = 0; seconds = 0; counter = 0; atots = 0 }
@@ -79,14 +79,14 @@ blankHead = record { operational = 0; date = 0; seconds = 0; counter = 0; atots 
 -- "Every refusal returns the number only"
 abbrev pub refusedBy : ℕ → Journey
 refusedBy n =
-    record { number = n; head = blankHead; namecount = 0; names = replicate 40 blankName; pointcount = 0; points = replicate 64 blankJourneyPoint }
+    record { number = n; head = blankHead; «name_count» = 0; names = replicate 40 blankName; «point_count» = 0; points = replicate 64 blankJourneyPoint }
 
 -- the one answer for each outcome: nothing stands beside the values, or beside the number
 abbrev pub journeyHeld : Judged JourneyValue → Journey
 journeyHeld (refuse n) = refusedBy n
 journeyHeld (accept v) =
-    record { number = 0; head = v .head; namecount = length (v .names); names = filled 40 blankName (v .names); pointcount = length (v .points); points = filled 64 blankJourneyPoint (v .points) }
+    record { number = 0; head = v .head; «name_count» = length (v .names); names = filled 40 blankName (v .names); «point_count» = length (v .points); points = filled 64 blankJourneyPoint (v .points) }
 
 pub record JourneyRead (s : List ℕ) (r : Journey) : Type 0 where
-  pub seen : journeySeen r ≡ journeyValue s
-  pub held : r ≡ journeyHeld (journeySeen r)
+  pub seen : journeyView r ≡ journeyValue s
+  pub held : r ≡ journeyHeld (journeyView r)

@@ -6,7 +6,7 @@ use lib.Dec.{eqb}
 use Rattle.wire.specs.Numbers.{bit}
 use Rattle.wire.specs.Parse.{Reader, andThen, field, optional, give, must, counted, _>>=_, _>>_}
 use Rattle.wire.specs.Judged.{Judged, whole}
-use Rattle.data.specs.Engine.{max4}
+use Rattle.engine_value.specs.Engine.{max4}
 use Rattle.journey.specs.declared.Name.{Name}
 use Rattle.journey.specs.declared.JourneyPoint.{JourneyPoint}
 use Rattle.journey.specs.declared.Head.{Head}

@@ -6,7 +6,7 @@ use wire::read_optional;
 ghost use mathlib.Core.Path.{_≡_};
 ghost use lib.ListN.{drop};
 ghost use Rattle.journey.specs.Journey.{nameRecord, pointMap, pointRecord, headMap, headRecord};
-ghost use Rattle.journey.specs.Answers.{nameSeen, pointSeen, headSeen, NamesRead, PointsRead, refusedBy, JourneyRead};
+ghost use Rattle.journey.specs.Answers.{nameView, pointView, headView, NamesRead, PointsRead, refusedBy, JourneyRead};
 
 // The name of a segment.
 pub struct Name {
@@ -38,9 +38,9 @@ pub struct Head {
 pub struct Journey {
     pub number: u8,
     pub head: Head,
-    pub namecount: u8,
+    pub name_count: u8,
     pub names: [Name; 40],
-    pub pointcount: u8,
+    pub point_count: u8,
     pub points: [JourneyPoint; 64],
 }
 
@@ -75,7 +75,7 @@ struct Points {
 }
 
 fn read_name(s: &[u8], at: usize) -> NameRead
-    ensures { λ r. ⌜ nameSeen (now (s .entry)) r ≡ nameRecord (drop at (now (s .entry))) ⌝ }
+    ensures { λ r. ⌜ nameView (now (s .entry)) r ≡ nameRecord (drop at (now (s .entry))) ⌝ }
 {
     let Field::Value(c, a) = read_field(s, at, Width::Two, 0, 1023) else {
         return NameRead::Bad;
@@ -105,7 +105,7 @@ fn point_map(map: u32) -> bool
 }
 
 fn read_point(s: &[u8], at: usize) -> PointRead
-    ensures { λ r. ⌜ pointSeen (now (s .entry)) r ≡ pointRecord (drop at (now (s .entry))) ⌝ }
+    ensures { λ r. ⌜ pointView (now (s .entry)) r ≡ pointRecord (drop at (now (s .entry))) ⌝ }
 {
     let Field::Value(map, a) = read_field(s, at, Width::One, 0, 127) else {
         return PointRead::Bad;
@@ -162,7 +162,7 @@ fn head_map(map: u32) -> bool
 
 // The map and the fields before the segments.
 fn read_head(s: &[u8]) -> HeadRead
-    ensures { λ r. ⌜ headSeen (now (s .entry)) r ≡ headRecord (now (s .entry)) ⌝ }
+    ensures { λ r. ⌜ headView (now (s .entry)) r ≡ headRecord (now (s .entry)) ⌝ }
 {
     let Field::Value(map, a) = read_field(s, 0, Width::One, 0, 31) else {
         return HeadRead::Bad;
@@ -320,9 +320,9 @@ fn refused(number: u8) -> Journey
     Journey {
         number: number,
         head: head,
-        namecount: 0,
+        name_count: 0,
         names: names,
-        pointcount: 0,
+        point_count: 0,
         points: points,
     }
 }
@@ -350,9 +350,9 @@ pub fn read_journey(s: &[u8]) -> Journey
     Journey {
         number: 0,
         head: head,
-        namecount: ns.count,
+        name_count: ns.count,
         names: names,
-        pointcount: ps.count,
+        point_count: ps.count,
         points: points,
     }
 }

@@ -56,7 +56,7 @@ fn show_timing_point(p: TimingPoint) {
     show_header(p.header);
     number(p.nidc as u64);
     number(p.nidtp as u64);
-    number(p.qeoj as u64);
+    number(p.q_eoj_reached as u64);
     number(p.alignment as u64);
     number(p.status as u64);
     number(p.stopping as u64);
@@ -150,12 +150,12 @@ fn headed(nidc: u16, offset: u32) -> Packet {
     })
 }
 
-fn point(nidc: u16, qeoj: u8, alignment: u8, status: u8, stopping: u8) -> Packet {
+fn point(nidc: u16, q_eoj_reached: u8, alignment: u8, status: u8, stopping: u8) -> Packet {
     Packet::TimingPoint(TimingPoint {
         header: header(0, 0, 0, 0, 0),
         nidc: nidc,
         nidtp: 0,
-        qeoj: qeoj,
+        q_eoj_reached: q_eoj_reached,
         alignment: alignment,
         status: status,
         stopping: stopping,
@@ -199,7 +199,7 @@ fn stopped() -> Packet {
         header: header(17, 500, 39900, 0, 4294967295),
         nidc: 17,
         nidtp: 7001,
-        qeoj: 1,
+        q_eoj_reached: 1,
         alignment: 0,
         status: 1,
         stopping: 0,
@@ -212,7 +212,7 @@ fn greatest() -> Packet {
         header: header(1023, 4294967295, 16777215, 65535, 0),
         nidc: 1023,
         nidtp: 4294967295,
-        qeoj: 1,
+        q_eoj_reached: 1,
         alignment: 2,
         status: 8,
         stopping: 0,

@@ -28,7 +28,7 @@ headerBytes h =
 
 -- "info: Q_EOJ_REACHED .. + 2 × alignment + 8 × status"
 abbrev pub info : TimingPoint → ℕ
-info p = p .qeoj + 2 * p .alignment + 8 * p .status
+info p = p .«q_eoj_reached» + 2 * p .alignment + 8 * p .status
 
 -- "62: point's NID_C (2), NID_TP (4), info .., stopping data (1; ..)."
 unfoldable pub bytes62 : TimingPoint → List ℕ
@@ -83,7 +83,7 @@ headerFits h = leb (h .nidc) 1023 && leb (h .offset) 16777215
 -- "alignment 0-2; status 0-8 in 62 ..; stopping data to 127, 0 unless status 1"; Q_EOJ_REACHED is one bit
 abbrev pub fits62 : TimingPoint → Bool
 fits62 p =
-    headerFits (p .header) && leb (p .nidc) 1023 && leb (p .qeoj) 1 && leb (p .alignment) 2 && leb (p .status) 8
+    headerFits (p .header) && leb (p .nidc) 1023 && leb (p .«q_eoj_reached») 1 && leb (p .alignment) 2 && leb (p .status) 8
     && (leb (p .stopping) 127 && (eqb (p .status) 1 || eqb (p .stopping) 0))
 
 -- "(content of 65: 1,024) ..; NID_ATOTS to 16,384; date to 32,767; .. status .. 0 in 65"
@@ -111,7 +111,7 @@ values62 s =
       header = headerOf (drop 1 s);
       nidc = number 2 (drop 17 s);
       nidtp = number 4 (drop 19 s);
-      qeoj = number 1 (drop 23 s) % 2;
+      «q_eoj_reached» = number 1 (drop 23 s) % 2;
       alignment = number 1 (drop 23 s) / 2 % 4;
       status = number 1 (drop 23 s) / 8;
       stopping = number 1 (drop 24 s);
@@ -172,10 +172,10 @@ written p memory = memoryAfter (writes p memory) p memory
 
 -- ---- the answers: "a definition gives this paper's number and values for each of its cases"
 
-abbrev pub writtenSeen : Written → Judged ℕ
-writtenSeen (Written.Wrote n) = accept n
-writtenSeen (Written.Refused n) = refuse n
+abbrev pub writtenView : Written → Judged ℕ
+writtenView (Written.Wrote n) = accept n
+writtenView (Written.Refused n) = refuse n
 
-abbrev pub readSeen : PacketRead → Judged Packet
-readSeen (PacketRead.Packet p) = accept p
-readSeen (PacketRead.Refused n) = refuse n
+abbrev pub readView : PacketRead → Judged Packet
+readView (PacketRead.Packet p) = accept p
+readView (PacketRead.Refused n) = refuse n

@@ -5,7 +5,7 @@ ghost use Prim.Native.Nat.{min, _%_};
 ghost use lib.ListN.{take, drop};
 ghost use lib.Seq.{sets};
 ghost use Rattle.wire.specs.Numbers.{bytesOf};
-ghost use Rattle.packets.specs.Packets.{headerBytes, info, word, bytes62, bytes65, bytes68, packetBytes, sizeOf, headerFits, fits62, fits65, fits68, packetFits, headerOf, values62, values65, values68, sized, packetOf, writes, written, writtenSeen, readSeen};
+ghost use Rattle.packets.specs.Packets.{headerBytes, info, word, bytes62, bytes65, bytes68, packetBytes, sizeOf, headerFits, fits62, fits65, fits68, packetFits, headerOf, values62, values65, values68, sized, packetOf, writes, written, writtenView, readView};
 
 // SUBSET-140, Table 3.
 #[repr(C)]
@@ -17,13 +17,13 @@ pub struct Header {
     pub operational: u32,
 }
 
-// Packet 62: SUBSET-140, Table 5. `qeoj` is Q_EOJ_REACHED, `stopping` the stopping data.
+// Packet 62: SUBSET-140, Table 5. `q_eoj_reached` is Q_EOJ_REACHED, `stopping` the stopping data.
 #[repr(C)]
 pub struct TimingPoint {
     pub header: Header,
     pub nidc: u16,
     pub nidtp: u32,
-    pub qeoj: u8,
+    pub q_eoj_reached: u8,
     pub alignment: u8,
     pub status: u8,
     pub stopping: u8,
@@ -89,7 +89,12 @@ fn timing_point_fits(p: TimingPoint) -> bool
 {
     let header = header_fits(p.header);
     let stopping = (p.stopping <= 127) & ((p.status == 1) | (p.stopping == 0));
-    header & (p.nidc <= 1023) & (p.qeoj <= 1) & (p.alignment <= 2) & (p.status <= 8) & stopping
+    header
+        & (p.nidc <= 1023)
+        & (p.q_eoj_reached <= 1)
+        & (p.alignment <= 2)
+        & (p.status <= 8)
+        & stopping
 }
 
 fn jp_received_fits(p: JpReceived) -> bool
@@ -139,7 +144,7 @@ fn put_header(number: u8, h: Header, out: &mut [u8])
 fn info_byte(p: TimingPoint) -> u8
     ensures { λ r. ⌜ r ≡ info p % 256 ⌝ }
 {
-    let sum = (p.qeoj as u32) + 2 * (p.alignment as u32) + 8 * (p.status as u32);
+    let sum = (p.q_eoj_reached as u32) + 2 * (p.alignment as u32) + 8 * (p.status as u32);
     (sum % 256) as u8
 }
 
@@ -192,7 +197,7 @@ fn put_front(p: Packet, out: &mut [u8])
 
 // The packet at the front of the memory; the bytes behind it stay.
 pub fn write_packet(p: Packet, out: &mut [u8]) -> Written
-    ensures { λ r. ⌜ (writtenSeen r ≡ writes p (now (out .entry))) × (now (out .exit) ≡ written p (now (out .entry))) ⌝ }
+    ensures { λ r. ⌜ (writtenView r ≡ writes p (now (out .entry))) × (now (out .exit) ≡ written p (now (out .entry))) ⌝ }
 {
     let fits = packet_fits(p);
     let size = packet_size(p);
@@ -217,7 +222,7 @@ fn within(n: usize, at: usize) -> usize
 
 // The packet from a position on; the bytes before it and behind it stay.
 pub fn append_packet(p: Packet, out: &mut [u8], at: usize) -> Written
-    ensures { λ r. ⌜ (writtenSeen r ≡ writes p (drop at (now (out .entry)))) × (now (out .exit) ≡ take at (now (out .entry)) ++ written p (drop at (now (out .entry)))) ⌝ }
+    ensures { λ r. ⌜ (writtenView r ≡ writes p (drop at (now (out .entry)))) × (now (out .exit) ≡ take at (now (out .entry)) ++ written p (drop at (now (out .entry)))) ⌝ }
 {
     let from = within(out.len(), at);
     write_packet(p, &mut out[from..])
@@ -252,7 +257,7 @@ fn get_timing_point(s: &[u8]) -> TimingPoint
         header: get_header(s),
         nidc: wire::be16(s, 17),
         nidtp: wire::be32(s, 19),
-        qeoj: info % 2,
+        q_eoj_reached: info % 2,
         alignment: info / 2 % 4,
         status: info / 8,
         stopping: wire::be8(s, 24),
@@ -286,7 +291,7 @@ fn get_ato_status(s: &[u8]) -> AtoStatus
 
 // A packet whose values were read from so many bytes, judged by its length and its ranges.
 fn judge(n: usize, p: Packet) -> PacketRead
-    ensures { λ r. ⌜ readSeen r ≡ sized n p ⌝ }
+    ensures { λ r. ⌜ readView r ≡ sized n p ⌝ }
 {
     if n != packet_size(p) {
         return PacketRead::Refused(17);
@@ -300,7 +305,7 @@ fn judge(n: usize, p: Packet) -> PacketRead
 
 // One packet, exactly.
 pub fn read_packet(s: &[u8]) -> PacketRead
-    ensures { λ r. ⌜ readSeen r ≡ packetOf (now (s .entry)) ⌝ }
+    ensures { λ r. ⌜ readView r ≡ packetOf (now (s .entry)) ⌝ }
 {
     let n = s.len();
     if n == 0 {

@@ -12,13 +12,13 @@ use native.Mathlib.Omega.{arith}
 use borrow.Author.Tests.{leb-true, leb-false, le-leb, lt-leb, lt-ltb, le-ltb}
 use mir.Val.{boolByte}
 use Rattle.wire.specs.Numbers.{number, flag}
-use Rattle.wire.specs.Laws.{sets-past}
+use Rattle.wire.proofs.NumberLaws.{sets-past}
 use Rattle.wire.specs.Parse.{field}
 use Rattle.wire.specs.Parse.Parse.{bad, good}
-use Rattle.wire.specs.ParseLaws.{field-short, field-good, field-inv, then-inv, cond-good}
+use Rattle.wire.proofs.ReaderLaws.{field-short, field-good, field-inv, then-inv, cond-good}
 use Rattle.player.specs.Calls.{Given, some, block, profiles, call}
-use Rattle.data.specs.declared.Engine.{Engine}
-use Rattle.model.specs.Call.{stepOf}
+use Rattle.engine_value.specs.declared.Engine.{Engine}
+use Rattle.call.specs.Call.{stepOf}
 use Rattle.player.specs.Played.{lent, left, run}
 use Rattle.player.specs.Lines.{Put, decimal, hex, hexByte, hexLine, packetSize, packetLines, packetText}
 

@@ -9,13 +9,13 @@ use lib.Dec.{ltb, eqb}
 use native.Mathlib.Omega.{arith}
 use borrow.Author.Tests.{le-leb}
 use Rattle.wire.specs.Numbers.{Bytes, number, flag}
-use Rattle.wire.specs.Laws.{number-bound}
+use Rattle.wire.proofs.NumberLaws.{number-bound}
 use Rattle.wire.specs.Judged.{Judged}
 use Rattle.wire.specs.Judged.Judged.{refuse, accept}
 use Rattle.wire.specs.Parse.{field}
 use Rattle.wire.specs.Parse.Parse.{good}
-use Rattle.wire.specs.ParseLaws.{field-good}
-use Rattle.model.specs.Call.{Accepted}
+use Rattle.wire.proofs.ReaderLaws.{field-good}
+use Rattle.call.specs.Call.{Accepted}
 use Rattle.player.specs.Calls.{Given, some, block, profiles, call}
 use Rattle.player.specs.Lines.{hex, decimal, packetSize, packetLines, lines, Put}
 use Rattle.player.proofs.Laws.{size-pos}

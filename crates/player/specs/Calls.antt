@@ -10,7 +10,7 @@ use Rattle.wire.specs.Parse.Parse.{bad, good}
 use Rattle.player.specs.Parts.{partOf}
 use Rattle.player.specs.declared.calls.Block.{Block}
 use Rattle.player.specs.declared.calls.Call.{Call}
-use Rattle.player.specs.declared.calls.Seen.{Seen}
+use Rattle.player.specs.declared.calls.CallRead.{CallRead}
 
 -- an event with its profiles
 pub record Given : Type 0 where
@@ -42,13 +42,13 @@ call = do
 
 -- ---- what the answers say of the slice s that was read
 
-abbrev pub blockSeen : List ℕ → Block → Parse (List ℕ)
-blockSeen s (Block.Whole p) = good (partOf s p) (drop (p .end) s)
-blockSeen s Block.Short = bad
+abbrev pub blockView : List ℕ → Block → Parse (List ℕ)
+blockView s (Block.Whole p) = good (partOf s p) (drop (p .end) s)
+blockView s Block.Short = bad
 
 abbrev pub givenIn : List ℕ → Call → Given
 givenIn s c = record { event = partOf s (c .event); journey = partOf s (c .journey); book = partOf s (c .book) }
 
-abbrev pub callSeen : List ℕ → Seen → Parse Given
-callSeen s (Seen.Whole c) = good (givenIn s c) (drop (c .next) s)
-callSeen s Seen.Short = bad
+abbrev pub callView : List ℕ → CallRead → Parse Given
+callView s (CallRead.Whole c) = good (givenIn s c) (drop (c .next) s)
+callView s CallRead.Short = bad

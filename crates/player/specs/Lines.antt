@@ -9,7 +9,7 @@ use lib.Dec.{eqb, ltb}
 use Rattle.wire.specs.Numbers.{flag, if_then_else_}
 use Rattle.wire.specs.Judged.{Judged}
 use Rattle.wire.specs.Judged.Judged.{refuse, accept}
-use Rattle.model.specs.Call.{Accepted}
+use Rattle.call.specs.Call.{Accepted}
 
 -- ---- numbers as text, in ASCII
 
@@ -36,8 +36,8 @@ decimal zero n = []
 decimal (suc k) n = (if ltb n 10 then [] else decimal k (n / 10)) ++ ((48 + n % 10) ∷ [])
 
 -- 64 bits make 20 digits at most
-abbrev pub numbered : ℕ → List ℕ
-numbered n = space ++ decimal 20 n
+abbrev pub spaced : ℕ → List ℕ
+spaced n = space ++ decimal 20 n
 
 -- ---- lines
 
@@ -63,10 +63,10 @@ abbrev pub packetText : List ℕ → List ℕ
 packetText l = packetLines (length l) l
 
 abbrev pub refusedLine : ℕ → List ℕ
-refusedLine n = (82 ∷ []) ++ (numbered n ++ newline)
+refusedLine n = (82 ∷ []) ++ (spaced n ++ newline)
 
 abbrev pub acceptedLine : ℕ → Bool → ℕ → List ℕ
-acceptedLine state request bytes = (65 ∷ []) ++ (numbered state ++ (numbered (flag request) ++ (numbered bytes ++ newline)))
+acceptedLine state request bytes = (65 ∷ []) ++ (spaced state ++ (spaced (flag request) ++ (spaced bytes ++ newline)))
 
 -- the lines of an event: its answer, and the packets in the output memory m
 unfoldable pub lines : Judged Accepted → List ℕ → List ℕ

@@ -4,8 +4,8 @@ use mathlib.Core.Path.{_≡_}
 use mathlib.Core.List.{List}
 use Rattle.wire.specs.Parse.{Parse}
 use Rattle.wire.specs.Parse.Parse.{bad, good}
-use Rattle.data.specs.declared.Engine.{Engine}
-use Rattle.model.specs.Call.{Call, Outcome, stepOf}
+use Rattle.engine_value.specs.declared.Engine.{Engine}
+use Rattle.call.specs.Call.{Call, Outcome, stepOf}
 use Rattle.player.specs.Calls.{Given, call}
 use Rattle.player.specs.Lines.{lines, Put}
 use Rattle.player.specs.declared.Played.{Played}

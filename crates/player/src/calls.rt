@@ -4,7 +4,7 @@ ghost use mathlib.Core.Bool.{true};
 ghost use lib.ListN.{drop};
 ghost use lib.Dec.{eqb};
 ghost use Rattle.wire.specs.Numbers.{number};
-ghost use Rattle.player.specs.Calls.{block, profiles, call, blockSeen, callSeen};
+ghost use Rattle.player.specs.Calls.{block, profiles, call, blockView, callView};
 ghost use Rattle.player.specs.Parts.{partOf};
 use crate::parts::Part;
 use crate::parts::bytes_of;
@@ -23,14 +23,14 @@ pub struct Call {
     pub next: usize,
 }
 
-pub enum Seen {
+pub enum CallRead {
     Whole(Call),
     Short,
 }
 
 // The bytes behind a two-byte length at a position.
 fn block_at(s: &[u8], at: usize) -> Block
-    ensures { λ r. ⌜ blockSeen (now (s .entry)) r ≡ block (drop at (now (s .entry))) ⌝ }
+    ensures { λ r. ⌜ blockView (now (s .entry)) r ≡ block (drop at (now (s .entry))) ⌝ }
 {
     if s.len() < at {
         return Block::Short;
@@ -57,17 +57,17 @@ fn is_load(s: &[u8], event: Part) -> bool
 }
 
 // The event at a position and, for a load, its profiles.
-pub fn call_at(s: &[u8], at: usize) -> Seen
-    ensures { λ r. ⌜ callSeen (now (s .entry)) r ≡ call (drop at (now (s .entry))) ⌝ }
+pub fn call_at(s: &[u8], at: usize) -> CallRead
+    ensures { λ r. ⌜ callView (now (s .entry)) r ≡ call (drop at (now (s .entry))) ⌝ }
 {
     let Block::Whole(event) = block_at(s, at) else {
-        return Seen::Short;
+        return CallRead::Short;
     };
     if is_load(s, event) {
         return load_at(s, event);
     }
     let none = Part { start: 0, end: 0 };
-    Seen::Whole(Call {
+    CallRead::Whole(Call {
         event: event,
         journey: none,
         book: none,
@@ -76,16 +76,16 @@ pub fn call_at(s: &[u8], at: usize) -> Seen
 }
 
 // A load, with the journey and the book behind it.
-fn load_at(s: &[u8], event: Part) -> Seen
-    ensures { λ r. ⌜ callSeen (now (s .entry)) r ≡ profiles (partOf (now (s .entry)) event) true (drop (event .end) (now (s .entry))) ⌝ }
+fn load_at(s: &[u8], event: Part) -> CallRead
+    ensures { λ r. ⌜ callView (now (s .entry)) r ≡ profiles (partOf (now (s .entry)) event) true (drop (event .end) (now (s .entry))) ⌝ }
 {
     let Block::Whole(journey) = block_at(s, event.end) else {
-        return Seen::Short;
+        return CallRead::Short;
     };
     let Block::Whole(book) = block_at(s, journey.end) else {
-        return Seen::Short;
+        return CallRead::Short;
     };
-    Seen::Whole(Call {
+    CallRead::Whole(Call {
         event: event,
         journey: journey,
         book: book,

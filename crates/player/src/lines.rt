@@ -2,13 +2,13 @@
 ghost use Prim.Native.Nat.{_+_, _%_};
 ghost use mathlib.Core.Path.{_≡_};
 ghost use mathlib.Core.List.{[], _∷_};
-ghost use Rattle.model.specs.Call.{answerOf};
-ghost use Rattle.player.specs.Lines.{hexByte, hexLine, packetSize, packetText, decimal, numbered, refusedLine, acceptedLine, Put};
+ghost use Rattle.call.specs.Call.{answerOf};
+ghost use Rattle.player.specs.Lines.{hexByte, hexLine, packetSize, packetText, decimal, spaced, refusedLine, acceptedLine, Put};
 ghost use Rattle.player.specs.Lines.{digit as Lines·digit, lines as Lines·lines};
 use crate::parts::Part;
 use crate::parts::bytes_of;
 use crate::parts::front;
-use model::Answer;
+use call::Answer;
 
 // One byte at a position, and the next position; where the text is full, nothing.
 fn put(text: &mut [u8], at: usize, b: u8) -> usize
@@ -99,7 +99,7 @@ fn put_decimal(text: &mut [u8], at: usize, n: usize, most: usize) -> usize
 
 // A space and n; 64 bits make 20 digits at most.
 fn put_number(text: &mut [u8], at: usize, n: usize) -> usize
-    ensures { λ r. ⌜ Put (now (text .entry)) at (numbered n) (now (text .exit)) r ⌝ }
+    ensures { λ r. ⌜ Put (now (text .entry)) at (spaced n) (now (text .exit)) r ⌝ }
 {
     let next = put(text, at, b' ');
     put_decimal(text, next, n, 20)

@@ -6,13 +6,13 @@ mod parts;
 ghost use Prim.Native.Nat.{_+_, _≤_};
 ghost use mathlib.Core.Path.{_≡_};
 ghost use lib.ListN.{length, take, drop};
-ghost use Rattle.model.specs.Call.{stepOf};
+ghost use Rattle.call.specs.Call.{stepOf};
 ghost use Rattle.player.specs.Calls.{givenIn};
 ghost use Rattle.player.specs.Played.{lent, Plays, left};
 ghost use Rattle.player.specs.Played.{run as Played·run};
 use calls::Call;
-use calls::Seen;
-use data::Engine;
+use calls::CallRead;
+use engine_value::Engine;
 use parts::Part;
 
 // An engine, and a position.
@@ -64,7 +64,7 @@ fn play_whole(e: Engine, s: &[u8], memory: &mut [u8], text: &mut [u8]) -> Played
     let mut at = 0;
     let mut used = 0;
     loop {
-        let Seen::Whole(c) = calls::call_at(s, at) else {
+        let CallRead::Whole(c) = calls::call_at(s, at) else {
             flush(text, used);
             return Played {
                 engine: after,
@@ -93,7 +93,7 @@ fn read_more(input: &mut [u8], kept: usize) -> usize
 
 // Nothing proves that the input ends, so the turns are counted down from a number that no run uses up.
 fn run(input: &mut [u8], memory: &mut [u8], text: &mut [u8]) {
-    let mut e = data::fresh();
+    let mut e = engine_value::fresh();
     let mut kept = 0;
     let mut turns = u64::MAX;
     while turns > 0 {

@@ -1,28 +1,42 @@
 -- What the answers of the route's functions say of the book's bytes s.
-use Prim.Native.Nat.{ℕ, _+_, _^_, _<_}
+use Prim.Native.Nat.{ℕ, _+_, _^_, _<_, _≤_}
 use mathlib.Core.Path.{_≡_}
 use mathlib.Core.List.{List, [], map}
 use mathlib.Core.Option.{Option, none, some}
 use lib.ListN.{getD}
 use Rattle.wire.specs.Judged.{Judged, thenJudge}
 use Rattle.wire.specs.Judged.Judged.{accept}
-use Rattle.data.specs.Engine.{blankSegment, filled}
-use Rattle.book.specs.Book.{BookPoint, BookSegment, lookupPoint}
+use Rattle.engine_value.specs.Engine.{blankSegment, filled}
+use Rattle.book.specs.Book.{BookPoint, BookSegment, lookup, lookupPoint}
 use Rattle.book.specs.Answers.{entrySegment, blankEntry}
 use Rattle.book.specs.declared.Entry.{Entry}
 use Rattle.journey.specs.Journey.{JourneyValue}
 use Rattle.journey.specs.declared.Name.{Name}
-use Rattle.route.specs.Placing.{segmentsOf, recordPoints, placeIn}
+use Rattle.route.specs.Placing.{segmentsOf, recordPoints, placeIn, reachIn}
 use Rattle.route.specs.Table.{checked}
-use Rattle.route.specs.Route.{LoadValue, loadValue, loadSeen, loadHeld, loadOf}
+use Rattle.route.specs.Route.{LoadValue, loadValue, loadView, loadHeld, loadOf}
 use Rattle.route.specs.declared.Recorded.{Recorded}
 use Rattle.route.specs.declared.Placing.{Placing}
 use Rattle.route.specs.declared.Loaded.{Loaded}
 
+-- the ranges of a record that placing relies on
+pub record Limits (g : BookSegment) : Type 0 where
+  pub long : g .length ≤ 16777214
+  pub places : (t : ℕ) → placeIn (lookupPoint t (g .points)) ≤ 16777214
+  pub reaches : (t : ℕ) → reachIn (lookupPoint t (g .points)) ≤ 10000
+
+abbrev pub OnSome : {A : Type 0} → (A → Type 0) → Option A → Type 0
+OnSome P none = Unit {0}
+OnSome P (some a) = P a
+
+-- each record that a look-up finds keeps to its ranges
+abbrev pub Sound : List BookSegment → Type 0
+Sound book = (c sp : ℕ) → OnSome Limits (lookup c sp book)
+
 -- the record of the book that was found
-abbrev pub recordSeen : List ℕ → Recorded → Option BookSegment
-recordSeen s (Recorded.Record e) = some (entrySegment s e)
-recordSeen s Recorded.Missing = none
+abbrev pub recordView : List ℕ → Recorded → Option BookSegment
+recordView s (Recorded.Record e) = some (entrySegment s e)
+recordView s Recorded.Missing = none
 
 -- the entry, blank where there is none: its length is then 0, and its lists are empty
 abbrev pub entryIn : Recorded → Entry
@@ -49,8 +63,8 @@ placedBy book v = thenJudge (checked book v) (λ j. accept (loadValue book j))
 
 -- an answer for an outcome: what it says, and that nothing stands beside the number of a refusal
 pub record AnsweredBy (x : Judged LoadValue) (r : Loaded) : Type 0 where
-  pub seen : loadSeen r ≡ x
-  pub held : r ≡ loadHeld (loadSeen r)
+  pub seen : loadView r ≡ x
+  pub held : r ≡ loadHeld (loadView r)
 
 abbrev pub LoadRead : List ℕ → List ℕ → Loaded → Type 0
 LoadRead journey bytes r = AnsweredBy (loadOf journey bytes) r

@@ -2,9 +2,3 @@ pub mod Placing
 pub mod Table
 pub mod Route
 pub mod Answers
-pub mod Limits
-pub mod Loops
-pub mod Laws
-pub mod Judging
-pub mod Accepted
-pub mod Ranges

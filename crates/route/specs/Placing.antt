@@ -5,10 +5,10 @@ use mathlib.Core.Bool.{Bool, true, _&&_}
 use mathlib.Core.Option.{Option, none, some}
 use lib.ListN.{length, getD}
 use Rattle.wire.specs.Numbers.{if_then_else_}
-use Rattle.data.specs.Engine.{blankZone, blankSegment, filled}
-use Rattle.data.specs.declared.Zone.{Zone}
-use Rattle.data.specs.declared.Segment.{Segment}
-use Rattle.data.specs.declared.Point.{Point}
+use Rattle.engine_value.specs.Engine.{blankZone, blankSegment, filled}
+use Rattle.engine_value.specs.declared.Zone.{Zone}
+use Rattle.engine_value.specs.declared.Segment.{Segment}
+use Rattle.engine_value.specs.declared.Point.{Point}
 use Rattle.book.specs.Book.{BookPoint, BookSegment, lookup, lookupPoint, isSome}
 use Rattle.journey.specs.declared.Name.{Name}
 use Rattle.journey.specs.declared.JourneyPoint.{JourneyPoint}
@@ -39,7 +39,7 @@ segmentOf n before start r = record {
   placed = isSome r && before;
   start = if isSome r && before then start else 0;
   length = lengthIn r;
-  zonecount = min (length (zonesOn r)) 4;
+  «zone_count» = min (length (zonesOn r)) 4;
   zones = filled 4 blankZone (zonesOn r);
 }
 

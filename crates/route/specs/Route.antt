@@ -7,8 +7,8 @@ use lib.Dec.{eqb}
 use Rattle.wire.specs.Numbers.{if_then_else_}
 use Rattle.wire.specs.Judged.{Judged, thenJudge}
 use Rattle.wire.specs.Judged.Judged.{refuse, accept}
-use Rattle.data.specs.Engine.{Route, blankSegment, blankPoint, noLoad, filled}
-use Rattle.data.specs.declared.Load.{Load}
+use Rattle.engine_value.specs.Engine.{Route, blankSegment, blankPoint, noLoad, filled}
+use Rattle.engine_value.specs.declared.Load.{Load}
 use Rattle.book.specs.Book.{BookSegment, bookOf}
 use Rattle.journey.specs.Journey.{JourneyValue}
 use Rattle.journey.specs.Answers.{blankHead}
@@ -25,7 +25,7 @@ endingOf (p ∷ ps) = if p .end then 0 else endingOf ps + 1
 
 abbrev pub loadGroup : JourneyValue → Load
 loadGroup j =
-    record { valid = true; operational = j .head .operational; ending = endingOf (j .points); pointcount = length (j .points); segmentcount = length (j .names) }
+    record { valid = true; operational = j .head .operational; ending = endingOf (j .points); «point_count» = length (j .points); «segment_count» = length (j .names) }
 
 -- the result of a load: the journey's numbers, its points and segments placed by the book ("arrays of 64 point records and 40 segment
 -- records", blank beyond the counts)
@@ -52,8 +52,8 @@ loadOf journey bytes =
     accept (loadValue book j)))
 
 -- what an answer says
-abbrev pub loadSeen : Loaded → Judged LoadValue
-loadSeen r =
+abbrev pub loadView : Loaded → Judged LoadValue
+loadView r =
     if eqb (r .number) 0 then accept (record { route = record { load = r .load; points = r .points; segments = r .segments }; head = r .head }) else refuse (r .number)
 
 -- "Every refusal returns the number only"

@@ -7,9 +7,9 @@ use lib.Dec.{eqb, ltb, leb}
 use Rattle.wire.specs.Numbers.{flag, if_then_else_}
 use Rattle.wire.specs.Judged.{Judged, thenJudge}
 use Rattle.wire.specs.Judged.Judged.{refuse, accept}
-use Rattle.data.specs.Engine.{blankSegment}
-use Rattle.data.specs.declared.Segment.{Segment}
-use Rattle.data.specs.declared.Point.{Point}
+use Rattle.engine_value.specs.Engine.{blankSegment}
+use Rattle.engine_value.specs.declared.Segment.{Segment}
+use Rattle.engine_value.specs.declared.Point.{Point}
 use Rattle.book.specs.Book.{BookPoint, BookSegment, isSome, twice}
 use Rattle.journey.specs.Journey.{JourneyValue, journeyValue}
 use Rattle.journey.specs.declared.Name.{Name}

@@ -3,10 +3,10 @@ use book::Book;
 use book::Entry;
 use book::Found;
 use book::PointFound;
-use data::Load;
-use data::Point;
-use data::Segment;
-use data::Zone;
+use engine_value::Load;
+use engine_value::Point;
+use engine_value::Segment;
+use engine_value::Zone;
 use journey::Head;
 use journey::Journey;
 use journey::JourneyPoint;
@@ -19,15 +19,15 @@ ghost use Prim.Native.Nat.{ℕ, _+_, _^_, _<_, _≤_, min};
 ghost use lib.ListN.{length, drop, take, replicate};
 ghost use lib.Dec.{ltb};
 ghost use Rattle.wire.specs.Numbers.{flag, if_then_else_};
-ghost use Rattle.data.specs.Engine.{blankSegment, blankPoint, filled};
+ghost use Rattle.engine_value.specs.Engine.{blankSegment, blankPoint, filled};
 ghost use Rattle.book.specs.Book.{twice, lookup, lookupPoint, isSome};
-ghost use Rattle.book.specs.Answers.{entrySegment, segmentsIn, blankEntry, pointSeen};
+ghost use Rattle.book.specs.Answers.{entrySegment, segmentsIn, blankEntry, pointView};
 ghost use Rattle.journey.specs.Answers.{namesIn, pointsIn, valueIn};
 ghost use Rattle.route.specs.Placing.{segmentOf, placeIn, reachIn, pointOf, pointsFrom};
 ghost use Rattle.route.specs.Table.{isNamed, named, nameTwice, indexBeyond, nidtps, ends, pointMissing, indexFalls, placeFalls, mismatched, disordered};
 ghost use Rattle.route.specs.Route.{endingOf, loadGroup, refusedBy};
-ghost use Rattle.route.specs.Answers.{recordSeen, entryIn, recordsIn, PlacesFit, PlacingRead, placedBy, AnsweredBy, LoadRead};
-ghost use Rattle.route.specs.Limits.{Sound};
+ghost use Rattle.route.specs.Answers.{recordView, entryIn, recordsIn, PlacesFit, PlacingRead, placedBy, AnsweredBy, LoadRead};
+ghost use Rattle.route.specs.Answers.{Sound};
 
 // What a load takes; number is 0, or that of the row that refuses.
 pub struct Loaded {
@@ -52,16 +52,16 @@ struct Placing {
 
 // How many names there are; the caller learns the length of their array.
 fn name_count(j: Journey) -> usize
-    ensures { λ r. ⌜ (r ≡ min (j .namecount) 40) × (length (j .names) ≡ 40) ⌝ }
+    ensures { λ r. ⌜ (r ≡ min (j .«name_count») 40) × (length (j .names) ≡ 40) ⌝ }
 {
-    let n = j.namecount as usize;
+    let n = j.name_count as usize;
     if n < 40 { n } else { 40 }
 }
 
 fn point_count(j: Journey) -> usize
-    ensures { λ r. ⌜ (r ≡ min (j .pointcount) 64) × (length (j .points) ≡ 64) ⌝ }
+    ensures { λ r. ⌜ (r ≡ min (j .«point_count») 64) × (length (j .points) ≡ 64) ⌝ }
 {
-    let n = j.pointcount as usize;
+    let n = j.point_count as usize;
     if n < 64 { n } else { 64 }
 }
 
@@ -121,7 +121,7 @@ fn index_beyond(j: Journey) -> bool
 
 // NID_TP of each point.
 fn nidtps_of(j: Journey) -> [u32; 64]
-    ensures { λ r. ⌜ take (min (j .pointcount) 64) r ≡ nidtps (pointsIn j) ⌝ }
+    ensures { λ r. ⌜ take (min (j .«point_count») 64) r ≡ nidtps (pointsIn j) ⌝ }
 {
     let n = point_count(j);
     let mut names = [0; 64];
@@ -205,14 +205,14 @@ fn blank_entry() -> Entry
         nidsp: 0,
         length: 0,
         points: 0,
-        pointsat: 0,
+        points_at: 0,
         zones: 0,
-        zonesat: 0,
+        zones_at: 0,
     }
 }
 
 fn record_of(b: Book, n: Name) -> Recorded
-    ensures { λ r. ⌜ ((s : List ℕ) → recordSeen s r ≡ lookup (n .nidc) (n .nidsp) (segmentsIn s b)) ⌝ }
+    ensures { λ r. ⌜ ((s : List ℕ) → recordView s r ≡ lookup (n .nidc) (n .nidsp) (segmentsIn s b)) ⌝ }
 {
     let Found::At(k) = book::find_segment(b, n.nidc, n.nidsp) else {
         return Recorded::Missing;
@@ -231,7 +231,7 @@ fn entry_in(r: Recorded) -> Entry
 
 // A segment is in the book, and all before it are.
 fn goes_on(before: bool, r: Recorded) -> bool
-    ensures { λ b. ⌜ ((s : List ℕ) → b ≡ (isSome (recordSeen s r) && before)) ⌝ }
+    ensures { λ b. ⌜ ((s : List ℕ) → b ≡ (isSome (recordView s r) && before)) ⌝ }
 {
     match r {
         Recorded::Record(_) => before,
@@ -259,7 +259,7 @@ fn booked_segment(s: &[u8], n: Name, before: bool, start: u32, e: Entry) -> Segm
         placed: before,
         start: from,
         length: e.length,
-        zonecount: z.count,
+        zone_count: z.count,
         zones: zones,
     }
 }
@@ -277,13 +277,13 @@ fn missing_segment(n: Name) -> Segment
         placed: false,
         start: 0,
         length: 0,
-        zonecount: 0,
+        zone_count: 0,
         zones: zones,
     }
 }
 
 fn segment_of(s: &[u8], n: Name, before: bool, start: u32, r: Recorded) -> Segment
-    ensures { λ g. ⌜ g ≡ segmentOf n before start (recordSeen (now (s .entry)) r) ⌝ }
+    ensures { λ g. ⌜ g ≡ segmentOf n before start (recordView (now (s .entry)) r) ⌝ }
 {
     match r {
         Recorded::Record(e) => booked_segment(s, n, before, start, e),
@@ -294,7 +294,7 @@ fn segment_of(s: &[u8], n: Name, before: bool, start: u32, r: Recorded) -> Segme
 fn blank_placing() -> Placing
     ensures { λ r. ⌜ (r .segments ≡ replicate 40 blankSegment) × (r .entries ≡ replicate 40 blankEntry) ⌝ }
 {
-    let blank = data::blank_segment();
+    let blank = engine_value::blank_segment();
     let none = blank_entry();
     let segments = [blank; 40];
     let entries = [none; 40];
@@ -362,7 +362,7 @@ fn point_missing(j: Journey, m: Placing, s: &[u8]) -> bool
 }
 
 fn place_in(f: PointFound) -> u32
-    ensures { λ r. ⌜ ((t : ℕ) → r ≡ placeIn (pointSeen t f)) ⌝ }
+    ensures { λ r. ⌜ ((t : ℕ) → r ≡ placeIn (pointView t f)) ⌝ }
 {
     match f {
         PointFound::Found { place, reach: _ } => place,
@@ -371,7 +371,7 @@ fn place_in(f: PointFound) -> u32
 }
 
 fn reach_in(f: PointFound) -> u16
-    ensures { λ r. ⌜ ((t : ℕ) → r ≡ reachIn (pointSeen t f)) ⌝ }
+    ensures { λ r. ⌜ ((t : ℕ) → r ≡ reachIn (pointView t f)) ⌝ }
 {
     match f {
         PointFound::Found { place: _, reach } => reach,
@@ -380,8 +380,8 @@ fn reach_in(f: PointFound) -> u16
 }
 
 fn point_of(p: JourneyPoint, g: Segment, f: PointFound) -> Point
-    requires { ⌜ g .start + placeIn (pointSeen (p .nidtp) f) < 2 ^ 32 ⌝ }
-    ensures { λ r. ⌜ r ≡ pointOf p g (pointSeen (p .nidtp) f) ⌝ }
+    requires { ⌜ g .start + placeIn (pointView (p .nidtp) f) < 2 ^ 32 ⌝ }
+    ensures { λ r. ⌜ r ≡ pointOf p g (pointView (p .nidtp) f) ⌝ }
 {
     let place = place_in(f);
     let reach = reach_in(f);
@@ -417,7 +417,7 @@ fn place_points(j: Journey, m: Placing, s: &[u8]) -> [Point; 64]
     ensures { λ r. ⌜ r ≡ filled 64 blankPoint (pointsFrom (m .segments) (recordsIn (now (s .entry)) m) (pointsIn j)) ⌝ }
 {
     let n = point_count(j);
-    let blank = data::blank_point();
+    let blank = engine_value::blank_point();
     let mut points = [blank; 64];
     let mut i: usize = 0;
     while i < n {
@@ -507,8 +507,8 @@ fn load_of(j: Journey) -> Load
         valid: true,
         operational: j.head.operational,
         ending: ending,
-        pointcount: points as u8,
-        segmentcount: segments as u8,
+        point_count: points as u8,
+        segment_count: segments as u8,
     }
 }
 
@@ -516,16 +516,16 @@ fn load_of(j: Journey) -> Load
 fn refused(number: u8) -> Loaded
     ensures { λ r. ⌜ r ≡ refusedBy number ⌝ }
 {
-    let point = data::blank_point();
-    let segment = data::blank_segment();
+    let point = engine_value::blank_point();
+    let segment = engine_value::blank_segment();
     let points = [point; 64];
     let segments = [segment; 40];
     let load = Load {
         valid: false,
         operational: 4294967295,
         ending: 0,
-        pointcount: 0,
-        segmentcount: 0,
+        point_count: 0,
+        segment_count: 0,
     };
     let head = Head {
         operational: 0,

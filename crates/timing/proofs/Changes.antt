@@ -8,9 +8,9 @@ use mathlib.Core.Bool.{Bool, true, false, not, _&&_, false≢true}
 use native.Mathlib.Omega.{arith}
 use native.Mathlib.Nat.{eq-or-lt-of-le}
 use borrow.Author.Tests.{eqb-false, not-true}
-use Rattle.wire.specs.ParseLaws.{and-left, and-right}
-use Rattle.data.specs.Engine.{Route, progress}
-use Rattle.data.specs.declared.Progress.{Progress}
+use Rattle.wire.proofs.ReaderLaws.{and-left, and-right}
+use Rattle.engine_value.specs.Engine.{Route, progress}
+use Rattle.engine_value.specs.declared.Progress.{Progress}
 use Rattle.timing.specs.Position.{pointCount, placed, known}
 use Rattle.timing.specs.Distance.{Report, beyond, atStop, moving}
 use Rattle.timing.specs.Report.{looked, lookedFrom, departs, stays, firstLooked, reported, becameReached}

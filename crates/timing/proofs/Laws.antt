@@ -7,11 +7,11 @@ use native.Mathlib.Omega.{arith}
 use lib.ListN.{length, getD}
 use lib.Dec.{eqb, leb}
 use borrow.Author.Tests.{eq-eqb, ne-eqb, lt-ltb, le-ltb, le-leb, lt-leb}
-use Rattle.data.specs.Engine.{Route, undefined, blankSegment, blankPoint, progress}
-use Rattle.data.specs.declared.Segment.{Segment}
-use Rattle.data.specs.declared.Point.{Point}
-use Rattle.data.specs.declared.Position.{Position}
-use Rattle.data.specs.declared.Progress.{Progress}
+use Rattle.engine_value.specs.Engine.{Route, undefined, blankSegment, blankPoint, progress}
+use Rattle.engine_value.specs.declared.Segment.{Segment}
+use Rattle.engine_value.specs.declared.Point.{Point}
+use Rattle.engine_value.specs.declared.Position.{Position}
+use Rattle.engine_value.specs.declared.Progress.{Progress}
 use Rattle.wire.specs.Numbers.{if_then_else_}
 use Rattle.timing.specs.declared.Found.{Found}
 use Rattle.timing.specs.declared.Named.{Named}
@@ -43,7 +43,7 @@ getD-field f (x ∷ l) (suc i) d e h = getD-field f l i d e h
 
 -- what the machine's read of a segment has there
 abbrev pub zoneless : Segment
-zoneless = record { nidc = 0; nidsp = 0; booked = false; placed = false; start = 0; length = 0; zonecount = 0; zones = [] }
+zoneless = record { nidc = 0; nidsp = 0; booked = false; placed = false; start = 0; length = 0; «zone_count» = 0; zones = [] }
 
 pub and-first : {a : Bool} → a ≡ false → (b : Bool) → a && b ≡ false
 and-first e b = rw e

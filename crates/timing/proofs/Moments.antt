@@ -9,15 +9,15 @@ use native.Mathlib.Nat.{eq-or-lt-of-le, le-of-suc-le-suc}
 use lib.Dec.{ltb}
 use lib.ListN.{length, getD}
 use borrow.Author.Tests.{ltb-true, ltb-false}
-use Rattle.data.specs.Engine.{Route, progress}
+use Rattle.engine_value.specs.Engine.{Route, progress}
 use Rattle.timing.specs.declared.Standing.{Standing}
 use Rattle.timing.specs.declared.Standing.the-variants.{Unused, Targeted, Reached, Passed}
 use Rattle.timing.specs.Position.{pointCount}
 use Rattle.timing.specs.Distance.{Report, beyond, moving}
 use Rattle.timing.specs.Standing.{standing}
 use Rattle.timing.specs.Report.{run}
-use Rattle.timing.specs.History.{numbered, firstOf, settles, Settled, Departs, Passes, Moment, Before, HasMoment, IsSettled, Stands}
-use Rattle.timing.specs.Rule.{PointOutcome, departing, through, after, pointOutcome, standingFor, standingBy}
+use Rattle.timing.specs.History.{reportNumber, firstOf, settles, Settled, Departs, Passes, Moment, Before, HasMoment, IsSettled, Stands}
+use Rattle.timing.specs.Rule.{PointOutcome, departing, through, after, pointOutcome, standingFor, standingByReports}
 use Rattle.timing.specs.Rule.PointOutcome.{passes, reaches, notSettled, notLookedAt}
 use Rattle.timing.proofs.Rule.{through-on, through-passes, through-reaches, departing-on, departing-passes, pointOutcome-behind, pointOutcome-first, pointOutcome-next, as-rule}
 
@@ -37,12 +37,12 @@ span-getD : {R : Type 0} (d : R) (l : List R) → span (λ t. getD l t d) 0 (len
 span-getD d [] = refl
 span-getD d (x ∷ l) = ap (λ m. x ∷ m) (span-shift (λ t. getD (x ∷ l) t d) 0 (length l) ∙ span-getD d l)
 
-span-numbered : (l : List Report) → span (numbered l) 1 (length l) ≡ l
-span-numbered l = span-shift (numbered l) 0 (length l) ∙ span-getD (numbered l 0) l
+span-reports : (l : List Report) → span (reportNumber l) 1 (length l) ≡ l
+span-reports l = span-shift (reportNumber l) 0 (length l) ∙ span-getD (reportNumber l 0) l
 
 module _ (j : Route) (start : ℕ) (reports : List Report) where
   abbrev rep : ℕ → Report
-  rep = numbered reports
+  rep = reportNumber reports
 
   abbrev N : ℕ
   N = length reports
@@ -272,9 +272,9 @@ module _ (j : Route) (start : ℕ) (reports : List Report) where
   said k reaches s = s
   said k notSettled s = s
 
-  pub stands-so : (k : ℕ) → Stands j start reports k (standingBy j start reports k)
-  unfolding standingBy
-  stands-so k = rw span-numbered at (said k (pointOutcome j start (span rep 1 N) k) (all-say k))
+  pub stands-so : (k : ℕ) → Stands j start reports k (standingByReports j start reports k)
+  unfolding standingByReports
+  stands-so k = rw span-reports at (said k (pointOutcome j start (span rep 1 N) k) (all-say k))
 
   -- and a point stands in one way only
   pub one-standing : (k : ℕ) (a b : Standing) → Stands j start reports k a → Stands j start reports k b → a ≡ b
@@ -296,7 +296,7 @@ module _ (j : Route) (start : ℕ) (reports : List Report) where
   one-standing k Unused Unused x y = refl
 
   -- the rule and its function say the same
-  pub as-function : (k : ℕ) (s : Standing) → (standingBy j start reports k ≡ s) ↔ Stands j start reports k s
+  pub as-function : (k : ℕ) (s : Standing) → (standingByReports j start reports k ≡ s) ↔ Stands j start reports k s
   as-function k s = ((λ e. subst (Stands j start reports k) e (stands-so k)), (λ x. one-standing k _ s (stands-so k) x))
 
   -- After any list of reports point k stands, by the steps (a) and (b), exactly where the history rule puts it.

@@ -8,16 +8,16 @@ use native.Mathlib.Omega.{arith}
 use native.Mathlib.Nat.{eq-or-lt-of-le}
 use lib.Dec.{ltb, eqb}
 use borrow.Author.Tests.{ltb-true, ltb-false, lt-ltb, le-ltb, eq-eqb, ne-eqb, eqb-true, not-true}
-use Rattle.data.specs.Engine.{Route, progress}
-use Rattle.data.specs.declared.Progress.{Progress}
+use Rattle.engine_value.specs.Engine.{Route, progress}
+use Rattle.engine_value.specs.declared.Progress.{Progress}
 use Rattle.timing.specs.declared.Standing.the-variants.{Unused, Targeted, Reached, Passed}
 use Rattle.timing.specs.Position.{pointCount, placed, known}
 use Rattle.timing.specs.Distance.{Report, beyond, atStop, moving}
 use Rattle.timing.specs.Standing.{standing}
 use Rattle.timing.specs.Report.{looked, lookedFrom, stays, reported, becameReached, run}
-use Rattle.wire.specs.ParseLaws.{and-left, and-right}
+use Rattle.wire.proofs.ReaderLaws.{and-left, and-right}
 use Rattle.timing.specs.History.{settles}
-use Rattle.timing.specs.Rule.{PointOutcome, departing, through, after, pointOutcome, standingFor, standingBy}
+use Rattle.timing.specs.Rule.{PointOutcome, departing, through, after, pointOutcome, standingFor, standingByReports}
 use Rattle.timing.specs.Rule.PointOutcome.{passes, reaches, notSettled, notLookedAt}
 use Rattle.timing.proofs.Steps.{look-stops, look-passes, look-judges, reported-stays, reported-departs, reported-looks, following-is, InRange, looked-range, reported-range, started, run-up}
 
@@ -182,8 +182,8 @@ module _ (j : Route) where
         go (inr l) f = told-is (suc k) refl (pointOutcome-next k s) (told-next end k h (pointOutcome j start reports k) (f (omega arith)))
 
     -- every point stands where the history rule puts it
-    pub as-rule : start ≤ pointCount j → (k : ℕ) → k < pointCount j → standing end k ≡ standingBy j start reports k
-    unfolding standingBy
+    pub as-rule : start ≤ pointCount j → (k : ℕ) → k < pointCount j → standing end k ≡ standingByReports j start reports k
+    unfolding standingByReports
     as-rule within k h = go _ refl
       where
         go : (b : Bool) → ltb k start ≡ b → standing end k ≡ standingFor (pointOutcome j start reports k)

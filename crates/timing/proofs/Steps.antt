@@ -5,9 +5,9 @@ use mathlib.Core.List.{List, [], _∷_, _++_}
 use mathlib.Core.Bool.{Bool, true, false, _&&_, false≢true}
 use native.Mathlib.Omega.{arith}
 use native.Mathlib.Numerals.{add-one}
-use Rattle.data.specs.Engine.{Route, progress}
-use Rattle.data.specs.declared.Position.{Position}
-use Rattle.data.specs.declared.Progress.{Progress}
+use Rattle.engine_value.specs.Engine.{Route, progress}
+use Rattle.engine_value.specs.declared.Position.{Position}
+use Rattle.engine_value.specs.declared.Progress.{Progress}
 use Rattle.timing.specs.Position.{pointCount, placed, known}
 use Rattle.timing.specs.Distance.{Report, beyond, atStop, moving}
 use Rattle.timing.specs.Standing.{following}

@@ -3,8 +3,8 @@ use Prim.Native.Nat.{ℕ, zero, suc, _+_, _-_}
 use mathlib.Core.List.{List, [], _∷_, _++_}
 use mathlib.Core.Bool.{Bool, false}
 use Rattle.wire.specs.Numbers.{if_then_else_}
-use Rattle.data.specs.Engine.{Route, progress}
-use Rattle.data.specs.declared.Progress.{Progress}
+use Rattle.engine_value.specs.Engine.{Route, progress}
+use Rattle.engine_value.specs.declared.Progress.{Progress}
 use Rattle.timing.specs.Distance.{Report}
 use Rattle.timing.specs.Report.{departs, firstLooked, reported, becameReached}
 

@@ -6,10 +6,10 @@ use lib.IntN.{ℤ, pos, negℤ, _-ℤ_}
 use lib.Signed.{ltZ, leZ}
 use lib.Dec.{eqb, ltb}
 use Rattle.wire.specs.Numbers.{if_then_else_}
-use Rattle.data.specs.Engine.{Route}
-use Rattle.data.specs.declared.Point.{Point}
-use Rattle.data.specs.declared.Position.{Position}
-use Rattle.data.specs.declared.Engine.{Engine}
+use Rattle.engine_value.specs.Engine.{Route}
+use Rattle.engine_value.specs.declared.Point.{Point}
+use Rattle.engine_value.specs.declared.Position.{Position}
+use Rattle.engine_value.specs.declared.Engine.{Engine}
 use Rattle.timing.specs.Position.{point, front}
 use Rattle.timing.specs.declared.Front.{Front}
 use Rattle.timing.specs.declared.Front.the-variants.{Known, Unknown}

@@ -5,7 +5,7 @@ use mathlib.Core.List.{List}
 use mathlib.Core.Bool.{Bool, true, false, _&&_, _||_}
 use lib.ListN.{getD, length}
 use Prim.Native.Nat.{ℕ, zero, suc, _≤_, _<_}
-use Rattle.data.specs.Engine.{Route, freshPosition}
+use Rattle.engine_value.specs.Engine.{Route, freshPosition}
 use Rattle.timing.specs.Position.{known, placed}
 use Rattle.timing.specs.Distance.{Report, beyond, atStop, moving}
 use Rattle.timing.specs.Load.{unskippedReport}
@@ -13,9 +13,9 @@ use Rattle.timing.specs.declared.Standing.{Standing}
 use Rattle.timing.specs.declared.Standing.the-variants.{Unused, Targeted, Reached, Passed}
 
 -- report t of a list, from 1
-abbrev pub numbered : List Report → ℕ → Report
-numbered l zero = unskippedReport freshPosition 0
-numbered l (suc t) = getD l t (unskippedReport freshPosition 0)
+abbrev pub reportNumber : List Report → ℕ → Report
+reportNumber l zero = unskippedReport freshPosition 0
+reportNumber l (suc t) = getD l t (unskippedReport freshPosition 0)
 
 -- the first report to go through from a moment on, "that very report included (for the first point, from the load)"
 abbrev pub firstOf : ℕ → ℕ
@@ -31,18 +31,18 @@ module _ (j : Route) (start : ℕ) (reports : List Report) where
   -- "The first of them with .. settles it": report s, of those from number a on
   pub record Settled (k a s : ℕ) : Type 0 where
     pub from : a ≤ s
-    pub settled : settles j (numbered reports s) k ≡ true
-    pub none-before : (u : ℕ) → a ≤ u → u < s → settles j (numbered reports u) k ≡ false
+    pub settled : settles j (reportNumber reports s) k ≡ true
+    pub none-before : (u : ℕ) → a ≤ u → u < s → settles j (reportNumber reports u) k ≡ false
 
   -- "departs, thus passes, at the first later position report with speed above 0"
   pub record Departs (s t : ℕ) : Type 0 where
     pub later : s < t
-    pub moves : moving (numbered reports t) ≡ true
-    pub none-before : (u : ℕ) → s < u → u < t → moving (numbered reports u) ≡ false
+    pub moves : moving (reportNumber reports t) ≡ true
+    pub none-before : (u : ℕ) → s < u → u < t → moving (reportNumber reports u) ≡ false
 
   -- "With d > margin the point passes there; otherwise it is reached there and departs, thus passes, .."
   abbrev pub Passes : ℕ → ℕ → ℕ → Type 0
-  Passes k a t = (s : ℕ) × Settled k a s × (((beyond j (numbered reports s) k ≡ true) × (t ≡ s)) ⊎ ((beyond j (numbered reports s) k ≡ false) × Departs s t))
+  Passes k a t = (s : ℕ) × Settled k a s × (((beyond j (reportNumber reports s) k ≡ true) × (t ≡ s)) ⊎ ((beyond j (reportNumber reports s) k ≡ false) × Departs s t))
 
   -- "a point may have a passing moment. Where the load put it behind, that is the load. For any other, go through the accepted position reports
   -- from the passing moment of the point before"

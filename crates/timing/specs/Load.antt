@@ -2,8 +2,8 @@
 use Prim.Native.Nat.{ℕ, zero, suc, _+_}
 use mathlib.Core.Bool.{Bool, false, _&&_}
 use Rattle.wire.specs.Numbers.{if_then_else_}
-use Rattle.data.specs.Engine.{Route}
-use Rattle.data.specs.declared.Position.{Position}
+use Rattle.engine_value.specs.Engine.{Route}
+use Rattle.engine_value.specs.declared.Position.{Position}
 use Rattle.timing.specs.Position.{pointCount, placed, known}
 use Rattle.timing.specs.Distance.{Report, beyond}
 

@@ -5,10 +5,10 @@ use mathlib.Core.Bool.{Bool, true, false, _&&_}
 use lib.ListN.{getD}
 use lib.Dec.{eqb, leb}
 use Rattle.wire.specs.Numbers.{if_then_else_}
-use Rattle.data.specs.Engine.{Route, blankSegment, blankPoint, undefined}
-use Rattle.data.specs.declared.Segment.{Segment}
-use Rattle.data.specs.declared.Point.{Point}
-use Rattle.data.specs.declared.Position.{Position}
+use Rattle.engine_value.specs.Engine.{Route, blankSegment, blankPoint, undefined}
+use Rattle.engine_value.specs.declared.Segment.{Segment}
+use Rattle.engine_value.specs.declared.Point.{Point}
+use Rattle.engine_value.specs.declared.Position.{Position}
 use Rattle.timing.specs.declared.Found.{Found}
 use Rattle.timing.specs.declared.Found.the-variants.{At, Nothing}
 use Rattle.timing.specs.declared.Front.{Front}
@@ -16,10 +16,10 @@ use Rattle.timing.specs.declared.Front.the-variants.{Known, Unknown}
 
 -- how many segments and points there are; the arrays hold 40 and 64
 abbrev pub segmentCount : Route → ℕ
-segmentCount j = min (j .load .segmentcount) 40
+segmentCount j = min (j .load .«segment_count») 40
 
 abbrev pub pointCount : Route → ℕ
-pointCount j = min (j .load .pointcount) 64
+pointCount j = min (j .load .«point_count») 64
 
 abbrev pub segment : Route → ℕ → Segment
 segment j k = getD (j .segments) k blankSegment

@@ -4,7 +4,7 @@ use mathlib.Core.List.{List, [], _∷_}
 use Prim.Native.Nat.{ℕ, zero, suc}
 use lib.Dec.{ltb}
 use Rattle.wire.specs.Numbers.{if_then_else_}
-use Rattle.data.specs.Engine.{Route}
+use Rattle.engine_value.specs.Engine.{Route}
 use Rattle.timing.specs.Distance.{Report, beyond, moving}
 use Rattle.timing.specs.History.{settles}
 use Rattle.timing.specs.declared.Standing.{Standing}
@@ -44,5 +44,5 @@ standingFor reaches = Reached
 standingFor notSettled = Targeted
 standingFor notLookedAt = Unused
 
-unfoldable pub standingBy : Route → ℕ → List Report → ℕ → Standing
-standingBy j start reports k = standingFor (pointOutcome j start reports k)
+unfoldable pub standingByReports : Route → ℕ → List Report → ℕ → Standing
+standingByReports j start reports k = standingFor (pointOutcome j start reports k)

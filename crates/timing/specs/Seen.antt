@@ -5,9 +5,9 @@ use Prim.Native.Nat.{_+_}
 use lib.ListN.{getD}
 use lib.Dec.{eqb, leb}
 use Rattle.wire.specs.Numbers.{if_then_else_}
-use Rattle.data.specs.Engine.{Route, blankSegment, undefined}
-use Rattle.data.specs.declared.Segment.{Segment}
-use Rattle.data.specs.declared.Position.{Position}
+use Rattle.engine_value.specs.Engine.{Route, blankSegment, undefined}
+use Rattle.engine_value.specs.declared.Segment.{Segment}
+use Rattle.engine_value.specs.declared.Position.{Position}
 use Rattle.timing.specs.Position.{segmentNamed}
 use Rattle.timing.specs.declared.Found.{Found}
 use Rattle.timing.specs.declared.Found.the-variants.{At, Nothing}

@@ -5,8 +5,8 @@ use mathlib.Core.Bool.{_&&_}
 use lib.ListN.{getD}
 use lib.Dec.{eqb}
 use Rattle.wire.specs.Numbers.{if_then_else_}
-use Rattle.data.specs.Engine.{Route, blankPoint}
-use Rattle.data.specs.declared.Point.{Point}
+use Rattle.engine_value.specs.Engine.{Route, blankPoint}
+use Rattle.engine_value.specs.declared.Point.{Point}
 use Rattle.timing.specs.Position.{pointCount}
 use Rattle.timing.specs.declared.Found.{Found}
 use Rattle.timing.specs.declared.Found.the-variants.{At, Nothing}

@@ -3,7 +3,7 @@ use Prim.Native.Nat.{ℕ, _+_, min}
 use mathlib.Core.Bool.{Bool, true, false, _||_}
 use lib.Dec.{eqb, ltb}
 use Rattle.wire.specs.Numbers.{if_then_else_}
-use Rattle.data.specs.declared.Progress.{Progress}
+use Rattle.engine_value.specs.declared.Progress.{Progress}
 use Rattle.timing.specs.declared.Standing.{Standing}
 use Rattle.timing.specs.declared.Standing.the-variants.{Unused, Targeted, Reached, Passed}
 

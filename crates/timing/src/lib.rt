@@ -1,14 +1,14 @@
 // Timing points: where the train's front is, which points pass, and where each point stands.
-use data::Engine;
-use data::Point;
-use data::Position;
-use data::Progress;
-use data::Segment;
+use engine_value::Engine;
+use engine_value::Point;
+use engine_value::Position;
+use engine_value::Progress;
+use engine_value::Segment;
 ghost use mathlib.Core.Path.{_≡_};
 ghost use Prim.Native.Nat.{_<_, _^_, min};
 ghost use lib.IntN.{pos, negℤ};
 ghost use lib.Signed.{ltZ, leZ};
-ghost use Rattle.data.specs.Engine.{routeIn};
+ghost use Rattle.engine_value.specs.Engine.{routeIn};
 ghost use Rattle.timing.specs.Position.{pointCount, front, IndexBelow, FrontBelow};
 ghost use Rattle.timing.specs.Seen.{segmentIn, frontBy};
 ghost use Rattle.timing.specs.Distance.{reportIn, back, distance, unskipped, margin, exceeds, stopsAt};
@@ -75,7 +75,7 @@ pub fn segment_named(e: Engine) -> Named
     let nidc = e.train.position.nidc;
     let nidsp = e.train.position.nidsp;
     let segments = e.segments;
-    let n = at_most(e.load.segmentcount, 40) as usize;
+    let n = at_most(e.load.segment_count, 40) as usize;
     let mut i: usize = 0;
     while i < n {
         let s = segments[i];
@@ -87,7 +87,7 @@ pub fn segment_named(e: Engine) -> Named
         }
         i += 1;
     }
-    let none = data::blank_segment();
+    let none = engine_value::blank_segment();
     Named {
         found: false,
         segment: none,
@@ -182,7 +182,7 @@ fn first_ahead(e: Engine, at: u64) -> u8
     ensures { λ r. ⌜ r ≡ target (routeIn e) (e .train .position) (e .train .length) ⌝ }
 {
     let length = e.train.length;
-    let n = at_most(e.load.pointcount, 64);
+    let n = at_most(e.load.point_count, 64);
     let mut i: u8 = 0;
     'points: while i < n {
         let k = i as usize;
@@ -217,7 +217,7 @@ fn look(e: Engine, at: u64, from: u8) -> Progress
 {
     let points = e.points;
     let skips = e.skips;
-    let count = at_most(e.load.pointcount, 64);
+    let count = at_most(e.load.point_count, 64);
     let mut next = from;
     let mut reached = false;
     'points: while next < count {
@@ -303,7 +303,7 @@ pub fn report(e: Engine) -> Reported
 pub fn find_stop(e: Engine, nidtp: u32) -> Found
     ensures { λ r. ⌜ (r ≡ stopNamed (routeIn e) nidtp) × IndexBelow 64 r ⌝ }
 {
-    let n = at_most(e.load.pointcount, 64) as usize;
+    let n = at_most(e.load.point_count, 64) as usize;
     let mut i: usize = 0;
     while i < n {
         let p = e.points[i];

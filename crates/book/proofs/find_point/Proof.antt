@@ -18,7 +18,7 @@ abbrev μ-loop : tie.MeasureT-loop
 μ-loop s nidtp n p₀ i₀ p i = n - i
 
 loop-holds : tie.Need-loop-holds Inv-loop μ-loop
-loop-holds c = let a = c .before .args in (omega arith, ap (lookupPoint (a .nidtp)) (items-start pointOf 10 (a .e .points) (drop (a .e .pointsat) (now (a .s)))))
+loop-holds c = let a = c .before .args in (omega arith, ap (lookupPoint (a .nidtp)) (items-start pointOf 10 (a .e .points) (drop (a .e .«points_at») (now (a .s)))))
 
 be32-requires : tie.Need-be32-requires Inv-loop μ-loop
 be32-requires c κs = search needs

@@ -4,7 +4,7 @@ use mathlib.Core.Path.{_≡_, _∙_, sym, ap}
 use lib.ListN.{drop}
 use native.Mathlib.Omega.{arith}
 use borrow.Author.Needs.{needs}
-use Rattle.book.specs.Parts.{item, skip, endsSeen}
+use Rattle.book.specs.Parts.{item, skip, endsView}
 use Rattle.book.proofs.Reading.{skip-start, skip-step, skip-bad, skip-end}
 use Rattle.book.proofs.items_end.Statement.{statement}
 use Rattle.book.proofs.items_end.Tie as tie
@@ -32,7 +32,7 @@ returns c =
     let a = c .before .before .before .before .before .before .args in
     let s = now (a .s) in
     let w = c .before .before .before .before .loop in
-    sym (w .inv .1 ∙ skip-bad (item (a .kind) (a .length)) (a .n) (w .i) (drop (w .p) s) (c .before .before .before .loop-test .taken) (sym (c .before .before .item-end .ensures) ∙ ap (endsSeen s) (c .enum-told .given .1)))
+    sym (w .inv .1 ∙ skip-bad (item (a .kind) (a .length)) (a .n) (w .i) (drop (w .p) s) (c .before .before .before .loop-test .taken) (sym (c .before .before .item-end .ensures) ∙ ap (endsView s) (c .enum-told .given .1)))
 
 add-i : tie.Need-add-i Inv-loop μ-loop
 add-i c = search needs
@@ -45,7 +45,7 @@ loop-again c =
     let a = c .before .before .before .before .before .before .before .args in
     let s = now (a .s) in
     let w = c .before .before .before .before .before .loop in
-    let g = sym (c .before .before .before .item-end .ensures) ∙ ap (endsSeen s) (c .before .next .given .1) in
+    let g = sym (c .before .before .before .item-end .ensures) ∙ ap (endsView s) (c .before .next .given .1) in
     (omega arith, w .inv .1 ∙ skip-step (item (a .kind) (a .length)) (a .n) (w .i) (drop (w .p) s) _ (c .before .before .before .before .loop-test .taken) g)
 
 returns-2 : tie.Need-returns-2 Inv-loop μ-loop

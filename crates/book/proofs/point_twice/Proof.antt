@@ -50,7 +50,7 @@ returns c =
     let h : i < n = omega (arith, c .before .before .before .before .before .count-of .ensures) in
     let e = getD (b .entries) i blankEntry in
     let step = entry-step n (b .entries) blankEntry i h (omega arith) in
-    let same = ap twice (names (e .points) (drop (e .pointsat) (now (a .s)))) ∙ sym (c .before .name-twice .ensures) in
+    let same = ap twice (names (e .points) (drop (e .«points_at») (now (a .s)))) ∙ sym (c .before .name-twice .ensures) in
     sym (c .before .before .before .before .loop .inv ∙ ap (λ l. pointTwice (map (entrySegment (now (a .s))) l)) step ∙ or-true-left _ _ (same ∙ c .if1 .taken))
 
 loop-less : tie.Need-loop-less Inv-loop μ-loop
@@ -66,7 +66,7 @@ loop-again c =
     let h : i < n = omega (arith, c .before .before .before .before .before .count-of .ensures) in
     let e = getD (b .entries) i blankEntry in
     let step = entry-step n (b .entries) blankEntry i h (omega arith) in
-    let same = ap twice (names (e .points) (drop (e .pointsat) (now (a .s)))) ∙ sym (c .before .name-twice .ensures) in
+    let same = ap twice (names (e .points) (drop (e .«points_at») (now (a .s)))) ∙ sym (c .before .name-twice .ensures) in
     c .before .before .before .before .loop .inv ∙ ap (λ l. pointTwice (map (entrySegment (now (a .s))) l)) step ∙ or-false-left _ _ (same ∙ c .if1 .left)
 
 returns-2 : tie.Need-returns-2 Inv-loop μ-loop

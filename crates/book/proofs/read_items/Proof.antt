@@ -1,9 +1,9 @@
 use denote.Ref.{now}
 use mathlib.Core.Path.{_∙_, sym, ap}
 use native.Mathlib.Omega.{arith}
-use Rattle.wire.specs.Parse.{fieldSeen}
-use Rattle.wire.specs.ParseLaws.{field-inv}
-use Rattle.book.specs.Parts.{extent, endsSeen}
+use Rattle.wire.specs.Parse.{fieldView}
+use Rattle.wire.proofs.ReaderLaws.{field-inv}
+use Rattle.book.specs.Parts.{extent, endsView}
 use Rattle.book.proofs.Reading.{most-small}
 use borrow.Author.Needs.{needs}
 use Rattle.book.proofs.read_items.Statement.{statement}
@@ -26,7 +26,7 @@ unfolding extent
 returns c =
     let a = c .before .before .before .before .before .before .args in
     let s = now (a .s) in
-    let e1 = sym (c .before .before .read-field .ensures) ∙ ap (fieldSeen s) (c .enum-told .given .1) in
+    let e1 = sym (c .before .before .read-field .ensures) ∙ ap (fieldView s) (c .enum-told .given .1) in
     rw (c .before .before .before .before .if1 .taken, ← c .before .before .before .most-of .ensures, e1)
 
 items-end-requires : tie.Need-items-end-requires
@@ -43,15 +43,15 @@ unfolding extent
 returns-2 c =
     let a = c .before .before .before .before .before .before .before .before .before .before .args in
     let s = now (a .s) in
-    let e1 = sym (c .before .before .before .before .before .before .read-field .ensures) ∙ ap (fieldSeen s) (c .before .before .before .before .n .given .1) in
-    let e2 = sym (c .before .before .items-end .ensures) ∙ ap (endsSeen s) (c .enum-told2 .given .1) in
+    let e1 = sym (c .before .before .before .before .before .before .read-field .ensures) ∙ ap (fieldView s) (c .before .before .before .before .n .given .1) in
+    let e2 = sym (c .before .before .items-end .ensures) ∙ ap (endsView s) (c .enum-told2 .given .1) in
     rw (c .before .before .before .before .before .before .before .before .if1 .taken, ← c .before .before .before .before .before .before .before .most-of .ensures, e1, e2)
 
 cast-t15 : tie.Need-cast-t15
 cast-t15 c =
     let a = c .before .before .before .before .before .before .before .before .before .before .before .args in
     let s = now (a .s) in
-    let t = field-inv _ _ _ _ _ _ (sym (c .before .before .before .before .before .before .before .read-field .ensures) ∙ ap (fieldSeen s) (c .before .before .before .before .before .n .given .1)) in
+    let t = field-inv _ _ _ _ _ _ (sym (c .before .before .before .before .before .before .before .read-field .ensures) ∙ ap (fieldView s) (c .before .before .before .before .before .n .given .1)) in
     omega (arith, t .most, c .before .before .before .before .before .before .before .before .most-of .ensures, most-small (a .kind))
 
 returns-3 : tie.Need-returns-3
@@ -59,8 +59,8 @@ unfolding extent
 returns-3 c =
     let a = c .before .before .before .before .before .before .before .before .before .before .before .args in
     let s = now (a .s) in
-    let e1 = sym (c .before .before .before .before .before .before .before .read-field .ensures) ∙ ap (fieldSeen s) (c .before .before .before .before .before .n .given .1) in
-    let e2 = sym (c .before .before .before .items-end .ensures) ∙ ap (endsSeen s) (c .before .next .given .1) in
+    let e1 = sym (c .before .before .before .before .before .before .before .read-field .ensures) ∙ ap (fieldView s) (c .before .before .before .before .before .n .given .1) in
+    let e2 = sym (c .before .before .before .items-end .ensures) ∙ ap (endsView s) (c .before .next .given .1) in
     rw (c .before .before .before .before .before .before .before .before .before .if1 .taken, ← c .before .before .before .before .before .before .before .before .most-of .ensures, e1, e2)
 
 returns-4 : tie.Need-returns-4

@@ -9,7 +9,7 @@ use lib.Seq.{set-out}
 use native.Mathlib.Omega.{arith}
 use Rattle.book.specs.Book.{BookSegment}
 use Rattle.book.specs.Answers.{entrySegment}
-use Rattle.book.specs.Parts.{segmentSeen, ReadTo}
+use Rattle.book.specs.Parts.{segmentView, ReadTo}
 use Rattle.book.proofs.Whole.{closer, read-start, read-step, read-bad, read-end}
 use borrow.Author.Needs.{needs}
 use Rattle.book.proofs.read_records.Statement.{statement}
@@ -40,7 +40,7 @@ returns : tie.Need-returns Inv-loop μ-loop
 returns c =
     let s = now (c .before .before .before .before .before .before .before .args .s) in
     let w = c .before .before .before .before .loop in
-    let h = sym (c .before .before .read-segment .ensures) ∙ ap (segmentSeen s) (c .enum-told .given .1) in
+    let h = sym (c .before .before .read-segment .ensures) ∙ ap (segmentView s) (c .enum-told .given .1) in
     record { bad = λ z. read-bad s (w .at) (w .n) (w .first) (w .inv .1) (w .inv .2) (c .before .before .before .loop-test .taken) h; good = λ z. absurd (false≢true z) }
 
 mul-first : tie.Need-mul-first Inv-loop μ-loop
@@ -54,7 +54,7 @@ add-n c =
     let s = now (c .before .before .before .before .before .before .before .before .before .args .s) in
     let w = c .before .before .before .before .before .before .loop in
     let v = c .before .before .e .given in
-    let h = sym (c .before .before .before .before .read-segment .ensures) ∙ ap (segmentSeen s) (v .1) in
+    let h = sym (c .before .before .before .before .read-segment .ensures) ∙ ap (segmentView s) (v .1) in
     let near = closer s (w .at) (v .0 .1 .0) (entrySegment s (v .0 .0)) h in
     omega arith
 
@@ -63,7 +63,7 @@ loop-less c =
     let s = now (c .before .before .before .before .before .before .before .before .before .args .s) in
     let w = c .before .before .before .before .before .before .loop in
     let v = c .before .before .e .given in
-    let h = sym (c .before .before .before .before .read-segment .ensures) ∙ ap (segmentSeen s) (v .1) in
+    let h = sym (c .before .before .before .before .read-segment .ensures) ∙ ap (segmentView s) (v .1) in
     let near = closer s (w .at) (v .0 .1 .0) (entrySegment s (v .0 .0)) h in
     omega arith
 
@@ -72,7 +72,7 @@ loop-again c =
     let s = now (c .before .before .before .before .before .before .before .before .before .args .s) in
     let w = c .before .before .before .before .before .before .loop in
     let v = c .before .before .e .given in
-    let h = sym (c .before .before .before .before .read-segment .ensures) ∙ ap (segmentSeen s) (v .1) in
+    let h = sym (c .before .before .before .before .read-segment .ensures) ∙ ap (segmentView s) (v .1) in
     let near = closer s (w .at) (v .0 .1 .0) (entrySegment s (v .0 .0)) h in
     let kept : c .if1 .first ≡ set (w .first) (w .n) (v .0 .0) = ⊎-elim (λ x. x .1) (λ x. x .1 ∙ sym (set-out (w .first) (w .n) (v .0 .0) (omega (arith, w .inv .2 .size, x .0 .left)))) (c .if1 .came) in
     (omega arith, _, read-step s (w .at) (w .n) (w .first) (c .if1 .first) (w .inv .1) (v .0 .0) (v .0 .1 .0) (w .inv .2) h kept)

@@ -4,11 +4,11 @@ use lib.ListN.{drop}
 use native.Mathlib.Omega.{arith}
 use borrow.Author.Tests.{eq-eqb, ne-eqb}
 use Rattle.wire.specs.Numbers.{bit}
-use Rattle.wire.specs.Parse.{fieldSeen}
-use Rattle.wire.specs.ParseLaws.{field-inv}
+use Rattle.wire.specs.Parse.{fieldView}
+use Rattle.wire.proofs.ReaderLaws.{field-inv}
 use Rattle.book.specs.Book.{bookPoint, zoneRecord, segmentRecord}
 use Rattle.book.specs.Answers.{pointOf, zoneOf}
-use Rattle.book.specs.Parts.{itemsSeen}
+use Rattle.book.specs.Parts.{itemsView}
 use Rattle.book.proofs.Reading.{point-fixed, zone-fixed, listed-extent}
 use borrow.Author.Needs.{needs}
 use Rattle.book.proofs.read_segment.Statement.{statement}
@@ -27,14 +27,14 @@ returns : tie.Need-returns
 unfolding segmentRecord
 returns c =
     let s = now (c .before .before .before .before .args .s) in
-    let e1 = sym (c .before .before .read-field .ensures) ∙ ap (fieldSeen s) (c .enum-told .given .1) in
+    let e1 = sym (c .before .before .read-field .ensures) ∙ ap (fieldView s) (c .enum-told .given .1) in
     rw e1
 
 returns-2 : tie.Need-returns-2
 unfolding segmentRecord
 returns-2 c =
     let s = now (c .before .before .before .before .before .before .args .s) in
-    let e1 = sym (c .before .before .before .before .read-field .ensures) ∙ ap (fieldSeen s) (c .before .before .map .given .1) in
+    let e1 = sym (c .before .before .before .before .read-field .ensures) ∙ ap (fieldView s) (c .before .before .map .given .1) in
     rw (e1, ne-eqb _ _ (c .if1 .taken))
 
 read-field-requires-2 : tie.Need-read-field-requires-2
@@ -50,9 +50,9 @@ returns-3 : tie.Need-returns-3
 unfolding segmentRecord
 returns-3 c =
     let s = now (c .before .before .before .before .before .before .before .before .before .args .s) in
-    let e1 = sym (c .before .before .before .before .before .before .before .read-field .ensures) ∙ ap (fieldSeen s) (c .before .before .before .before .before .map .given .1) in
+    let e1 = sym (c .before .before .before .before .before .before .before .read-field .ensures) ∙ ap (fieldView s) (c .before .before .before .before .before .map .given .1) in
     let e2 = eq-eqb _ _ (c .before .before .before .if1 .left) in
-    let e3 = sym (c .before .before .read-field2 .ensures) ∙ ap (fieldSeen s) (c .enum-told2 .given .1) in
+    let e3 = sym (c .before .before .read-field2 .ensures) ∙ ap (fieldView s) (c .enum-told2 .given .1) in
     rw (e1, e2, e3)
 
 read-field-requires-3 : tie.Need-read-field-requires-3
@@ -68,10 +68,10 @@ returns-4 : tie.Need-returns-4
 unfolding segmentRecord
 returns-4 c =
     let s = now (c .before .before .before .before .before .before .before .before .before .before .before .before .before .args .s) in
-    let e1 = sym (c .before .before .before .before .before .before .before .before .before .before .before .read-field .ensures) ∙ ap (fieldSeen s) (c .before .before .before .before .before .before .before .before .before .map .given .1) in
+    let e1 = sym (c .before .before .before .before .before .before .before .before .before .before .before .read-field .ensures) ∙ ap (fieldView s) (c .before .before .before .before .before .before .before .before .before .map .given .1) in
     let e2 = eq-eqb _ _ (c .before .before .before .before .before .before .before .if1 .left) in
-    let e3 = sym (c .before .before .before .before .before .before .read-field2 .ensures) ∙ ap (fieldSeen s) (c .before .before .before .before .nidc .given .1) in
-    let e4 = sym (c .before .before .read-field3 .ensures) ∙ ap (fieldSeen s) (c .enum-told3 .given .1) in
+    let e3 = sym (c .before .before .before .before .before .before .read-field2 .ensures) ∙ ap (fieldView s) (c .before .before .before .before .nidc .given .1) in
+    let e4 = sym (c .before .before .read-field3 .ensures) ∙ ap (fieldView s) (c .enum-told3 .given .1) in
     rw (e1, e2, e3, e4)
 
 read-field-requires-4 : tie.Need-read-field-requires-4
@@ -87,11 +87,11 @@ returns-5 : tie.Need-returns-5
 unfolding segmentRecord
 returns-5 c =
     let s = now (c .before .before .before .before .before .before .before .before .before .before .before .before .before .before .before .before .before .args .s) in
-    let e1 = sym (c .before .before .before .before .before .before .before .before .before .before .before .before .before .before .before .read-field .ensures) ∙ ap (fieldSeen s) (c .before .before .before .before .before .before .before .before .before .before .before .before .before .map .given .1) in
+    let e1 = sym (c .before .before .before .before .before .before .before .before .before .before .before .before .before .before .before .read-field .ensures) ∙ ap (fieldView s) (c .before .before .before .before .before .before .before .before .before .before .before .before .before .map .given .1) in
     let e2 = eq-eqb _ _ (c .before .before .before .before .before .before .before .before .before .before .before .if1 .left) in
-    let e3 = sym (c .before .before .before .before .before .before .before .before .before .before .read-field2 .ensures) ∙ ap (fieldSeen s) (c .before .before .before .before .before .before .before .before .nidc .given .1) in
-    let e4 = sym (c .before .before .before .before .before .before .read-field3 .ensures) ∙ ap (fieldSeen s) (c .before .before .before .before .nidsp .given .1) in
-    let e5 = sym (c .before .before .read-field4 .ensures) ∙ ap (fieldSeen s) (c .enum-told4 .given .1) in
+    let e3 = sym (c .before .before .before .before .before .before .before .before .before .before .read-field2 .ensures) ∙ ap (fieldView s) (c .before .before .before .before .before .before .before .before .nidc .given .1) in
+    let e4 = sym (c .before .before .before .before .before .before .read-field3 .ensures) ∙ ap (fieldView s) (c .before .before .before .before .nidsp .given .1) in
+    let e5 = sym (c .before .before .read-field4 .ensures) ∙ ap (fieldView s) (c .enum-told4 .given .1) in
     rw (e1, e2, e3, e4, e5)
 
 read-items-requires : tie.Need-read-items-requires
@@ -109,12 +109,12 @@ returns-6 c =
     let s = now (c .before .before .before .before .before .before .before .before .before .before .before .before .before .before .before .before .before .before .before .before .before .args .s) in
     let m = c .before .before .before .before .before .before .before .before .before .before .before .before .before .before .before .before .before .map .given .0 .0 in
     let len = c .before .before .before .before .length .given .0 .0 in
-    let e1 = sym (c .before .before .before .before .before .before .before .before .before .before .before .before .before .before .before .before .before .before .before .read-field .ensures) ∙ ap (fieldSeen s) (c .before .before .before .before .before .before .before .before .before .before .before .before .before .before .before .before .before .map .given .1) in
+    let e1 = sym (c .before .before .before .before .before .before .before .before .before .before .before .before .before .before .before .before .before .before .before .read-field .ensures) ∙ ap (fieldView s) (c .before .before .before .before .before .before .before .before .before .before .before .before .before .before .before .before .before .map .given .1) in
     let e2 = eq-eqb _ _ (c .before .before .before .before .before .before .before .before .before .before .before .before .before .before .before .if1 .left) in
-    let e3 = sym (c .before .before .before .before .before .before .before .before .before .before .before .before .before .before .read-field2 .ensures) ∙ ap (fieldSeen s) (c .before .before .before .before .before .before .before .before .before .before .before .before .nidc .given .1) in
-    let e4 = sym (c .before .before .before .before .before .before .before .before .before .before .read-field3 .ensures) ∙ ap (fieldSeen s) (c .before .before .before .before .before .before .before .before .nidsp .given .1) in
-    let e5 = sym (c .before .before .before .before .before .before .read-field4 .ensures) ∙ ap (fieldSeen s) (c .before .before .before .before .length .given .1) in
-    let e6 = listed-extent (bookPoint len) pointOf 10 (point-fixed len) (bit 3 m) 16 (drop (c .before .before .before .before .length .given .0 .1 .0) s) _ (sym (c .before .before .read-items .ensures) ∙ ap (itemsSeen s) (c .enum-told5 .given .1)) in
+    let e3 = sym (c .before .before .before .before .before .before .before .before .before .before .before .before .before .before .read-field2 .ensures) ∙ ap (fieldView s) (c .before .before .before .before .before .before .before .before .before .before .before .before .nidc .given .1) in
+    let e4 = sym (c .before .before .before .before .before .before .before .before .before .before .read-field3 .ensures) ∙ ap (fieldView s) (c .before .before .before .before .before .before .before .before .nidsp .given .1) in
+    let e5 = sym (c .before .before .before .before .before .before .read-field4 .ensures) ∙ ap (fieldView s) (c .before .before .before .before .length .given .1) in
+    let e6 = listed-extent (bookPoint len) pointOf 10 (point-fixed len) (bit 3 m) 16 (drop (c .before .before .before .before .length .given .0 .1 .0) s) _ (sym (c .before .before .read-items .ensures) ∙ ap (itemsView s) (c .enum-told5 .given .1)) in
     rw (e1, e2, e3, e4, e5, e6)
 
 read-items-requires-2 : tie.Need-read-items-requires-2
@@ -132,19 +132,19 @@ returns-7 c =
     let s = now (c .before .before .before .before .before .before .before .before .before .before .before .before .before .before .before .before .before .before .before .before .before .before .before .before .before .args .s) in
     let m = c .before .before .before .before .before .before .before .before .before .before .before .before .before .before .before .before .before .before .before .before .before .map .given .0 .0 in
     let len = c .before .before .before .before .before .before .before .before .length .given .0 .0 in
-    let e1 = sym (c .before .before .before .before .before .before .before .before .before .before .before .before .before .before .before .before .before .before .before .before .before .before .before .read-field .ensures) ∙ ap (fieldSeen s) (c .before .before .before .before .before .before .before .before .before .before .before .before .before .before .before .before .before .before .before .before .before .map .given .1) in
+    let e1 = sym (c .before .before .before .before .before .before .before .before .before .before .before .before .before .before .before .before .before .before .before .before .before .before .before .read-field .ensures) ∙ ap (fieldView s) (c .before .before .before .before .before .before .before .before .before .before .before .before .before .before .before .before .before .before .before .before .before .map .given .1) in
     let e2 = eq-eqb _ _ (c .before .before .before .before .before .before .before .before .before .before .before .before .before .before .before .before .before .before .before .if1 .left) in
-    let e3 = sym (c .before .before .before .before .before .before .before .before .before .before .before .before .before .before .before .before .before .before .read-field2 .ensures) ∙ ap (fieldSeen s) (c .before .before .before .before .before .before .before .before .before .before .before .before .before .before .before .before .nidc .given .1) in
-    let e4 = sym (c .before .before .before .before .before .before .before .before .before .before .before .before .before .before .read-field3 .ensures) ∙ ap (fieldSeen s) (c .before .before .before .before .before .before .before .before .before .before .before .before .nidsp .given .1) in
-    let e5 = sym (c .before .before .before .before .before .before .before .before .before .before .read-field4 .ensures) ∙ ap (fieldSeen s) (c .before .before .before .before .before .before .before .before .length .given .1) in
-    let e6 = listed-extent (bookPoint len) pointOf 10 (point-fixed len) (bit 3 m) 16 (drop (c .before .before .before .before .before .before .before .before .length .given .0 .1 .0) s) _ (sym (c .before .before .before .before .before .before .read-items .ensures) ∙ ap (itemsSeen s) (c .before .before .before .before .points .given .1)) in
-    let e7 = listed-extent (zoneRecord len) zoneOf 8 (zone-fixed len) (bit 4 m) 4 (drop (c .before .before .before .before .points .given .0 .1 .1 .0) s) _ (sym (c .before .before .read-items2 .ensures) ∙ ap (itemsSeen s) (c .enum-told6 .given .1)) in
+    let e3 = sym (c .before .before .before .before .before .before .before .before .before .before .before .before .before .before .before .before .before .before .read-field2 .ensures) ∙ ap (fieldView s) (c .before .before .before .before .before .before .before .before .before .before .before .before .before .before .before .before .nidc .given .1) in
+    let e4 = sym (c .before .before .before .before .before .before .before .before .before .before .before .before .before .before .read-field3 .ensures) ∙ ap (fieldView s) (c .before .before .before .before .before .before .before .before .before .before .before .before .nidsp .given .1) in
+    let e5 = sym (c .before .before .before .before .before .before .before .before .before .before .read-field4 .ensures) ∙ ap (fieldView s) (c .before .before .before .before .before .before .before .before .length .given .1) in
+    let e6 = listed-extent (bookPoint len) pointOf 10 (point-fixed len) (bit 3 m) 16 (drop (c .before .before .before .before .before .before .before .before .length .given .0 .1 .0) s) _ (sym (c .before .before .before .before .before .before .read-items .ensures) ∙ ap (itemsView s) (c .before .before .before .before .points .given .1)) in
+    let e7 = listed-extent (zoneRecord len) zoneOf 8 (zone-fixed len) (bit 4 m) 4 (drop (c .before .before .before .before .points .given .0 .1 .1 .0) s) _ (sym (c .before .before .read-items2 .ensures) ∙ ap (itemsView s) (c .enum-told6 .given .1)) in
     rw (e1, e2, e3, e4, e5, e6, e7)
 
 cast-t28 : tie.Need-cast-t28
 cast-t28 c =
     let s = now (c .before .before .before .before .before .before .before .before .before .before .before .before .before .before .before .before .before .before .before .before .before .before .before .before .before .before .args .s) in
-    let e3 = sym (c .before .before .before .before .before .before .before .before .before .before .before .before .before .before .before .before .before .before .before .read-field2 .ensures) ∙ ap (fieldSeen s) (c .before .before .before .before .before .before .before .before .before .before .before .before .before .before .before .before .before .nidc .given .1) in
+    let e3 = sym (c .before .before .before .before .before .before .before .before .before .before .before .before .before .before .before .before .before .before .before .read-field2 .ensures) ∙ ap (fieldView s) (c .before .before .before .before .before .before .before .before .before .before .before .before .before .before .before .before .before .nidc .given .1) in
     omega (arith, field-inv _ _ _ _ _ _ e3 .most)
 
 returns-8 : tie.Need-returns-8
@@ -153,13 +153,13 @@ returns-8 c =
     let s = now (c .before .before .before .before .before .before .before .before .before .before .before .before .before .before .before .before .before .before .before .before .before .before .before .before .before .before .args .s) in
     let m = c .before .before .before .before .before .before .before .before .before .before .before .before .before .before .before .before .before .before .before .before .before .before .map .given .0 .0 in
     let len = c .before .before .before .before .before .before .before .before .before .length .given .0 .0 in
-    let e1 = sym (c .before .before .before .before .before .before .before .before .before .before .before .before .before .before .before .before .before .before .before .before .before .before .before .before .read-field .ensures) ∙ ap (fieldSeen s) (c .before .before .before .before .before .before .before .before .before .before .before .before .before .before .before .before .before .before .before .before .before .before .map .given .1) in
+    let e1 = sym (c .before .before .before .before .before .before .before .before .before .before .before .before .before .before .before .before .before .before .before .before .before .before .before .before .read-field .ensures) ∙ ap (fieldView s) (c .before .before .before .before .before .before .before .before .before .before .before .before .before .before .before .before .before .before .before .before .before .before .map .given .1) in
     let e2 = eq-eqb _ _ (c .before .before .before .before .before .before .before .before .before .before .before .before .before .before .before .before .before .before .before .before .if1 .left) in
-    let e3 = sym (c .before .before .before .before .before .before .before .before .before .before .before .before .before .before .before .before .before .before .before .read-field2 .ensures) ∙ ap (fieldSeen s) (c .before .before .before .before .before .before .before .before .before .before .before .before .before .before .before .before .before .nidc .given .1) in
-    let e4 = sym (c .before .before .before .before .before .before .before .before .before .before .before .before .before .before .before .read-field3 .ensures) ∙ ap (fieldSeen s) (c .before .before .before .before .before .before .before .before .before .before .before .before .before .nidsp .given .1) in
-    let e5 = sym (c .before .before .before .before .before .before .before .before .before .before .before .read-field4 .ensures) ∙ ap (fieldSeen s) (c .before .before .before .before .before .before .before .before .before .length .given .1) in
-    let e6 = listed-extent (bookPoint len) pointOf 10 (point-fixed len) (bit 3 m) 16 (drop (c .before .before .before .before .before .before .before .before .before .length .given .0 .1 .0) s) _ (sym (c .before .before .before .before .before .before .before .read-items .ensures) ∙ ap (itemsSeen s) (c .before .before .before .before .before .points .given .1)) in
-    let e7 = listed-extent (zoneRecord len) zoneOf 8 (zone-fixed len) (bit 4 m) 4 (drop (c .before .before .before .before .before .points .given .0 .1 .1 .0) s) _ (sym (c .before .before .before .read-items2 .ensures) ∙ ap (itemsSeen s) (c .before .zones .given .1)) in
+    let e3 = sym (c .before .before .before .before .before .before .before .before .before .before .before .before .before .before .before .before .before .before .before .read-field2 .ensures) ∙ ap (fieldView s) (c .before .before .before .before .before .before .before .before .before .before .before .before .before .before .before .before .before .nidc .given .1) in
+    let e4 = sym (c .before .before .before .before .before .before .before .before .before .before .before .before .before .before .before .read-field3 .ensures) ∙ ap (fieldView s) (c .before .before .before .before .before .before .before .before .before .before .before .before .before .nidsp .given .1) in
+    let e5 = sym (c .before .before .before .before .before .before .before .before .before .before .before .read-field4 .ensures) ∙ ap (fieldView s) (c .before .before .before .before .before .before .before .before .before .length .given .1) in
+    let e6 = listed-extent (bookPoint len) pointOf 10 (point-fixed len) (bit 3 m) 16 (drop (c .before .before .before .before .before .before .before .before .before .length .given .0 .1 .0) s) _ (sym (c .before .before .before .before .before .before .before .read-items .ensures) ∙ ap (itemsView s) (c .before .before .before .before .before .points .given .1)) in
+    let e7 = listed-extent (zoneRecord len) zoneOf 8 (zone-fixed len) (bit 4 m) 4 (drop (c .before .before .before .before .before .points .given .0 .1 .1 .0) s) _ (sym (c .before .before .before .read-items2 .ensures) ∙ ap (itemsView s) (c .before .zones .given .1)) in
     rw (e1, e2, e3, e4, e5, e6, e7)
 
 pub read-segment-spec : {M : Type 1} → statement M

@@ -1,6 +1,6 @@
 use denote.Ref.{now}
 use mathlib.Core.Path.{_∙_, sym, ap}
-use Rattle.wire.specs.Parse.{fieldSeen}
+use Rattle.wire.specs.Parse.{fieldView}
 use Rattle.book.specs.Book.{zoneRecord}
 use borrow.Author.Needs.{needs}
 use Rattle.book.proofs.zone_end.Statement.{statement}
@@ -19,7 +19,7 @@ returns : tie.Need-returns
 unfolding zoneRecord
 returns c =
     let s = now (c .before .before .before .before .args .s) in
-    let e1 = sym (c .before .before .read-field .ensures) ∙ ap (fieldSeen s) (c .enum-told .given .1) in
+    let e1 = sym (c .before .before .read-field .ensures) ∙ ap (fieldView s) (c .enum-told .given .1) in
     rw (e1)
 
 read-field-requires-2 : tie.Need-read-field-requires-2
@@ -35,16 +35,16 @@ returns-2 : tie.Need-returns-2
 unfolding zoneRecord
 returns-2 c =
     let s = now (c .before .before .before .before .before .before .before .before .args .s) in
-    let e1 = sym (c .before .before .before .before .before .before .read-field .ensures) ∙ ap (fieldSeen s) (c .before .before .before .before .start .given .1) in
-    let e2 = sym (c .before .before .read-field2 .ensures) ∙ ap (fieldSeen s) (c .enum-told2 .given .1) in
+    let e1 = sym (c .before .before .before .before .before .before .read-field .ensures) ∙ ap (fieldView s) (c .before .before .before .before .start .given .1) in
+    let e2 = sym (c .before .before .read-field2 .ensures) ∙ ap (fieldView s) (c .enum-told2 .given .1) in
     rw (e1, e2)
 
 returns-3 : tie.Need-returns-3
 unfolding zoneRecord
 returns-3 c =
     let s = now (c .before .before .before .before .before .before .before .before .before .args .s) in
-    let e1 = sym (c .before .before .before .before .before .before .before .read-field .ensures) ∙ ap (fieldSeen s) (c .before .before .before .before .before .start .given .1) in
-    let e2 = sym (c .before .before .before .read-field2 .ensures) ∙ ap (fieldSeen s) (c .before .next .given .1) in
+    let e1 = sym (c .before .before .before .before .before .before .before .read-field .ensures) ∙ ap (fieldView s) (c .before .before .before .before .before .start .given .1) in
+    let e2 = sym (c .before .before .before .read-field2 .ensures) ∙ ap (fieldView s) (c .before .next .given .1) in
     rw (e1, e2)
 
 pub zone-end-spec : {M : Type 1} → statement M

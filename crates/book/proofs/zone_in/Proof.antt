@@ -2,7 +2,7 @@ use Prim.Native.Nat.{_*_}
 use denote.Ref.{now}
 use mathlib.Core.Path.{_∙_, sym, ap}
 use lib.ListN.{drop}
-use Rattle.data.specs.Engine.{blankZone}
+use Rattle.engine_value.specs.Engine.{blankZone}
 use Rattle.wire.specs.Numbers.{number}
 use Rattle.book.specs.Answers.{zoneOf, zoneIn}
 use Rattle.book.proofs.Entries.{items-at, items-past, zone-answer}
@@ -29,7 +29,7 @@ returns : tie.Need-returns
 unfolding zoneIn
 returns c =
     let a = c .before .before .before .before .before .before .before .args in
-    let l = drop (a .e .zonesat) (now (a .s)) in
+    let l = drop (a .e .«zones_at») (now (a .s)) in
     zone-answer (drop (8 * a .k) l) _ _ (c .before .be32 .ensures ∙ ap (number 4) (c .before .before .before .after .ensures)) (c .be322 .ensures ∙ ap (number 4) (c .before .before .after2 .ensures ∙ ap (drop 4) (c .before .before .before .after .ensures)))
     ∙ sym (items-at zoneOf 8 blankZone (a .e .zones) (a .k) l (c .before .before .before .before .if1 .taken))
 
@@ -37,7 +37,7 @@ returns-2 : tie.Need-returns-2
 unfolding zoneIn
 returns-2 c =
     let a = c .before .before .before .args in
-    sym (items-past zoneOf 8 blankZone (a .e .zones) (a .k) (drop (a .e .zonesat) (now (a .s))) (c .if1 .left))
+    sym (items-past zoneOf 8 blankZone (a .e .zones) (a .k) (drop (a .e .«zones_at») (now (a .s))) (c .if1 .left))
 
 pub zone-in-spec : {M : Type 1} → statement M
 zone-in-spec =

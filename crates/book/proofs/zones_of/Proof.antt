@@ -2,7 +2,7 @@ use Prim.Native.Nat.{min}
 use mathlib.Core.Path.{_≡_}
 use native.Mathlib.Omega.{arith}
 use denote.Ref.{now}
-use Rattle.data.specs.Engine.{blankZone}
+use Rattle.engine_value.specs.Engine.{blankZone}
 use Rattle.book.specs.Answers.{entrySegment, zoneIn, zonesOf}
 use Rattle.book.proofs.Entries.{filled-four}
 use borrow.Author.Needs.{needs}

@@ -45,7 +45,7 @@ loop-again c = (omega arith, c .or-in-zone .ensures ∙ rw (c .before .before .b
 returns : tie.Need-returns Inv-loop μ-loop
 returns c =
     let s = c .before .before .before .args .t1 in
-    let e : c .before .loop .i ≡ min (s .zonecount) 4 = omega (arith, c .before .before .at-most .ensures) in
+    let e : c .before .loop .i ≡ min (s .«zone_count») 4 = omega (arith, c .before .before .at-most .ensures) in
     c .before .loop .inv .1 ∙ ap (λ k. inZones (s .zones) k (c .before .before .before .args .offset)) e
 
 pub in-zones-spec : {M : Type 1} → statement M

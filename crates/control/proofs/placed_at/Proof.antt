@@ -1,7 +1,7 @@
 use mathlib.Core.Path.{_≡_, sym, ap, _∙_}
 use native.Mathlib.Omega.{arith}
 use lib.ListN.{length, length-map, List·getD-eq-default}
-use Rattle.data.specs.Engine.{blankPoint}
+use Rattle.engine_value.specs.Engine.{blankPoint}
 use borrow.Author.Needs.{needs}
 use Rattle.control.proofs.placed_at.Statement.{statement}
 use Rattle.control.proofs.placed_at.Tie as tie

@@ -2,7 +2,7 @@ use mathlib.Core.Path.{sym, _∙_}
 use borrow.Author.Tests.{eq-eqb, ne-eqb}
 use mathlib.Core.Path.{ap₂}
 use Rattle.control.specs.Numbers.{powerRows}
-use Rattle.control.specs.Laws.{same-state}
+use Rattle.control.proofs.CodeLaws.{same-state}
 use Rattle.control.specs.declared.State.the-variants.{NP}
 use borrow.Author.Needs.{needs}
 use Rattle.control.proofs.power_row.Statement.{statement}

@@ -1,10 +1,19 @@
-use mathlib.Core.Path.{sym, ap, _∙_}
-use mathlib.Core.Bool.{false}
-use Rattle.control.specs.States.{machine, settled}
-use Rattle.control.proofs.Laws.{settled-plain}
+use mathlib.Core.Path.{_≡_, sym, ap, _∙_}
+use mathlib.Core.Bool.{Bool, false}
+use Rattle.event.specs.declared.Row.{Row}
+use Rattle.control.specs.States.{machine, byRow, settled}
+use Rattle.control.specs.declared.Values.{Values}
+use Rattle.control.specs.declared.Machine.{Machine}
 use borrow.Author.Needs.{needs}
 use Rattle.control.proofs.settled.Statement.{statement}
 use Rattle.control.proofs.settled.Tie as tie
+
+-- the row that the code has, w, is the event's, x
+by-rows : (m : Machine) (r : Bool) (v : Values) {z : Machine} {w x y : Row} → z ≡ byRow m y r v → w ≡ x → w ≡ y → z ≡ byRow m x r v
+by-rows m r v z q e = z ∙ ap (λ k. byRow m k r v) (sym e ∙ q)
+
+row-of-requires : tie.Need-row-of-requires
+row-of-requires c κs = search needs
 
 enum-told : tie.Need-enum-told
 enum-told c = search needs
@@ -39,36 +48,41 @@ enum-told-5 c = search needs
 by-state-requires : tie.Need-by-state-requires
 by-state-requires c κs = search needs
 
+enum-told-6 : tie.Need-enum-told-6
+enum-told-6 c = search needs
+
 by-state-requires-2 : tie.Need-by-state-requires-2
 by-state-requires-2 c κs = search needs
 
 returns : tie.Need-returns
 unfolding settled
-returns c = c .at-rest .ensures ∙ sym (ap (λ e. settled (c .before .before .before .args .m) e (c .before .before .before .args .reached) (c .before .before .before .args .v)) (c .before .enum-told .given .1))
+returns c = by-rows (c .before .before .before .before .args .m) (c .before .before .before .before .args .reached) (c .before .before .before .before .args .v) (c .at-rest .ensures) (c .before .before .before .row-of .ensures) (c .before .enum-told .given .1)
 
 returns-2 : tie.Need-returns-2
 unfolding settled
-returns-2 c = c .at-rest2 .ensures ∙ ap (λ s. machine s false) (c .before .u .ensures) ∙ sym (ap (λ e. settled (c .before .before .before .before .args .m) e (c .before .before .before .before .args .reached) (c .before .before .before .before .args .v)) (c .before .before .enum-told2 .given .1))
+returns-2 c = by-rows (c .before .before .before .before .before .args .m) (c .before .before .before .before .before .args .reached) (c .before .before .before .before .before .args .v) (c .at-rest2 .ensures ∙ ap (λ s. machine s false) (c .before .u .ensures)) (c .before .before .before .before .row-of .ensures) (c .before .before .enum-told2 .given .1)
 
 returns-3 : tie.Need-returns-3
 unfolding settled
-returns-3 c = c .at-rest3 .ensures ∙ sym (ap (λ e. settled (c .before .before .before .args .m) e (c .before .before .before .args .reached) (c .before .before .before .args .v)) (c .before .enum-told3 .given .1))
+returns-3 c = by-rows (c .before .before .before .before .args .m) (c .before .before .before .before .args .reached) (c .before .before .before .before .args .v) (c .at-rest3 .ensures) (c .before .before .before .row-of .ensures) (c .before .enum-told3 .given .1)
 
 returns-4 : tie.Need-returns-4
 unfolding settled
-returns-4 c = c .at-rest4 .ensures ∙ sym (ap (λ e. settled (c .before .before .before .args .m) e (c .before .before .before .args .reached) (c .before .before .before .args .v)) (c .before .enum-told4 .given .1))
+returns-4 c = by-rows (c .before .before .before .before .args .m) (c .before .before .before .before .args .reached) (c .before .before .before .before .args .v) (c .at-rest4 .ensures) (c .before .before .before .row-of .ensures) (c .before .enum-told4 .given .1)
 
 returns-5 : tie.Need-returns-5
 unfolding settled
-returns-5 c = c .by-state .ensures ∙ sym (ap (λ e. settled (c .before .before .before .args .m) e (c .before .before .before .args .reached) (c .before .before .before .args .v)) (c .before .enum-told5 .given .1))
+returns-5 c = by-rows (c .before .before .before .before .args .m) (c .before .before .before .before .args .reached) (c .before .before .before .before .args .v) (c .by-state .ensures) (c .before .before .before .row-of .ensures) (c .before .enum-told5 .given .1)
 
 returns-6 : tie.Need-returns-6
-returns-6 c = c .by-state2 .ensures ∙ settled-plain (c .before .before .args .m) (c .before .before .args .event) (c .before .before .args .reached) (c .before .before .args .v) (c .before .match .keys6)
+unfolding settled
+returns-6 c = by-rows (c .before .before .before .before .args .m) (c .before .before .before .before .args .reached) (c .before .before .before .before .args .v) (c .by-state2 .ensures) (c .before .before .before .row-of .ensures) (c .before .enum-told6 .given .1)
 
 pub settled-spec : {M : Type 1} → statement M
 settled-spec =
     tie.close
     (tie.spec
+    row-of-requires
     enum-told
     at-rest-requires
     enum-told-2
@@ -80,6 +94,7 @@ settled-spec =
     at-rest-requires-4
     enum-told-5
     by-state-requires
+    enum-told-6
     by-state-requires-2
     returns
     returns-2

@@ -2,7 +2,7 @@ use mathlib.Core.Path.{sym, _∙_}
 use borrow.Author.Tests.{eq-eqb, ne-eqb}
 use mathlib.Core.Path.{ap₂}
 use Rattle.control.specs.Numbers.{stateRow}
-use Rattle.control.specs.Laws.{same-state}
+use Rattle.control.proofs.CodeLaws.{same-state}
 use Rattle.control.specs.declared.State.the-variants.{CO}
 use borrow.Author.Needs.{needs}
 use Rattle.control.proofs.state_row.Statement.{statement}

@@ -6,8 +6,8 @@ use mathlib.Core.Logic.{⊎-elim}
 use lib.ListN.{length, length-map, set, drop, replicate}
 use native.Mathlib.Omega.{arith}
 use borrow.Author.Needs.{needs}
-use Rattle.data.specs.Engine.{blankPoint, blankSegment}
-use Rattle.engine.specs.Laws.{clear-more, clear-within, clear-past, clear-all}
+use Rattle.engine_value.specs.Engine.{blankPoint, blankSegment}
+use Rattle.engine.proofs.Rows.{clear-more, clear-within, clear-past, clear-all}
 use Rattle.engine.proofs.blank_arrays.Statement.{statement}
 use Rattle.engine.proofs.blank_arrays.Tie as tie
 

@@ -1,6 +1,6 @@
 use mathlib.Core.Bool.{false}
 use mathlib.Core.Path.{ap₂}
-use Rattle.data.specs.Engine.{noLoad, noSkips, progress, freshPosition}
+use Rattle.engine_value.specs.Engine.{noLoad, noSkips, progress, freshPosition}
 use borrow.Author.Needs.{needs}
 use Rattle.engine.proofs.cleared.Statement.{statement}
 use Rattle.engine.proofs.cleared.Tie as tie

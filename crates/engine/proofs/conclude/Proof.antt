@@ -1,4 +1,4 @@
-use Rattle.engine.specs.Laws.{Decided, decided, concluded-16, concluded}
+use Rattle.engine.proofs.Rows.{Decided, decided, concluded-16, concluded}
 use borrow.Author.Needs.{needs}
 use Rattle.engine.proofs.conclude.Statement.{statement}
 use Rattle.engine.proofs.conclude.Tie as tie

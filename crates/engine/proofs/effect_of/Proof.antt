@@ -1,9 +1,9 @@
 use denote.Ref.{now}
 use mathlib.Core.Path.{refl, sym, ap, subst}
-use Rattle.data.specs.Engine.{fresh}
-use Rattle.model.specs.Effect.{effect}
-use Rattle.engine.specs.Seen.{Gives}
-use Rattle.engine.specs.Laws.{gives-quiet}
+use Rattle.engine_value.specs.Engine.{fresh}
+use Rattle.call.specs.Effect.{effect}
+use Rattle.engine.specs.View.{Gives}
+use Rattle.engine.proofs.Rows.{gives-values-only}
 use borrow.Author.Needs.{needs}
 use Rattle.engine.proofs.effect_of.Statement.{statement}
 use Rattle.engine.proofs.effect_of.Tie as tie
@@ -107,42 +107,42 @@ skip-requires-2 c κs = search needs
 returns : tie.Need-returns
 unfolding effect
 returns c = let s = c .before .before .before .before .before in
-    gives-quiet _ (s .args .e) _ _ _ (c .plain .ensures) refl (s .pre) (sym (ap (effect (s .args .e) (now (s .args .journey)) (now (s .args .book))) (c .before .enum-told .given .1)))
+    gives-values-only _ (s .args .e) _ _ _ (c .plain .ensures) refl (s .pre) (sym (ap (effect (s .args .e) (now (s .args .journey)) (now (s .args .book))) (c .before .enum-told .given .1)))
 
 returns-2 : tie.Need-returns-2
 unfolding effect
 returns-2 c = let s = c .before .before .before .before .before in
-    gives-quiet _ (s .args .e) _ _ _ (c .plain2 .ensures) refl (s .pre) (sym (ap (effect (s .args .e) (now (s .args .journey)) (now (s .args .book))) (c .before .enum-told2 .given .1)))
+    gives-values-only _ (s .args .e) _ _ _ (c .plain2 .ensures) refl (s .pre) (sym (ap (effect (s .args .e) (now (s .args .journey)) (now (s .args .book))) (c .before .enum-told2 .given .1)))
 
 returns-3 : tie.Need-returns-3
 unfolding effect
 returns-3 c = let s = c .before .before .before .before .before .before .before in
-    gives-quiet _ fresh _ _ _ (c .plain3 .ensures) (c .before .before .cleared .ensures) (c .before .fresh-view .ensures) (sym (ap (effect (s .args .e) (now (s .args .journey)) (now (s .args .book))) (c .before .before .before .enum-told3 .given .1)))
+    gives-values-only _ fresh _ _ _ (c .plain3 .ensures) (c .before .before .cleared .ensures) (c .before .fresh-view .ensures) (sym (ap (effect (s .args .e) (now (s .args .journey)) (now (s .args .book))) (c .before .before .before .enum-told3 .given .1)))
 
 returns-4 : tie.Need-returns-4
 unfolding effect
 returns-4 c = let s = c .before .before .before .before .before in
-    gives-quiet _ (s .args .e) _ _ _ (c .plain4 .ensures) refl (s .pre) (sym (ap (effect (s .args .e) (now (s .args .journey)) (now (s .args .book))) (c .before .enum-told4 .given .1)))
+    gives-values-only _ (s .args .e) _ _ _ (c .plain4 .ensures) refl (s .pre) (sym (ap (effect (s .args .e) (now (s .args .journey)) (now (s .args .book))) (c .before .enum-told4 .given .1)))
 
 returns-5 : tie.Need-returns-5
 unfolding effect
 returns-5 c = let s = c .before .before .before .before .before .before .before in
-    gives-quiet _ _ _ _ _ (c .plain5 .ensures) (c .before .with-reports .ensures) (s .pre) (sym (ap (effect (s .args .e) (now (s .args .journey)) (now (s .args .book))) (c .before .before .before .v .given .1)))
+    gives-values-only _ _ _ _ _ (c .plain5 .ensures) (c .before .with-reports .ensures) (s .pre) (sym (ap (effect (s .args .e) (now (s .args .journey)) (now (s .args .book))) (c .before .before .before .v .given .1)))
 
 returns-6 : tie.Need-returns-6
 unfolding effect
 returns-6 c = let s = c .before .before .before .before .before .before .before in
-    gives-quiet _ _ _ _ _ (c .plain6 .ensures) (c .before .with-mode .ensures) (s .pre) (sym (ap (effect (s .args .e) (now (s .args .journey)) (now (s .args .book))) (c .before .before .before .v2 .given .1)))
+    gives-values-only _ _ _ _ _ (c .plain6 .ensures) (c .before .with-mode .ensures) (s .pre) (sym (ap (effect (s .args .e) (now (s .args .journey)) (now (s .args .book))) (c .before .before .before .v2 .given .1)))
 
 returns-7 : tie.Need-returns-7
 unfolding effect
 returns-7 c = let s = c .before .before .before .before .before .before .before in
-    gives-quiet _ _ _ _ _ (c .plain7 .ensures) (c .before .with-lever .ensures) (s .pre) (sym (ap (effect (s .args .e) (now (s .args .journey)) (now (s .args .book))) (c .before .before .before .v3 .given .1)))
+    gives-values-only _ _ _ _ _ (c .plain7 .ensures) (c .before .with-lever .ensures) (s .pre) (sym (ap (effect (s .args .e) (now (s .args .journey)) (now (s .args .book))) (c .before .before .before .v3 .given .1)))
 
 returns-8 : tie.Need-returns-8
 unfolding effect
 returns-8 c = let s = c .before .before .before .before .before in
-    gives-quiet _ (s .args .e) _ _ _ (c .plain8 .ensures) refl (s .pre) (sym (ap (effect (s .args .e) (now (s .args .journey)) (now (s .args .book))) (c .before .enum-told5 .given .1)))
+    gives-values-only _ (s .args .e) _ _ _ (c .plain8 .ensures) refl (s .pre) (sym (ap (effect (s .args .e) (now (s .args .journey)) (now (s .args .book))) (c .before .enum-told5 .given .1)))
 
 returns-9 : tie.Need-returns-9
 unfolding effect
@@ -152,7 +152,7 @@ returns-9 c = let s = c .before .before .before .before .before .before in
 returns-10 : tie.Need-returns-10
 unfolding effect
 returns-10 c = let s = c .before .before .before .before .before .before .before in
-    gives-quiet _ _ _ _ _ (c .plain9 .ensures) (c .before .with-length .ensures) (s .pre) (sym (ap (effect (s .args .e) (now (s .args .journey)) (now (s .args .book))) (c .before .before .before .v5 .given .1)))
+    gives-values-only _ _ _ _ _ (c .plain9 .ensures) (c .before .with-length .ensures) (s .pre) (sym (ap (effect (s .args .e) (now (s .args .journey)) (now (s .args .book))) (c .before .before .before .v5 .given .1)))
 
 returns-11 : tie.Need-returns-11
 unfolding effect

@@ -2,10 +2,10 @@ use denote.Ref.{now}
 use mathlib.Core.Bool.{false}
 use mathlib.Core.Path.{ap, _∙_}
 use borrow.Author.Tests.{ne-eqb}
-use Rattle.data.specs.Engine.{routeIn, progress, withProgress}
-use Rattle.data.specs.declared.Engine.{Engine}
+use Rattle.engine_value.specs.Engine.{routeIn, progress, withProgress}
+use Rattle.engine_value.specs.declared.Engine.{Engine}
 use Rattle.timing.specs.Load.{target}
-use Rattle.engine.specs.Laws.{gives-number, load-number, load-taken}
+use Rattle.engine.proofs.Rows.{gives-number, load-number, load-taken}
 use borrow.Author.Needs.{needs}
 use Rattle.engine.proofs.load.Statement.{statement}
 use Rattle.engine.proofs.load.Tie as tie

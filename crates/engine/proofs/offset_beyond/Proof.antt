@@ -1,6 +1,6 @@
 use mathlib.Core.Path.{sym}
 use borrow.Author.Tests.{not-true, not-false}
-use Rattle.engine.specs.Laws.{beyond-undefined, beyond-missing, beyond-booked, beyond-unbooked}
+use Rattle.engine.proofs.Rows.{beyond-undefined, beyond-missing, beyond-booked, beyond-unbooked}
 use Rattle.engine.proofs.offset_beyond.Statement.{statement}
 use Rattle.engine.proofs.offset_beyond.Tie as tie
 

@@ -1,5 +1,5 @@
 use mathlib.Core.Path.{sym, ap, _∙_}
-use Rattle.data.specs.Engine.{routeIn}
+use Rattle.engine_value.specs.Engine.{routeIn}
 use Rattle.timing.specs.Position.{placed}
 use borrow.Author.Needs.{needs}
 use Rattle.engine.proofs.placed_after.Statement.{statement}

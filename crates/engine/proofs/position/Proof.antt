@@ -1,16 +1,16 @@
 use mathlib.Core.Path.{_≡_, refl, sym, ap, ap₂, _∙_}
-use Rattle.data.specs.Engine.{routeIn}
-use Rattle.data.specs.declared.Position.{Position}
-use Rattle.data.specs.declared.Engine.{Engine}
+use Rattle.engine_value.specs.Engine.{routeIn}
+use Rattle.engine_value.specs.declared.Position.{Position}
+use Rattle.engine_value.specs.declared.Engine.{Engine}
 use Rattle.timing.specs.Position.{placed}
 use Rattle.timing.specs.Seen.{segmentIn}
 use Rattle.timing.specs.declared.Reported.{Reported}
 use Rattle.control.specs.Seen.{viewBy}
 use Rattle.control.specs.declared.View.{View}
 use Rattle.control.proofs.Laws.{view-is}
-use Rattle.model.specs.Effect.{offsetBeyond}
-use Rattle.engine.specs.Seen.{beyondBy}
-use Rattle.engine.specs.Laws.{gives-number, beyond-is, position-13, position-reported}
+use Rattle.call.specs.Effect.{offsetBeyond}
+use Rattle.engine.specs.View.{beyondBy}
+use Rattle.engine.proofs.Rows.{gives-number, beyond-is, position-13, position-reported}
 use borrow.Author.Needs.{needs}
 use Rattle.engine.proofs.position.Statement.{statement}
 use Rattle.engine.proofs.position.Tie as tie

@@ -1,8 +1,8 @@
 use mathlib.Core.Path.{refl, sym, ap, subst, _∙_}
 use Rattle.timing.specs.Position.{IndexBelow}
-use Rattle.model.specs.Effect.{skipEffect}
-use Rattle.engine.specs.Seen.{Gives}
-use Rattle.engine.specs.Laws.{gives-number}
+use Rattle.call.specs.Effect.{skipEffect}
+use Rattle.engine.specs.View.{Gives}
+use Rattle.engine.proofs.Rows.{gives-number}
 use borrow.Author.Needs.{needs}
 use Rattle.engine.proofs.skip.Statement.{statement}
 use Rattle.engine.proofs.skip.Tie as tie

@@ -1,7 +1,7 @@
 use Prim.Native.Nat.{ℕ}
 use mathlib.Core.Path.{refl, sym, ap, _∙_}
-use Rattle.engine.specs.Seen.{oneChange}
-use Rattle.engine.specs.Laws.{gives-number, skip-behind, skip-same, skip-taken}
+use Rattle.engine.specs.View.{oneChange}
+use Rattle.engine.proofs.Rows.{gives-number, skip-behind, skip-same, skip-taken}
 use borrow.Author.Needs.{needs}
 use Rattle.engine.proofs.skip_at.Statement.{statement}
 use Rattle.engine.proofs.skip_at.Tie as tie

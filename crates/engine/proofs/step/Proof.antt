@@ -1,9 +1,9 @@
 use denote.Ref.{now}
 use mathlib.Core.Path.{sym, ap, _∙_}
-use Rattle.event.specs.Events.{eventSeen}
-use Rattle.model.specs.Call.{stepOf}
-use Rattle.engine.specs.Seen.{call}
-use Rattle.engine.specs.Laws.{rows-read, rows-unread, steps-refused, steps-by}
+use Rattle.event.specs.Events.{eventView}
+use Rattle.call.specs.Call.{stepOf}
+use Rattle.engine.specs.View.{call}
+use Rattle.engine.proofs.Rows.{rows-read, rows-unread, steps-refused, steps-by}
 use borrow.Author.Needs.{needs}
 use Rattle.engine.proofs.step.Statement.{statement}
 use Rattle.engine.proofs.step.Tie as tie
@@ -33,7 +33,7 @@ returns c =
     let v = t .before .before .before in
     let r = v .before .before in
     let a = r .before .before .before .before .before .args in
-    steps-by (a .e) (now (a .out)) _ _ _ _ (rows-read (a .e) (call (now (a .event)) (now (a .journey)) (now (a .book)) (now (a .out))) _ (sym (r .read-event .ensures) ∙ ap eventSeen (v .v .given .1))) (t .take .ensures)
+    steps-by (a .e) (now (a .out)) _ _ _ _ (rows-read (a .e) (call (now (a .event)) (now (a .journey)) (now (a .book)) (now (a .out))) _ (sym (r .read-event .ensures) ∙ ap eventView (v .v .given .1))) (t .take .ensures)
 
 returns-2 : tie.Need-returns-2
 unfolding stepOf
@@ -41,7 +41,7 @@ returns-2 c =
     let n = c .before .before in
     let r = n .before .before in
     let a = r .before .before .before .before .before .args in
-    steps-refused (a .e) (now (a .out)) _ _ _ (rows-unread (a .e) (call (now (a .event)) (now (a .journey)) (now (a .book)) (now (a .out))) _ (sym (r .read-event .ensures) ∙ ap eventSeen (n .n .given .1))) (c .refused .ensures)
+    steps-refused (a .e) (now (a .out)) _ _ _ (rows-unread (a .e) (call (now (a .event)) (now (a .journey)) (now (a .book)) (now (a .out))) _ (sym (r .read-event .ensures) ∙ ap eventView (n .n .given .1))) (c .refused .ensures)
 
 pub step-spec : {M : Type 1} → statement M
 step-spec =

@@ -1,17 +1,17 @@
 use denote.Ref.{now}
 use mathlib.Core.Path.{_≡_, ap₂, _∙_}
-use Rattle.event.specs.Events.{kindOf}
+use Rattle.event.specs.Kinds.{kindOf}
 use Rattle.control.specs.Codes.{stateAt}
 use Rattle.control.specs.Seen.{viewBy}
 use Rattle.control.proofs.Laws.{view-is}
-use Rattle.control.specs.Numbers.{judged, stateRows}
-use Rattle.engine.specs.Seen.{viewOf}
-use Rattle.engine.specs.Laws.{rows-number, rows-effect, rows-output, steps-refused, steps-by}
+use Rattle.control.specs.Numbers.{rowView, stateRows}
+use Rattle.engine.specs.View.{viewOf}
+use Rattle.engine.proofs.Rows.{rows-number, rows-effect, rows-output, steps-refused, steps-by}
 use borrow.Author.Needs.{needs}
 use Rattle.engine.proofs.take.Statement.{statement}
 use Rattle.engine.proofs.take.Tie as tie
 
-numbered : (c : tie.After-power-number) → let a = c .before .before .before .before .before .before .args in judged (c .power-number .result) ≡ stateRows (stateAt (a .e .control .state)) (kindOf (a .v))
+numbered : (c : tie.After-power-number) → let a = c .before .before .before .before .before .before .args in rowView (c .power-number .result) ≡ stateRows (stateAt (a .e .control .state)) (kindOf (a .v))
 numbered c = c .power-number .ensures ∙ ap₂ stateRows (c .before .before .state-at .ensures) (c .before .kind-of .ensures)
 
 viewed : (c : tie.After-view-by) → let a = c .before .before .before .before .before .before .before .before .before .before .args in c .view-by .result ≡ viewOf (a .e)

@@ -1,6 +1,6 @@
 use denote.Ref.{now}
 use mathlib.Core.Path.{_∙_, sym, ap}
-use Rattle.event.specs.Events.{numberSeen}
+use Rattle.event.specs.Events.{numberView}
 use Rattle.event.specs.declared.Event.the-variants.{Length}
 use Rattle.event.proofs.Carried.{carries-number}
 use borrow.Author.Needs.{needs}
@@ -17,10 +17,10 @@ enum-known-k : tie.Need-enum-known-k
 enum-known-k c = search needs
 
 returns : tie.Need-returns
-returns c = sym (carries-number Length 4 4 1 100000 (now (c .before .before .before .before .before .args .s)) _ (sym (c .before .before .before .read-number .ensures) ∙ ap numberSeen (c .before .n .given .1)))
+returns c = sym (carries-number Length 4 4 1 100000 (now (c .before .before .before .before .before .args .s)) _ (sym (c .before .before .before .read-number .ensures) ∙ ap numberView (c .before .n .given .1)))
 
 returns-2 : tie.Need-returns-2
-returns-2 c = sym (carries-number Length 4 4 1 100000 (now (c .before .before .before .before .before .args .s)) _ (sym (c .before .before .before .read-number .ensures) ∙ ap numberSeen (c .before .k .given .1)))
+returns-2 c = sym (carries-number Length 4 4 1 100000 (now (c .before .before .before .before .before .args .s)) _ (sym (c .before .before .before .read-number .ensures) ∙ ap numberView (c .before .k .given .1)))
 
 pub read-length-spec : {M : Type 1} → statement M
 read-length-spec =

@@ -2,8 +2,8 @@ use denote.Ref.{now}
 use mathlib.Core.Path.{_∙_, sym, ap}
 use native.Mathlib.Omega.{arith}
 use borrow.Author.Tests.{eq-eqb, ne-eqb}
-use Rattle.wire.specs.Parse.{fieldSeen}
-use Rattle.wire.specs.ParseLaws.{field-inv}
+use Rattle.wire.specs.Parse.{fieldView}
+use Rattle.wire.proofs.ReaderLaws.{field-inv}
 use Rattle.event.specs.Events.{carries, positioned}
 use borrow.Author.Needs.{needs}
 use Rattle.event.proofs.read_report.Statement.{statement}
@@ -26,7 +26,7 @@ returns-2 : tie.Need-returns-2
 unfolding carries positioned
 returns-2 c =
     let s = now (c .before .before .before .before .before .args .s) in
-    let e1 = sym (c .before .before .read-field .ensures) ∙ ap (fieldSeen s) (c .enum-told .given .1) in
+    let e1 = sym (c .before .before .read-field .ensures) ∙ ap (fieldView s) (c .enum-told .given .1) in
     rw (eq-eqb _ _ (c .before .before .before .if1 .left), e1)
 
 read-field-requires-2 : tie.Need-read-field-requires-2
@@ -42,8 +42,8 @@ returns-3 : tie.Need-returns-3
 unfolding carries positioned
 returns-3 c =
     let s = now (c .before .before .before .before .before .before .before .before .before .args .s) in
-    let e1 = sym (c .before .before .before .before .before .before .read-field .ensures) ∙ ap (fieldSeen s) (c .before .before .before .before .nidc .given .1) in
-    let e2 = sym (c .before .before .read-field2 .ensures) ∙ ap (fieldSeen s) (c .enum-told2 .given .1) in
+    let e1 = sym (c .before .before .before .before .before .before .read-field .ensures) ∙ ap (fieldView s) (c .before .before .before .before .nidc .given .1) in
+    let e2 = sym (c .before .before .read-field2 .ensures) ∙ ap (fieldView s) (c .enum-told2 .given .1) in
     rw (eq-eqb _ _ (c .before .before .before .before .before .before .before .if1 .left), e1, e2)
 
 read-field-requires-3 : tie.Need-read-field-requires-3
@@ -59,9 +59,9 @@ returns-4 : tie.Need-returns-4
 unfolding carries positioned
 returns-4 c =
     let s = now (c .before .before .before .before .before .before .before .before .before .before .before .before .before .args .s) in
-    let e1 = sym (c .before .before .before .before .before .before .before .before .before .before .read-field .ensures) ∙ ap (fieldSeen s) (c .before .before .before .before .before .before .before .before .nidc .given .1) in
-    let e2 = sym (c .before .before .before .before .before .before .read-field2 .ensures) ∙ ap (fieldSeen s) (c .before .before .before .before .nidsp .given .1) in
-    let e3 = sym (c .before .before .read-field3 .ensures) ∙ ap (fieldSeen s) (c .enum-told3 .given .1) in
+    let e1 = sym (c .before .before .before .before .before .before .before .before .before .before .read-field .ensures) ∙ ap (fieldView s) (c .before .before .before .before .before .before .before .before .nidc .given .1) in
+    let e2 = sym (c .before .before .before .before .before .before .read-field2 .ensures) ∙ ap (fieldView s) (c .before .before .before .before .nidsp .given .1) in
+    let e3 = sym (c .before .before .read-field3 .ensures) ∙ ap (fieldView s) (c .enum-told3 .given .1) in
     rw (eq-eqb _ _ (c .before .before .before .before .before .before .before .before .before .before .before .if1 .left), e1, e2, e3)
 
 read-field-requires-4 : tie.Need-read-field-requires-4
@@ -77,32 +77,32 @@ returns-5 : tie.Need-returns-5
 unfolding carries positioned
 returns-5 c =
     let s = now (c .before .before .before .before .before .before .before .before .before .before .before .before .before .before .before .before .before .args .s) in
-    let e1 = sym (c .before .before .before .before .before .before .before .before .before .before .before .before .before .before .read-field .ensures) ∙ ap (fieldSeen s) (c .before .before .before .before .before .before .before .before .before .before .before .before .nidc .given .1) in
-    let e2 = sym (c .before .before .before .before .before .before .before .before .before .before .read-field2 .ensures) ∙ ap (fieldSeen s) (c .before .before .before .before .before .before .before .before .nidsp .given .1) in
-    let e3 = sym (c .before .before .before .before .before .before .read-field3 .ensures) ∙ ap (fieldSeen s) (c .before .before .before .before .offset .given .1) in
-    let e4 = sym (c .before .before .read-field4 .ensures) ∙ ap (fieldSeen s) (c .enum-told4 .given .1) in
+    let e1 = sym (c .before .before .before .before .before .before .before .before .before .before .before .before .before .before .read-field .ensures) ∙ ap (fieldView s) (c .before .before .before .before .before .before .before .before .before .before .before .before .nidc .given .1) in
+    let e2 = sym (c .before .before .before .before .before .before .before .before .before .before .read-field2 .ensures) ∙ ap (fieldView s) (c .before .before .before .before .before .before .before .before .nidsp .given .1) in
+    let e3 = sym (c .before .before .before .before .before .before .read-field3 .ensures) ∙ ap (fieldView s) (c .before .before .before .before .offset .given .1) in
+    let e4 = sym (c .before .before .read-field4 .ensures) ∙ ap (fieldView s) (c .enum-told4 .given .1) in
     rw (eq-eqb _ _ (c .before .before .before .before .before .before .before .before .before .before .before .before .before .before .before .if1 .left), e1, e2, e3, e4)
 
 cast-t16 : tie.Need-cast-t16
 cast-t16 c =
     let s = now (c .before .before .before .before .before .before .before .before .before .before .before .before .before .before .before .before .before .before .args .s) in
-    let e1 = sym (c .before .before .before .before .before .before .before .before .before .before .before .before .before .before .before .read-field .ensures) ∙ ap (fieldSeen s) (c .before .before .before .before .before .before .before .before .before .before .before .before .before .nidc .given .1) in
+    let e1 = sym (c .before .before .before .before .before .before .before .before .before .before .before .before .before .before .before .read-field .ensures) ∙ ap (fieldView s) (c .before .before .before .before .before .before .before .before .before .before .before .before .before .nidc .given .1) in
     omega (arith, field-inv _ _ _ _ _ _ e1 .most)
 
 cast-t17 : tie.Need-cast-t17
 cast-t17 c =
     let s = now (c .before .before .before .before .before .before .before .before .before .before .before .before .before .before .before .before .before .before .args .s) in
-    let e1 = sym (c .before .before .before .read-field4 .ensures) ∙ ap (fieldSeen s) (c .before .speed .given .1) in
+    let e1 = sym (c .before .before .before .read-field4 .ensures) ∙ ap (fieldView s) (c .before .speed .given .1) in
     omega (arith, field-inv _ _ _ _ _ _ e1 .most)
 
 returns-6 : tie.Need-returns-6
 unfolding carries positioned
 returns-6 c =
     let s = now (c .before .before .before .before .before .before .before .before .before .before .before .before .before .before .before .before .before .before .args .s) in
-    let e1 = sym (c .before .before .before .before .before .before .before .before .before .before .before .before .before .before .before .read-field .ensures) ∙ ap (fieldSeen s) (c .before .before .before .before .before .before .before .before .before .before .before .before .before .nidc .given .1) in
-    let e2 = sym (c .before .before .before .before .before .before .before .before .before .before .before .read-field2 .ensures) ∙ ap (fieldSeen s) (c .before .before .before .before .before .before .before .before .before .nidsp .given .1) in
-    let e3 = sym (c .before .before .before .before .before .before .before .read-field3 .ensures) ∙ ap (fieldSeen s) (c .before .before .before .before .before .offset .given .1) in
-    let e4 = sym (c .before .before .before .read-field4 .ensures) ∙ ap (fieldSeen s) (c .before .speed .given .1) in
+    let e1 = sym (c .before .before .before .before .before .before .before .before .before .before .before .before .before .before .before .read-field .ensures) ∙ ap (fieldView s) (c .before .before .before .before .before .before .before .before .before .before .before .before .before .nidc .given .1) in
+    let e2 = sym (c .before .before .before .before .before .before .before .before .before .before .before .read-field2 .ensures) ∙ ap (fieldView s) (c .before .before .before .before .before .before .before .before .before .nidsp .given .1) in
+    let e3 = sym (c .before .before .before .before .before .before .before .read-field3 .ensures) ∙ ap (fieldView s) (c .before .before .before .before .before .offset .given .1) in
+    let e4 = sym (c .before .before .before .read-field4 .ensures) ∙ ap (fieldView s) (c .before .speed .given .1) in
     rw (eq-eqb _ _ (c .before .before .before .before .before .before .before .before .before .before .before .before .before .before .before .before .if1 .left), e1, e2, e3, e4)
 
 pub read-report-spec : {M : Type 1} → statement M

@@ -1,7 +1,7 @@
 use denote.Ref.{now}
 use mathlib.Core.Path.{_∙_, sym, ap}
-use Rattle.data.specs.Engine.{max4}
-use Rattle.event.specs.Events.{numberSeen}
+use Rattle.engine_value.specs.Engine.{max4}
+use Rattle.event.specs.Events.{numberView}
 use Rattle.event.specs.declared.Event.the-variants.{Skip}
 use Rattle.event.proofs.Carried.{carries-number}
 use borrow.Author.Needs.{needs}
@@ -18,10 +18,10 @@ enum-known-k : tie.Need-enum-known-k
 enum-known-k c = search needs
 
 returns : tie.Need-returns
-returns c = sym (carries-number Skip 4 4 0 max4 (now (c .before .before .before .before .before .args .s)) _ (sym (c .before .before .before .read-number .ensures) ∙ ap numberSeen (c .before .n .given .1)))
+returns c = sym (carries-number Skip 4 4 0 max4 (now (c .before .before .before .before .before .args .s)) _ (sym (c .before .before .before .read-number .ensures) ∙ ap numberView (c .before .n .given .1)))
 
 returns-2 : tie.Need-returns-2
-returns-2 c = sym (carries-number Skip 4 4 0 max4 (now (c .before .before .before .before .before .args .s)) _ (sym (c .before .before .before .read-number .ensures) ∙ ap numberSeen (c .before .k .given .1)))
+returns-2 c = sym (carries-number Skip 4 4 0 max4 (now (c .before .before .before .before .before .args .s)) _ (sym (c .before .before .before .read-number .ensures) ∙ ap numberView (c .before .k .given .1)))
 
 pub read-skip-spec : {M : Type 1} → statement M
 read-skip-spec =

@@ -36,14 +36,14 @@ use denote.Triple.Call.{calls-at}
 use denote.Triple.Clauses.{ensured, lasts}
 use denote.Triple.Table.{entered, cited}
 use denote.Triple.Walked.{says, Stays, stay-ref, walkOf, AllGo, goes-ref, Walks, ends-at, walked, walk-meets}
-use Rattle.data.specs.declared.Engine.{Engine}
-use Rattle.data.specs.Engine.{fresh}
-use Rattle.data.proofs.Engine as T
-use Rattle.data.proofs.Engine.Laws as T′
-use Rattle.data.proofs.fresh as step
-use Rattle.data.proofs.fresh.Symbol as step-def
-use Rattle.data.proofs.fresh.Symbol.{name as #step}
-use Rattle.data.proofs.fresh.Met as step-thm
+use Rattle.engine_value.specs.declared.Engine.{Engine}
+use Rattle.engine_value.specs.Engine.{fresh}
+use Rattle.engine_value.proofs.Engine as T
+use Rattle.engine_value.proofs.Engine.Laws as T′
+use Rattle.engine_value.proofs.fresh as step
+use Rattle.engine_value.proofs.fresh.Symbol as step-def
+use Rattle.engine_value.proofs.fresh.Symbol.{name as #step}
+use Rattle.engine_value.proofs.fresh.Met as step-thm
 use Rattle.host.proofs.hollwern_fresh.Key.{name as #fn}
 use Rattle.host.proofs.hollwern_fresh as f
 use Rattle.host.proofs.hollwern_fresh.Statement as stated
@@ -166,4 +166,4 @@ hollwern-fresh-spec 𝓤 H 𝓜 𝓖 𝓡 =
     entered 𝓤 H (tripleOf 𝓤 H (𝓖 .A) f.signature (f.spec 𝓤 H (𝓖 .A) (𝓜 .mem) (𝓡 .run)))
     (tables 𝓤 H 𝓜 𝓡 code.env .C) (tables 𝓤 H 𝓜 𝓡 code.env .Λ) #fn code.function (code.unfolded 𝓤 H 𝓜 𝓡)
     (meets 𝓤 H (𝓖 .A) (givenOf 𝓤 H 𝓜 𝓖) (𝓜 .mem) (𝓡 .run) (tablesOf 𝓤 H 𝓜 (tables 𝓤 H 𝓜 𝓡 code.env))
-    (cited 𝓤 H (Step 𝓤 H (𝓖 .A) (𝓜 .mem) (𝓡 .run)) 𝓜 𝓡 code.env #step step-def.routine code.calls-data·fresh (step-thm.met 𝓤 H 𝓜 𝓖 𝓡)))
+    (cited 𝓤 H (Step 𝓤 H (𝓖 .A) (𝓜 .mem) (𝓡 .run)) 𝓜 𝓡 code.env #step step-def.routine code.calls-engine-value·fresh (step-thm.met 𝓤 H 𝓜 𝓖 𝓡)))

@@ -38,14 +38,14 @@ use denote.Triple.Clauses.{ensured, lasts}
 use denote.Triple.Table.{entered, cited}
 use denote.Triple.Walked.{says, Stays, stay-dropped, walkOf, AllGo, goes-dropped, Walks, ends-at, walked, walk-meets}
 use denote.Exit.{yes}
-use Rattle.data.specs.declared.Engine.{Engine}
-use Rattle.model.specs.Shown.{requestIn}
-use Rattle.data.proofs.Engine as T
-use Rattle.data.proofs.Engine.Laws as T′
-use Rattle.model.proofs.request as step
-use Rattle.model.proofs.request.Symbol as step-def
-use Rattle.model.proofs.request.Symbol.{name as #step}
-use Rattle.model.proofs.request.Met as step-thm
+use Rattle.engine_value.specs.declared.Engine.{Engine}
+use Rattle.call.specs.Shown.{requestIn}
+use Rattle.engine_value.proofs.Engine as T
+use Rattle.engine_value.proofs.Engine.Laws as T′
+use Rattle.call.proofs.request as step
+use Rattle.call.proofs.request.Symbol as step-def
+use Rattle.call.proofs.request.Symbol.{name as #step}
+use Rattle.call.proofs.request.Met as step-thm
 use Rattle.host.proofs.hollwern_request.Key.{name as #fn}
 use Rattle.host.proofs.hollwern_request as f
 use Rattle.host.proofs.hollwern_request.Statement as stated
@@ -164,4 +164,4 @@ hollwern-request-spec 𝓤 H 𝓜 𝓖 𝓡 =
     entered 𝓤 H (tripleOf 𝓤 H (𝓖 .A) f.signature (f.spec 𝓤 H (𝓖 .A) (𝓜 .mem) (𝓡 .run)))
     (tables 𝓤 H 𝓜 𝓡 code.env .C) (tables 𝓤 H 𝓜 𝓡 code.env .Λ) #fn code.function (code.unfolded 𝓤 H 𝓜 𝓡)
     (meets 𝓤 H (𝓖 .A) (givenOf 𝓤 H 𝓜 𝓖) (𝓜 .mem) (𝓡 .run) (tablesOf 𝓤 H 𝓜 (tables 𝓤 H 𝓜 𝓡 code.env))
-    (cited 𝓤 H (Step 𝓤 H (𝓖 .A) (𝓜 .mem) (𝓡 .run)) 𝓜 𝓡 code.env #step step-def.routine code.calls-model·request (step-thm.met 𝓤 H 𝓜 𝓖 𝓡)))
+    (cited 𝓤 H (Step 𝓤 H (𝓖 .A) (𝓜 .mem) (𝓡 .run)) 𝓜 𝓡 code.env #step step-def.routine code.calls-call·request (step-thm.met 𝓤 H 𝓜 𝓖 𝓡)))

@@ -38,14 +38,14 @@ use denote.Triple.Clauses.{ensured, lasts}
 use denote.Triple.Table.{entered, cited}
 use denote.Triple.Walked.{says, Stays, stay-dropped, walkOf, AllGo, goes-dropped, Walks, ends-at, walked, walk-meets}
 use denote.Exit.{yes}
-use Rattle.data.specs.declared.Engine.{Engine}
-use Rattle.model.specs.Shown.{standingIn}
-use Rattle.data.proofs.Engine as T
-use Rattle.data.proofs.Engine.Laws as T′
-use Rattle.model.proofs.standing as step
-use Rattle.model.proofs.standing.Symbol as step-def
-use Rattle.model.proofs.standing.Symbol.{name as #step}
-use Rattle.model.proofs.standing.Met as step-thm
+use Rattle.engine_value.specs.declared.Engine.{Engine}
+use Rattle.call.specs.Shown.{standingIn}
+use Rattle.engine_value.proofs.Engine as T
+use Rattle.engine_value.proofs.Engine.Laws as T′
+use Rattle.call.proofs.standing as step
+use Rattle.call.proofs.standing.Symbol as step-def
+use Rattle.call.proofs.standing.Symbol.{name as #step}
+use Rattle.call.proofs.standing.Met as step-thm
 use Rattle.host.proofs.hollwern_standing.Key.{name as #fn}
 use Rattle.host.proofs.hollwern_standing as f
 use Rattle.host.proofs.hollwern_standing.Statement as stated
@@ -165,4 +165,4 @@ hollwern-standing-spec 𝓤 H 𝓜 𝓖 𝓡 =
     entered 𝓤 H (tripleOf 𝓤 H (𝓖 .A) f.signature (f.spec 𝓤 H (𝓖 .A) (𝓜 .mem) (𝓡 .run)))
     (tables 𝓤 H 𝓜 𝓡 code.env .C) (tables 𝓤 H 𝓜 𝓡 code.env .Λ) #fn code.function (code.unfolded 𝓤 H 𝓜 𝓡)
     (meets 𝓤 H (𝓖 .A) (givenOf 𝓤 H 𝓜 𝓖) (𝓜 .mem) (𝓡 .run) (tablesOf 𝓤 H 𝓜 (tables 𝓤 H 𝓜 𝓡 code.env))
-    (cited 𝓤 H (Step 𝓤 H (𝓖 .A) (𝓜 .mem) (𝓡 .run)) 𝓜 𝓡 code.env #step step-def.routine code.calls-model·standing (step-thm.met 𝓤 H 𝓜 𝓖 𝓡)))
+    (cited 𝓤 H (Step 𝓤 H (𝓖 .A) (𝓜 .mem) (𝓡 .run)) 𝓜 𝓡 code.env #step step-def.routine code.calls-call·standing (step-thm.met 𝓤 H 𝓜 𝓖 𝓡)))

@@ -40,12 +40,12 @@ use denote.Triple.Clauses.{ensured, lasts}
 use denote.Triple.Table.{entered, cited}
 use denote.Triple.Walked.{says, Stays, stay-ref, stay-dropped, gave-slice, walkOf, AllGo, goes-ref, goes-dropped, goes-gave-slice, Walks, ends-at, walked, walk-meets}
 use denote.Exit.{yes}
-use Rattle.data.specs.declared.Engine.{Engine}
+use Rattle.engine_value.specs.declared.Engine.{Engine}
 use Rattle.host.specs.declared.Answer.{Answer}
 use Rattle.host.specs.declared.Stepped.{Stepped}
 use Rattle.host.specs.Plain.{plainStep, memoryAfter}
-use Rattle.data.proofs.Engine as T
-use Rattle.data.proofs.Engine.Laws as T′
+use Rattle.engine_value.proofs.Engine as T
+use Rattle.engine_value.proofs.Engine.Laws as T′
 use Rattle.host.proofs.Answer as N
 use Rattle.host.proofs.Answer.Laws as N′
 use Rattle.host.proofs.Stepped as S

@@ -1,7 +1,7 @@
 use mathlib.Core.Path.{sym, ap}
 use borrow.Author.Needs.{needs}
-use Rattle.model.specs.Call.{answerOf}
-use Rattle.model.specs.declared.Answer as model
+use Rattle.call.specs.Call.{answerOf}
+use Rattle.call.specs.declared.Answer as model
 use Rattle.host.specs.Plain.{plainAnswer}
 use Rattle.host.proofs.plain.Statement.{statement}
 use Rattle.host.proofs.plain.Tie as tie

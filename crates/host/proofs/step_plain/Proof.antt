@@ -1,6 +1,6 @@
 use mathlib.Core.Path.{ap, ap₂, _∙_}
 use borrow.Author.Needs.{needs}
-use Rattle.data.specs.declared.Engine.{Engine}
+use Rattle.engine_value.specs.declared.Engine.{Engine}
 use Rattle.host.specs.declared.Answer.{Answer}
 use Rattle.host.specs.declared.Stepped.{Stepped}
 use Rattle.host.specs.Plain.{plainAnswer}

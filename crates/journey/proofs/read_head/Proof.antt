@@ -1,9 +1,9 @@
-use Rattle.journey.specs.Ranges.{optional-most}
+use Rattle.journey.proofs.Accepted.{optional-most}
 use denote.Ref.{now}
 use mathlib.Core.Path.{_∙_, sym, ap}
 use native.Mathlib.Omega.{arith}
-use Rattle.wire.specs.Parse.{fieldSeen}
-use Rattle.wire.specs.ParseLaws.{field-inv}
+use Rattle.wire.specs.Parse.{fieldView}
+use Rattle.wire.proofs.ReaderLaws.{field-inv}
 use Rattle.journey.specs.Journey.{headRecord}
 use borrow.Author.Needs.{needs}
 use Rattle.journey.proofs.read_head.Statement.{statement}
@@ -22,7 +22,7 @@ returns : tie.Need-returns
 unfolding headRecord
 returns c =
     let s = now (c .before .before .before .before .args .s) in
-    let e1 = sym (c .before .before .read-field .ensures) ∙ ap (fieldSeen s) (c .enum-told .given .1) in
+    let e1 = sym (c .before .before .read-field .ensures) ∙ ap (fieldView s) (c .enum-told .given .1) in
     rw (e1)
 
 head-map-requires : tie.Need-head-map-requires
@@ -41,9 +41,9 @@ returns-2 : tie.Need-returns-2
 unfolding headRecord
 returns-2 c =
     let s = now (c .before .before .before .before .before .before .before .before .before .before .args .s) in
-    let e1 = sym (c .before .before .before .before .before .before .before .before .read-field .ensures) ∙ ap (fieldSeen s) (c .before .before .before .before .before .before .map .given .1) in
+    let e1 = sym (c .before .before .before .before .before .before .before .before .read-field .ensures) ∙ ap (fieldView s) (c .before .before .before .before .before .before .map .given .1) in
     let e2 = sym (c .before .before .before .before .head-map .ensures) ∙ c .before .before .before .if1 .taken in
-    let e3 = sym (c .before .before .read-optional .ensures) ∙ ap (fieldSeen s) (c .enum-told2 .given .1) in
+    let e3 = sym (c .before .before .read-optional .ensures) ∙ ap (fieldView s) (c .enum-told2 .given .1) in
     rw (e1, e2, e3)
 
 read-field-requires-2 : tie.Need-read-field-requires-2
@@ -59,10 +59,10 @@ returns-3 : tie.Need-returns-3
 unfolding headRecord
 returns-3 c =
     let s = now (c .before .before .before .before .before .before .before .before .before .before .before .before .before .before .args .s) in
-    let e1 = sym (c .before .before .before .before .before .before .before .before .before .before .before .before .read-field .ensures) ∙ ap (fieldSeen s) (c .before .before .before .before .before .before .before .before .before .before .map .given .1) in
+    let e1 = sym (c .before .before .before .before .before .before .before .before .before .before .before .before .read-field .ensures) ∙ ap (fieldView s) (c .before .before .before .before .before .before .before .before .before .before .map .given .1) in
     let e2 = sym (c .before .before .before .before .before .before .before .before .head-map .ensures) ∙ c .before .before .before .before .before .before .before .if1 .taken in
-    let e3 = sym (c .before .before .before .before .before .before .read-optional .ensures) ∙ ap (fieldSeen s) (c .before .before .before .before .operational .given .1) in
-    let e4 = sym (c .before .before .read-field2 .ensures) ∙ ap (fieldSeen s) (c .enum-told3 .given .1) in
+    let e3 = sym (c .before .before .before .before .before .before .read-optional .ensures) ∙ ap (fieldView s) (c .before .before .before .before .operational .given .1) in
+    let e4 = sym (c .before .before .read-field2 .ensures) ∙ ap (fieldView s) (c .enum-told3 .given .1) in
     rw (e1, e2, e3, e4)
 
 read-field-requires-3 : tie.Need-read-field-requires-3
@@ -78,11 +78,11 @@ returns-4 : tie.Need-returns-4
 unfolding headRecord
 returns-4 c =
     let s = now (c .before .before .before .before .before .before .before .before .before .before .before .before .before .before .before .before .before .before .args .s) in
-    let e1 = sym (c .before .before .before .before .before .before .before .before .before .before .before .before .before .before .before .before .read-field .ensures) ∙ ap (fieldSeen s) (c .before .before .before .before .before .before .before .before .before .before .before .before .before .before .map .given .1) in
+    let e1 = sym (c .before .before .before .before .before .before .before .before .before .before .before .before .before .before .before .before .read-field .ensures) ∙ ap (fieldView s) (c .before .before .before .before .before .before .before .before .before .before .before .before .before .before .map .given .1) in
     let e2 = sym (c .before .before .before .before .before .before .before .before .before .before .before .before .head-map .ensures) ∙ c .before .before .before .before .before .before .before .before .before .before .before .if1 .taken in
-    let e3 = sym (c .before .before .before .before .before .before .before .before .before .before .read-optional .ensures) ∙ ap (fieldSeen s) (c .before .before .before .before .before .before .before .before .operational .given .1) in
-    let e4 = sym (c .before .before .before .before .before .before .read-field2 .ensures) ∙ ap (fieldSeen s) (c .before .before .before .before .date .given .1) in
-    let e5 = sym (c .before .before .read-field3 .ensures) ∙ ap (fieldSeen s) (c .enum-told4 .given .1) in
+    let e3 = sym (c .before .before .before .before .before .before .before .before .before .before .read-optional .ensures) ∙ ap (fieldView s) (c .before .before .before .before .before .before .before .before .operational .given .1) in
+    let e4 = sym (c .before .before .before .before .before .before .read-field2 .ensures) ∙ ap (fieldView s) (c .before .before .before .before .date .given .1) in
+    let e5 = sym (c .before .before .read-field3 .ensures) ∙ ap (fieldView s) (c .enum-told4 .given .1) in
     rw (e1, e2, e3, e4, e5)
 
 read-field-requires-4 : tie.Need-read-field-requires-4
@@ -98,12 +98,12 @@ returns-5 : tie.Need-returns-5
 unfolding headRecord
 returns-5 c =
     let s = now (c .before .before .before .before .before .before .before .before .before .before .before .before .before .before .before .before .before .before .before .before .before .before .args .s) in
-    let e1 = sym (c .before .before .before .before .before .before .before .before .before .before .before .before .before .before .before .before .before .before .before .before .read-field .ensures) ∙ ap (fieldSeen s) (c .before .before .before .before .before .before .before .before .before .before .before .before .before .before .before .before .before .before .map .given .1) in
+    let e1 = sym (c .before .before .before .before .before .before .before .before .before .before .before .before .before .before .before .before .before .before .before .before .read-field .ensures) ∙ ap (fieldView s) (c .before .before .before .before .before .before .before .before .before .before .before .before .before .before .before .before .before .before .map .given .1) in
     let e2 = sym (c .before .before .before .before .before .before .before .before .before .before .before .before .before .before .before .before .head-map .ensures) ∙ c .before .before .before .before .before .before .before .before .before .before .before .before .before .before .before .if1 .taken in
-    let e3 = sym (c .before .before .before .before .before .before .before .before .before .before .before .before .before .before .read-optional .ensures) ∙ ap (fieldSeen s) (c .before .before .before .before .before .before .before .before .before .before .before .before .operational .given .1) in
-    let e4 = sym (c .before .before .before .before .before .before .before .before .before .before .read-field2 .ensures) ∙ ap (fieldSeen s) (c .before .before .before .before .before .before .before .before .date .given .1) in
-    let e5 = sym (c .before .before .before .before .before .before .read-field3 .ensures) ∙ ap (fieldSeen s) (c .before .before .before .before .seconds .given .1) in
-    let e6 = sym (c .before .before .read-field4 .ensures) ∙ ap (fieldSeen s) (c .enum-told5 .given .1) in
+    let e3 = sym (c .before .before .before .before .before .before .before .before .before .before .before .before .before .before .read-optional .ensures) ∙ ap (fieldView s) (c .before .before .before .before .before .before .before .before .before .before .before .before .operational .given .1) in
+    let e4 = sym (c .before .before .before .before .before .before .before .before .before .before .read-field2 .ensures) ∙ ap (fieldView s) (c .before .before .before .before .before .before .before .before .date .given .1) in
+    let e5 = sym (c .before .before .before .before .before .before .read-field3 .ensures) ∙ ap (fieldView s) (c .before .before .before .before .seconds .given .1) in
+    let e6 = sym (c .before .before .read-field4 .ensures) ∙ ap (fieldView s) (c .enum-told5 .given .1) in
     rw (e1, e2, e3, e4, e5, e6)
 
 read-optional-requires-2 : tie.Need-read-optional-requires-2
@@ -119,48 +119,48 @@ returns-6 : tie.Need-returns-6
 unfolding headRecord
 returns-6 c =
     let s = now (c .before .before .before .before .before .before .before .before .before .before .before .before .before .before .before .before .before .before .before .before .before .before .before .before .before .before .args .s) in
-    let e1 = sym (c .before .before .before .before .before .before .before .before .before .before .before .before .before .before .before .before .before .before .before .before .before .before .before .before .read-field .ensures) ∙ ap (fieldSeen s) (c .before .before .before .before .before .before .before .before .before .before .before .before .before .before .before .before .before .before .before .before .before .before .map .given .1) in
+    let e1 = sym (c .before .before .before .before .before .before .before .before .before .before .before .before .before .before .before .before .before .before .before .before .before .before .before .before .read-field .ensures) ∙ ap (fieldView s) (c .before .before .before .before .before .before .before .before .before .before .before .before .before .before .before .before .before .before .before .before .before .before .map .given .1) in
     let e2 = sym (c .before .before .before .before .before .before .before .before .before .before .before .before .before .before .before .before .before .before .before .before .head-map .ensures) ∙ c .before .before .before .before .before .before .before .before .before .before .before .before .before .before .before .before .before .before .before .if1 .taken in
-    let e3 = sym (c .before .before .before .before .before .before .before .before .before .before .before .before .before .before .before .before .before .before .read-optional .ensures) ∙ ap (fieldSeen s) (c .before .before .before .before .before .before .before .before .before .before .before .before .before .before .before .before .operational .given .1) in
-    let e4 = sym (c .before .before .before .before .before .before .before .before .before .before .before .before .before .before .read-field2 .ensures) ∙ ap (fieldSeen s) (c .before .before .before .before .before .before .before .before .before .before .before .before .date .given .1) in
-    let e5 = sym (c .before .before .before .before .before .before .before .before .before .before .read-field3 .ensures) ∙ ap (fieldSeen s) (c .before .before .before .before .before .before .before .before .seconds .given .1) in
-    let e6 = sym (c .before .before .before .before .before .before .read-field4 .ensures) ∙ ap (fieldSeen s) (c .before .before .before .before .counter .given .1) in
-    let e7 = sym (c .before .before .read-optional2 .ensures) ∙ ap (fieldSeen s) (c .enum-told6 .given .1) in
+    let e3 = sym (c .before .before .before .before .before .before .before .before .before .before .before .before .before .before .before .before .before .before .read-optional .ensures) ∙ ap (fieldView s) (c .before .before .before .before .before .before .before .before .before .before .before .before .before .before .before .before .operational .given .1) in
+    let e4 = sym (c .before .before .before .before .before .before .before .before .before .before .before .before .before .before .read-field2 .ensures) ∙ ap (fieldView s) (c .before .before .before .before .before .before .before .before .before .before .before .before .date .given .1) in
+    let e5 = sym (c .before .before .before .before .before .before .before .before .before .before .read-field3 .ensures) ∙ ap (fieldView s) (c .before .before .before .before .before .before .before .before .seconds .given .1) in
+    let e6 = sym (c .before .before .before .before .before .before .read-field4 .ensures) ∙ ap (fieldView s) (c .before .before .before .before .counter .given .1) in
+    let e7 = sym (c .before .before .read-optional2 .ensures) ∙ ap (fieldView s) (c .enum-told6 .given .1) in
     rw (e1, e2, e3, e4, e5, e6, e7)
 
 cast-t28 : tie.Need-cast-t28
 cast-t28 c =
-    let e = sym (c .before .before .before .before .before .before .before .before .before .before .before .before .before .before .before .read-field2 .ensures) ∙ ap (fieldSeen _) (c .before .before .before .before .before .before .before .before .before .before .before .before .before .date .given .1) in
+    let e = sym (c .before .before .before .before .before .before .before .before .before .before .before .before .before .before .before .read-field2 .ensures) ∙ ap (fieldView _) (c .before .before .before .before .before .before .before .before .before .before .before .before .before .date .given .1) in
     omega (arith, field-inv 2 0 32767 _ _ _ e .most)
 
 cast-t29 : tie.Need-cast-t29
 cast-t29 c =
-    let e = sym (c .before .before .before .before .before .before .before .read-field4 .ensures) ∙ ap (fieldSeen _) (c .before .before .before .before .before .counter .given .1) in
+    let e = sym (c .before .before .before .before .before .before .before .read-field4 .ensures) ∙ ap (fieldView _) (c .before .before .before .before .before .counter .given .1) in
     omega (arith, field-inv 1 0 255 _ _ _ e .most)
 
 cast-t30 : tie.Need-cast-t30
 cast-t30 c =
-    let e = sym (c .before .before .before .read-optional2 .ensures) ∙ ap (fieldSeen _) (c .before .atots .given .1) in
+    let e = sym (c .before .before .before .read-optional2 .ensures) ∙ ap (fieldView _) (c .before .atots .given .1) in
     omega (arith, optional-most _ 16384 2 0 16383 16384 _ _ _ (omega arith) (omega arith) e)
 
 returns-7 : tie.Need-returns-7
 unfolding headRecord
 returns-7 c =
     let s = now (c .before .before .before .before .before .before .before .before .before .before .before .before .before .before .before .before .before .before .before .before .before .before .before .before .before .before .before .args .s) in
-    let e1 = sym (c .before .before .before .before .before .before .before .before .before .before .before .before .before .before .before .before .before .before .before .before .before .before .before .before .before .read-field .ensures) ∙ ap (fieldSeen s) (c .before .before .before .before .before .before .before .before .before .before .before .before .before .before .before .before .before .before .before .before .before .before .before .map .given .1) in
+    let e1 = sym (c .before .before .before .before .before .before .before .before .before .before .before .before .before .before .before .before .before .before .before .before .before .before .before .before .before .read-field .ensures) ∙ ap (fieldView s) (c .before .before .before .before .before .before .before .before .before .before .before .before .before .before .before .before .before .before .before .before .before .before .before .map .given .1) in
     let e2 = sym (c .before .before .before .before .before .before .before .before .before .before .before .before .before .before .before .before .before .before .before .before .before .head-map .ensures) ∙ c .before .before .before .before .before .before .before .before .before .before .before .before .before .before .before .before .before .before .before .before .if1 .taken in
-    let e3 = sym (c .before .before .before .before .before .before .before .before .before .before .before .before .before .before .before .before .before .before .before .read-optional .ensures) ∙ ap (fieldSeen s) (c .before .before .before .before .before .before .before .before .before .before .before .before .before .before .before .before .before .operational .given .1) in
-    let e4 = sym (c .before .before .before .before .before .before .before .before .before .before .before .before .before .before .before .read-field2 .ensures) ∙ ap (fieldSeen s) (c .before .before .before .before .before .before .before .before .before .before .before .before .before .date .given .1) in
-    let e5 = sym (c .before .before .before .before .before .before .before .before .before .before .before .read-field3 .ensures) ∙ ap (fieldSeen s) (c .before .before .before .before .before .before .before .before .before .seconds .given .1) in
-    let e6 = sym (c .before .before .before .before .before .before .before .read-field4 .ensures) ∙ ap (fieldSeen s) (c .before .before .before .before .before .counter .given .1) in
-    let e7 = sym (c .before .before .before .read-optional2 .ensures) ∙ ap (fieldSeen s) (c .before .atots .given .1) in
+    let e3 = sym (c .before .before .before .before .before .before .before .before .before .before .before .before .before .before .before .before .before .before .before .read-optional .ensures) ∙ ap (fieldView s) (c .before .before .before .before .before .before .before .before .before .before .before .before .before .before .before .before .before .operational .given .1) in
+    let e4 = sym (c .before .before .before .before .before .before .before .before .before .before .before .before .before .before .before .read-field2 .ensures) ∙ ap (fieldView s) (c .before .before .before .before .before .before .before .before .before .before .before .before .before .date .given .1) in
+    let e5 = sym (c .before .before .before .before .before .before .before .before .before .before .before .read-field3 .ensures) ∙ ap (fieldView s) (c .before .before .before .before .before .before .before .before .before .seconds .given .1) in
+    let e6 = sym (c .before .before .before .before .before .before .before .read-field4 .ensures) ∙ ap (fieldView s) (c .before .before .before .before .before .counter .given .1) in
+    let e7 = sym (c .before .before .before .read-optional2 .ensures) ∙ ap (fieldView s) (c .before .atots .given .1) in
     rw (e1, e2, e3, e4, e5, e6, e7)
 
 returns-8 : tie.Need-returns-8
 unfolding headRecord
 returns-8 c =
     let s = now (c .before .before .before .before .before .before .before .args .s) in
-    let e1 = sym (c .before .before .before .before .before .read-field .ensures) ∙ ap (fieldSeen s) (c .before .before .before .map .given .1) in
+    let e1 = sym (c .before .before .before .before .before .read-field .ensures) ∙ ap (fieldView s) (c .before .before .before .map .given .1) in
     let e2 = sym (c .before .head-map .ensures) ∙ c .if1 .left in
     rw (e1, e2)
 

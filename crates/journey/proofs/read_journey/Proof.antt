@@ -7,14 +7,14 @@ use borrow.Author.Tests.{not-true, not-false}
 use Rattle.wire.specs.Parse.{counted}
 use Rattle.wire.specs.Parse.Parse.{good}
 use Rattle.journey.specs.Journey.{nameRecord, pointRecord, headRecord}
-use Rattle.journey.specs.Answers.{headSeen}
-use Rattle.journey.specs.Laws.{told-refused, told-accepted, names-bad, names-good, points-bad, points-good, headless, nameless, pointless, left-over, exact}
+use Rattle.journey.specs.Answers.{headView}
+use Rattle.journey.proofs.Rows.{told-refused, told-accepted, names-bad, names-good, points-bad, points-good, headless, nameless, pointless, left-over, exact}
 use Rattle.journey.proofs.read_journey.Statement.{statement}
 use Rattle.journey.proofs.read_journey.Tie as tie
 
 -- what was read so far
 head-read : (c : tie.After-known-told) → headRecord (now (c .before .before .before .before .before .args .s)) ≡ good (c .before .head .given .0 .0) (drop (c .before .head .given .0 .1 .0) (now (c .before .before .before .before .before .args .s)))
-head-read c = sym (c .before .before .before .read-head .ensures) ∙ ap (headSeen (now (c .before .before .before .before .before .args .s))) (c .before .head .given .1)
+head-read c = sym (c .before .before .before .read-head .ensures) ∙ ap (headView (now (c .before .before .before .before .before .args .s))) (c .before .head .given .1)
 
 names-read : (c : tie.Else1) → counted 40 nameRecord (drop (c .before .before .before .before .head .given .0 .1 .0) (now (c .before .before .before .before .before .before .before .before .args .s))) ≡ good (take (c .before .before .read-names .result .count) (c .before .before .read-names .result .names)) (drop (c .before .before .read-names .result .next) (now (c .before .before .before .before .before .before .before .before .args .s)))
 names-read c = sym (c .before .before .read-names .ensures .seen) ∙ names-good _ (c .before .before .read-names .result) (not-false _ (c .if1 .left))
@@ -37,7 +37,7 @@ refused-requires c κs = search needs
 returns : tie.Need-returns
 returns c =
     let s = now (c .before .before .before .before .before .args .s) in
-    told-refused s _ (c .refused .ensures) (headless s (sym (c .before .before .before .read-head .ensures) ∙ ap (headSeen s) (c .before .enum-told .given .1)))
+    told-refused s _ (c .refused .ensures) (headless s (sym (c .before .before .before .read-head .ensures) ∙ ap (headView s) (c .before .enum-told .given .1)))
 
 read-names-requires : tie.Need-read-names-requires
 read-names-requires c κs = search needs

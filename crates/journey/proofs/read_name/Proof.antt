@@ -1,8 +1,8 @@
 use denote.Ref.{now}
 use mathlib.Core.Path.{_∙_, sym, ap}
 use native.Mathlib.Omega.{arith}
-use Rattle.wire.specs.Parse.{fieldSeen}
-use Rattle.wire.specs.ParseLaws.{field-inv}
+use Rattle.wire.specs.Parse.{fieldView}
+use Rattle.wire.proofs.ReaderLaws.{field-inv}
 use Rattle.journey.specs.Journey.{nameRecord}
 use borrow.Author.Needs.{needs}
 use Rattle.journey.proofs.read_name.Statement.{statement}
@@ -21,7 +21,7 @@ returns : tie.Need-returns
 unfolding nameRecord
 returns c =
     let s = now (c .before .before .before .before .args .s) in
-    let e1 = sym (c .before .before .read-field .ensures) ∙ ap (fieldSeen s) (c .enum-told .given .1) in
+    let e1 = sym (c .before .before .read-field .ensures) ∙ ap (fieldView s) (c .enum-told .given .1) in
     rw (e1)
 
 read-field-requires-2 : tie.Need-read-field-requires-2
@@ -37,21 +37,21 @@ returns-2 : tie.Need-returns-2
 unfolding nameRecord
 returns-2 c =
     let s = now (c .before .before .before .before .before .before .before .before .args .s) in
-    let e1 = sym (c .before .before .before .before .before .before .read-field .ensures) ∙ ap (fieldSeen s) (c .before .before .before .before .c .given .1) in
-    let e2 = sym (c .before .before .read-field2 .ensures) ∙ ap (fieldSeen s) (c .enum-told2 .given .1) in
+    let e1 = sym (c .before .before .before .before .before .before .read-field .ensures) ∙ ap (fieldView s) (c .before .before .before .before .c .given .1) in
+    let e2 = sym (c .before .before .read-field2 .ensures) ∙ ap (fieldView s) (c .enum-told2 .given .1) in
     rw (e1, e2)
 
 cast-t11 : tie.Need-cast-t11
 cast-t11 c =
-    let e = sym (c .before .before .before .before .before .before .before .read-field .ensures) ∙ ap (fieldSeen _) (c .before .before .before .before .before .c .given .1) in
+    let e = sym (c .before .before .before .before .before .before .before .read-field .ensures) ∙ ap (fieldView _) (c .before .before .before .before .before .c .given .1) in
     omega (arith, field-inv 2 0 1023 _ _ _ e .most)
 
 returns-3 : tie.Need-returns-3
 unfolding nameRecord
 returns-3 c =
     let s = now (c .before .before .before .before .before .before .before .before .before .args .s) in
-    let e1 = sym (c .before .before .before .before .before .before .before .read-field .ensures) ∙ ap (fieldSeen s) (c .before .before .before .before .before .c .given .1) in
-    let e2 = sym (c .before .before .before .read-field2 .ensures) ∙ ap (fieldSeen s) (c .before .sp .given .1) in
+    let e1 = sym (c .before .before .before .before .before .before .before .read-field .ensures) ∙ ap (fieldView s) (c .before .before .before .before .before .c .given .1) in
+    let e2 = sym (c .before .before .before .read-field2 .ensures) ∙ ap (fieldView s) (c .before .sp .given .1) in
     rw (e1, e2)
 
 pub read-name-spec : {M : Type 1} → statement M

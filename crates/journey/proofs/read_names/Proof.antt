@@ -5,11 +5,11 @@ use mathlib.Core.Bool.{false≢true}
 use lib.ListN.{drop}
 use native.Mathlib.Omega.{arith}
 use borrow.Author.Needs.{needs}
-use Rattle.wire.specs.Parse.{fieldSeen, counted}
-use Rattle.wire.specs.ParseLaws.{field-inv}
+use Rattle.wire.specs.Parse.{fieldView, counted}
+use Rattle.wire.proofs.ReaderLaws.{field-inv}
 use Rattle.journey.specs.Journey.{nameRecord}
-use Rattle.journey.specs.Filled.{Reading, reading-none, reading-more, reading-bad, reading-end, counted-bad, counted-good}
-use Rattle.journey.specs.Answers.{nameSeen, blankName}
+use Rattle.journey.proofs.Filling.{Reading, reading-none, reading-more, reading-bad, reading-end, counted-bad, counted-good}
+use Rattle.journey.specs.Answers.{nameView, blankName}
 use Rattle.journey.proofs.read_names.Statement.{statement}
 use Rattle.journey.proofs.read_names.Tie as tie
 
@@ -31,13 +31,13 @@ enum-told c = search needs
 returns : tie.Need-returns Inv-loop μ-loop
 returns c =
     let s = now (c .before .before .before .before .args .s) in
-    let e = sym (c .before .before .read-field .ensures) ∙ ap (fieldSeen s) (c .enum-told .given .1) in
+    let e = sym (c .before .before .read-field .ensures) ∙ ap (fieldView s) (c .enum-told .given .1) in
     record { seen = counted-bad nameRecord 40 _ e; most = omega arith; array = λ q. absurd (false≢true q) }
 
 loop-holds : tie.Need-loop-holds Inv-loop μ-loop
 loop-holds c =
     let s = now (c .before .before .before .before .before .args .s) in
-    let e = sym (c .before .before .before .read-field .ensures) ∙ ap (fieldSeen s) (c .before .n .given .1) in
+    let e = sym (c .before .before .before .read-field .ensures) ∙ ap (fieldView s) (c .before .n .given .1) in
     reading-none nameRecord blankName 40 _ _ _ (field-inv 1 1 40 _ _ _ e .most) (counted-good nameRecord 40 _ _ _ e)
 
 cast-loop : tie.Need-cast-loop Inv-loop μ-loop
@@ -56,7 +56,7 @@ returns-2 : tie.Need-returns-2 Inv-loop μ-loop
 returns-2 c =
     let w = c .before .before .before .before .loop in
     let s = now (c .before .before .before .before .before .before .before .before .before .before .args .s) in
-    let e = sym (c .before .before .read-name .ensures) ∙ ap (nameSeen s) (c .enum-told2 .given .1) in
+    let e = sym (c .before .before .read-name .ensures) ∙ ap (nameView s) (c .enum-told2 .given .1) in
     record { seen = reading-bad nameRecord blankName 40 _ _ _ _ _ (omega arith) e (w .inv); most = omega arith; array = λ q. absurd (false≢true q) }
 
 mul-names : tie.Need-mul-names Inv-loop μ-loop
@@ -75,7 +75,7 @@ loop-again : tie.Need-loop-again Inv-loop μ-loop
 loop-again c =
     let w = c .before .before .before .before .before .loop in
     let s = now (c .before .before .before .before .before .before .before .before .before .before .before .args .s) in
-    let e = sym (c .before .before .before .read-name .ensures) ∙ ap (nameSeen s) (c .before .name .given .1) in
+    let e = sym (c .before .before .before .read-name .ensures) ∙ ap (nameView s) (c .before .name .given .1) in
     reading-more nameRecord blankName 40 _ _ _ _ _ _ _ (omega arith) e (w .inv)
 
 cast-t20 : tie.Need-cast-t20 Inv-loop μ-loop

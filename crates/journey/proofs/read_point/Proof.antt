@@ -1,9 +1,9 @@
-use Rattle.journey.specs.Ranges.{optional-most}
+use Rattle.journey.proofs.Accepted.{optional-most}
 use denote.Ref.{now}
 use mathlib.Core.Path.{_∙_, sym, ap}
 use native.Mathlib.Omega.{arith}
-use Rattle.wire.specs.Parse.{fieldSeen}
-use Rattle.wire.specs.ParseLaws.{field-inv}
+use Rattle.wire.specs.Parse.{fieldView}
+use Rattle.wire.proofs.ReaderLaws.{field-inv}
 use Rattle.journey.specs.Journey.{pointRecord}
 use borrow.Author.Needs.{needs}
 use Rattle.journey.proofs.read_point.Statement.{statement}
@@ -22,7 +22,7 @@ returns : tie.Need-returns
 unfolding pointRecord
 returns c =
     let s = now (c .before .before .before .before .args .s) in
-    let e1 = sym (c .before .before .read-field .ensures) ∙ ap (fieldSeen s) (c .enum-told .given .1) in
+    let e1 = sym (c .before .before .read-field .ensures) ∙ ap (fieldView s) (c .enum-told .given .1) in
     rw (e1)
 
 point-map-requires : tie.Need-point-map-requires
@@ -41,9 +41,9 @@ returns-2 : tie.Need-returns-2
 unfolding pointRecord
 returns-2 c =
     let s = now (c .before .before .before .before .before .before .before .before .before .before .args .s) in
-    let e1 = sym (c .before .before .before .before .before .before .before .before .read-field .ensures) ∙ ap (fieldSeen s) (c .before .before .before .before .before .before .map .given .1) in
+    let e1 = sym (c .before .before .before .before .before .before .before .before .read-field .ensures) ∙ ap (fieldView s) (c .before .before .before .before .before .before .map .given .1) in
     let e2 = sym (c .before .before .before .before .point-map .ensures) ∙ c .before .before .before .if1 .taken in
-    let e3 = sym (c .before .before .read-field2 .ensures) ∙ ap (fieldSeen s) (c .enum-told2 .given .1) in
+    let e3 = sym (c .before .before .read-field2 .ensures) ∙ ap (fieldView s) (c .enum-told2 .given .1) in
     rw (e1, e2, e3)
 
 read-field-requires-3 : tie.Need-read-field-requires-3
@@ -59,10 +59,10 @@ returns-3 : tie.Need-returns-3
 unfolding pointRecord
 returns-3 c =
     let s = now (c .before .before .before .before .before .before .before .before .before .before .before .before .before .before .args .s) in
-    let e1 = sym (c .before .before .before .before .before .before .before .before .before .before .before .before .read-field .ensures) ∙ ap (fieldSeen s) (c .before .before .before .before .before .before .before .before .before .before .map .given .1) in
+    let e1 = sym (c .before .before .before .before .before .before .before .before .before .before .before .before .read-field .ensures) ∙ ap (fieldView s) (c .before .before .before .before .before .before .before .before .before .before .map .given .1) in
     let e2 = sym (c .before .before .before .before .before .before .before .before .point-map .ensures) ∙ c .before .before .before .before .before .before .before .if1 .taken in
-    let e3 = sym (c .before .before .before .before .before .before .read-field2 .ensures) ∙ ap (fieldSeen s) (c .before .before .before .before .tp .given .1) in
-    let e4 = sym (c .before .before .read-field3 .ensures) ∙ ap (fieldSeen s) (c .enum-told3 .given .1) in
+    let e3 = sym (c .before .before .before .before .before .before .read-field2 .ensures) ∙ ap (fieldView s) (c .before .before .before .before .tp .given .1) in
+    let e4 = sym (c .before .before .read-field3 .ensures) ∙ ap (fieldView s) (c .enum-told3 .given .1) in
     rw (e1, e2, e3, e4)
 
 read-optional-requires : tie.Need-read-optional-requires
@@ -78,11 +78,11 @@ returns-4 : tie.Need-returns-4
 unfolding pointRecord
 returns-4 c =
     let s = now (c .before .before .before .before .before .before .before .before .before .before .before .before .before .before .before .before .before .before .args .s) in
-    let e1 = sym (c .before .before .before .before .before .before .before .before .before .before .before .before .before .before .before .before .read-field .ensures) ∙ ap (fieldSeen s) (c .before .before .before .before .before .before .before .before .before .before .before .before .before .before .map .given .1) in
+    let e1 = sym (c .before .before .before .before .before .before .before .before .before .before .before .before .before .before .before .before .read-field .ensures) ∙ ap (fieldView s) (c .before .before .before .before .before .before .before .before .before .before .before .before .before .before .map .given .1) in
     let e2 = sym (c .before .before .before .before .before .before .before .before .before .before .before .before .point-map .ensures) ∙ c .before .before .before .before .before .before .before .before .before .before .before .if1 .taken in
-    let e3 = sym (c .before .before .before .before .before .before .before .before .before .before .read-field2 .ensures) ∙ ap (fieldSeen s) (c .before .before .before .before .before .before .before .before .tp .given .1) in
-    let e4 = sym (c .before .before .before .before .before .before .read-field3 .ensures) ∙ ap (fieldSeen s) (c .before .before .before .before .index .given .1) in
-    let e5 = sym (c .before .before .read-optional .ensures) ∙ ap (fieldSeen s) (c .enum-told4 .given .1) in
+    let e3 = sym (c .before .before .before .before .before .before .before .before .before .before .read-field2 .ensures) ∙ ap (fieldView s) (c .before .before .before .before .before .before .before .before .tp .given .1) in
+    let e4 = sym (c .before .before .before .before .before .before .read-field3 .ensures) ∙ ap (fieldView s) (c .before .before .before .before .index .given .1) in
+    let e5 = sym (c .before .before .read-optional .ensures) ∙ ap (fieldView s) (c .enum-told4 .given .1) in
     rw (e1, e2, e3, e4, e5)
 
 read-optional-requires-2 : tie.Need-read-optional-requires-2
@@ -98,46 +98,46 @@ returns-5 : tie.Need-returns-5
 unfolding pointRecord
 returns-5 c =
     let s = now (c .before .before .before .before .before .before .before .before .before .before .before .before .before .before .before .before .before .before .before .before .before .before .args .s) in
-    let e1 = sym (c .before .before .before .before .before .before .before .before .before .before .before .before .before .before .before .before .before .before .before .before .read-field .ensures) ∙ ap (fieldSeen s) (c .before .before .before .before .before .before .before .before .before .before .before .before .before .before .before .before .before .before .map .given .1) in
+    let e1 = sym (c .before .before .before .before .before .before .before .before .before .before .before .before .before .before .before .before .before .before .before .before .read-field .ensures) ∙ ap (fieldView s) (c .before .before .before .before .before .before .before .before .before .before .before .before .before .before .before .before .before .before .map .given .1) in
     let e2 = sym (c .before .before .before .before .before .before .before .before .before .before .before .before .before .before .before .before .point-map .ensures) ∙ c .before .before .before .before .before .before .before .before .before .before .before .before .before .before .before .if1 .taken in
-    let e3 = sym (c .before .before .before .before .before .before .before .before .before .before .before .before .before .before .read-field2 .ensures) ∙ ap (fieldSeen s) (c .before .before .before .before .before .before .before .before .before .before .before .before .tp .given .1) in
-    let e4 = sym (c .before .before .before .before .before .before .before .before .before .before .read-field3 .ensures) ∙ ap (fieldSeen s) (c .before .before .before .before .before .before .before .before .index .given .1) in
-    let e5 = sym (c .before .before .before .before .before .before .read-optional .ensures) ∙ ap (fieldSeen s) (c .before .before .before .before .alignment .given .1) in
-    let e6 = sym (c .before .before .read-optional2 .ensures) ∙ ap (fieldSeen s) (c .enum-told5 .given .1) in
+    let e3 = sym (c .before .before .before .before .before .before .before .before .before .before .before .before .before .before .read-field2 .ensures) ∙ ap (fieldView s) (c .before .before .before .before .before .before .before .before .before .before .before .before .tp .given .1) in
+    let e4 = sym (c .before .before .before .before .before .before .before .before .before .before .read-field3 .ensures) ∙ ap (fieldView s) (c .before .before .before .before .before .before .before .before .index .given .1) in
+    let e5 = sym (c .before .before .before .before .before .before .read-optional .ensures) ∙ ap (fieldView s) (c .before .before .before .before .alignment .given .1) in
+    let e6 = sym (c .before .before .read-optional2 .ensures) ∙ ap (fieldView s) (c .enum-told5 .given .1) in
     rw (e1, e2, e3, e4, e5, e6)
 
 cast-t26 : tie.Need-cast-t26
 cast-t26 c =
-    let e = sym (c .before .before .before .before .before .before .before .before .before .before .before .read-field3 .ensures) ∙ ap (fieldSeen _) (c .before .before .before .before .before .before .before .before .before .index .given .1) in
+    let e = sym (c .before .before .before .before .before .before .before .before .before .before .before .read-field3 .ensures) ∙ ap (fieldView _) (c .before .before .before .before .before .before .before .before .before .index .given .1) in
     omega (arith, field-inv 1 0 255 _ _ _ e .most)
 
 cast-t27 : tie.Need-cast-t27
 cast-t27 c =
-    let e = sym (c .before .before .before .before .before .before .before .read-optional .ensures) ∙ ap (fieldSeen _) (c .before .before .before .before .before .alignment .given .1) in
+    let e = sym (c .before .before .before .before .before .before .before .read-optional .ensures) ∙ ap (fieldView _) (c .before .before .before .before .before .alignment .given .1) in
     omega (arith, optional-most _ 0 1 0 2 2 _ _ _ (omega arith) (omega arith) e)
 
 cast-t28 : tie.Need-cast-t28
 cast-t28 c =
-    let e = sym (c .before .before .before .read-optional2 .ensures) ∙ ap (fieldSeen _) (c .before .stopping .given .1) in
+    let e = sym (c .before .before .before .read-optional2 .ensures) ∙ ap (fieldView _) (c .before .stopping .given .1) in
     omega (arith, optional-most _ 0 1 0 127 127 _ _ _ (omega arith) (omega arith) e)
 
 returns-6 : tie.Need-returns-6
 unfolding pointRecord
 returns-6 c =
     let s = now (c .before .before .before .before .before .before .before .before .before .before .before .before .before .before .before .before .before .before .before .before .before .before .before .args .s) in
-    let e1 = sym (c .before .before .before .before .before .before .before .before .before .before .before .before .before .before .before .before .before .before .before .before .before .read-field .ensures) ∙ ap (fieldSeen s) (c .before .before .before .before .before .before .before .before .before .before .before .before .before .before .before .before .before .before .before .map .given .1) in
+    let e1 = sym (c .before .before .before .before .before .before .before .before .before .before .before .before .before .before .before .before .before .before .before .before .before .read-field .ensures) ∙ ap (fieldView s) (c .before .before .before .before .before .before .before .before .before .before .before .before .before .before .before .before .before .before .before .map .given .1) in
     let e2 = sym (c .before .before .before .before .before .before .before .before .before .before .before .before .before .before .before .before .before .point-map .ensures) ∙ c .before .before .before .before .before .before .before .before .before .before .before .before .before .before .before .before .if1 .taken in
-    let e3 = sym (c .before .before .before .before .before .before .before .before .before .before .before .before .before .before .before .read-field2 .ensures) ∙ ap (fieldSeen s) (c .before .before .before .before .before .before .before .before .before .before .before .before .before .tp .given .1) in
-    let e4 = sym (c .before .before .before .before .before .before .before .before .before .before .before .read-field3 .ensures) ∙ ap (fieldSeen s) (c .before .before .before .before .before .before .before .before .before .index .given .1) in
-    let e5 = sym (c .before .before .before .before .before .before .before .read-optional .ensures) ∙ ap (fieldSeen s) (c .before .before .before .before .before .alignment .given .1) in
-    let e6 = sym (c .before .before .before .read-optional2 .ensures) ∙ ap (fieldSeen s) (c .before .stopping .given .1) in
+    let e3 = sym (c .before .before .before .before .before .before .before .before .before .before .before .before .before .before .before .read-field2 .ensures) ∙ ap (fieldView s) (c .before .before .before .before .before .before .before .before .before .before .before .before .before .tp .given .1) in
+    let e4 = sym (c .before .before .before .before .before .before .before .before .before .before .before .read-field3 .ensures) ∙ ap (fieldView s) (c .before .before .before .before .before .before .before .before .before .index .given .1) in
+    let e5 = sym (c .before .before .before .before .before .before .before .read-optional .ensures) ∙ ap (fieldView s) (c .before .before .before .before .before .alignment .given .1) in
+    let e6 = sym (c .before .before .before .read-optional2 .ensures) ∙ ap (fieldView s) (c .before .stopping .given .1) in
     rw (e1, e2, e3, e4, e5, e6)
 
 returns-7 : tie.Need-returns-7
 unfolding pointRecord
 returns-7 c =
     let s = now (c .before .before .before .before .before .before .before .args .s) in
-    let e1 = sym (c .before .before .before .before .before .read-field .ensures) ∙ ap (fieldSeen s) (c .before .before .before .map .given .1) in
+    let e1 = sym (c .before .before .before .before .before .read-field .ensures) ∙ ap (fieldView s) (c .before .before .before .map .given .1) in
     let e2 = sym (c .before .point-map .ensures) ∙ c .if1 .left in
     rw (e1, e2)
 

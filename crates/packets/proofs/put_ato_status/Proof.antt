@@ -1,7 +1,7 @@
 use denote.Ref.{now}
 use Rattle.wire.specs.Numbers.{bytesOf}
 use Rattle.packets.specs.Packets.{bytes68, word}
-use Rattle.packets.specs.Laws.{bytesOf-mod, behind-header}
+use Rattle.packets.proofs.WriterLaws.{bytesOf-mod, behind-header}
 use borrow.Author.Needs.{needs}
 use Rattle.packets.proofs.put_ato_status.Statement.{statement}
 use Rattle.packets.proofs.put_ato_status.Tie as tie

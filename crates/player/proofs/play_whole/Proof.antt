@@ -4,7 +4,7 @@ use mathlib.Core.Path.{_≡_, refl, sym, ap, _∙_}
 use denote.Ref.{now}
 use lib.ListN.{length, drop, length-drop}
 use native.Mathlib.Omega.{arith}
-use Rattle.player.specs.Calls.{callSeen}
+use Rattle.player.specs.Calls.{callView}
 use Rattle.player.specs.Played.{run}
 use Rattle.player.proofs.Laws.{call-shorter, run-end, run-next}
 use borrow.Author.Needs.{needs}
@@ -43,7 +43,7 @@ same-length-2 c = c .before .before .before .before .before .loop .inv .1
 returns : tie.Need-returns Inv-loop μ-loop
 returns c =
     let s = now (c .before .before .before .before .before .before .before .before .before .args .s) in
-    let told = sym (c .before .before .before .before .call-at .ensures) ∙ ap (callSeen s) (c .before .before .enum-told .given .1) in
+    let told = sym (c .before .before .before .before .call-at .ensures) ∙ ap (callView s) (c .before .before .enum-told .given .1) in
     let (m, t, k, f, e) = c .before .before .before .before .before .loop .inv in
     run-end k _ _ _ told ∙ e
 
@@ -57,14 +57,14 @@ loop-less : tie.Need-loop-less Inv-loop μ-loop
 loop-less c =
     let d = c .before .before .before .before .before .before .before .before .before .before .before in
     let s = now (c .before .before .before .before .before .before .before .before .before .before .before .before .before .before .before .before .before .before .args .s) in
-    let told = sym (c .before .before .before .before .before .before .before .before .before .before .before .before .before .call-at .ensures) ∙ ap (callSeen s) (d .c .given .1) in
+    let told = sym (c .before .before .before .before .before .before .before .before .before .before .before .before .before .call-at .ensures) ∙ ap (callView s) (d .c .given .1) in
     simp length-drop at (call-shorter (drop (c .before .before .before .before .before .before .before .before .before .before .before .before .before .before .loop .at) s) _ _ told)
 
 loop-again : tie.Need-loop-again Inv-loop μ-loop
 loop-again c =
     let d = c .before .before .before .before .before .before .before .before .before .before .before in
     let s = now (c .before .before .before .before .before .before .before .before .before .before .before .before .before .before .before .before .before .before .args .s) in
-    let told = sym (c .before .before .before .before .before .before .before .before .before .before .before .before .before .call-at .ensures) ∙ ap (callSeen s) (d .c .given .1) in
+    let told = sym (c .before .before .before .before .before .before .before .before .before .before .before .before .before .call-at .ensures) ∙ ap (callView s) (d .c .given .1) in
     let l = c .before .before .before .before .before .before .before .before .before .before .before .before .before .before in
     let (m, t, k, f, e) = l .loop .inv in
     let (j, g, q) = run-next k (l .loop .after) (l .loop .memory) (drop (l .loop .at) s) _ _ told f in

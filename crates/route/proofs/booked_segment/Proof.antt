@@ -1,5 +1,5 @@
 use denote.Ref.{now}
-use Rattle.route.specs.Laws.{booked-is}
+use Rattle.route.proofs.Placed.{booked-is}
 use borrow.Author.Needs.{needs}
 use Rattle.route.proofs.booked_segment.Statement.{statement}
 use Rattle.route.proofs.booked_segment.Tie as tie

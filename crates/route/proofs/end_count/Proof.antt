@@ -5,7 +5,7 @@ use native.Mathlib.Omega.{arith}
 use borrow.Author.Needs.{needs}
 use Rattle.journey.specs.Answers.{pointsIn, blankJourneyPoint}
 use Rattle.route.specs.Table.{ends}
-use Rattle.route.specs.Loops.{left-more, left-none}
+use Rattle.route.proofs.Loops.{left-more, left-none}
 use Rattle.route.proofs.end_count.Statement.{statement}
 use Rattle.route.proofs.end_count.Tie as tie
 
@@ -43,13 +43,13 @@ loop-again : tie.Need-loop-again Inv-loop μ-loop
 loop-again c =
     let w = c .before .before .before .loop in
     let j = c .before .before .before .before .before .args .t1 in
-    let e : ends (drop (w .i) (pointsIn j)) ≡ c .one-if .result + ends (drop (w .i + 1) (pointsIn j)) = rw (left-more blankJourneyPoint (min (j .pointcount) 64) (w .i) (j .points) (omega arith) (omega arith), c .one-if .ensures .0) in (omega arith, omega arith)
+    let e : ends (drop (w .i) (pointsIn j)) ≡ c .one-if .result + ends (drop (w .i + 1) (pointsIn j)) = rw (left-more blankJourneyPoint (min (j .«point_count») 64) (w .i) (j .points) (omega arith) (omega arith), c .one-if .ensures .0) in (omega arith, omega arith)
 
 returns : tie.Need-returns Inv-loop μ-loop
 returns c =
     let w = c .before .loop in
     let j = c .before .before .before .args .t1 in
-    let e : ends (drop (w .i) (pointsIn j)) ≡ 0 = rw (left-none blankJourneyPoint (min (j .pointcount) 64) (w .i) (j .points) (omega arith)) in omega arith
+    let e : ends (drop (w .i) (pointsIn j)) ≡ 0 = rw (left-none blankJourneyPoint (min (j .«point_count») 64) (w .i) (j .points) (omega arith)) in omega arith
 
 pub end-count-spec : {M : Type 1} → statement M
 end-count-spec =

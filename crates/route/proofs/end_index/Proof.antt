@@ -5,7 +5,7 @@ use native.Mathlib.Omega.{arith}
 use borrow.Author.Needs.{needs}
 use Rattle.journey.specs.Answers.{pointsIn, blankJourneyPoint}
 use Rattle.route.specs.Route.{endingOf}
-use Rattle.route.specs.Loops.{left-more, left-none}
+use Rattle.route.proofs.Loops.{left-more, left-none}
 use Rattle.route.proofs.end_index.Statement.{statement}
 use Rattle.route.proofs.end_index.Tie as tie
 
@@ -34,7 +34,7 @@ returns : tie.Need-returns Inv-loop μ-loop
 returns c =
     let w = c .before .before .before .loop in
     let j = c .before .before .before .before .before .args .t1 in
-    let e : endingOf (drop (w .i) (pointsIn j)) ≡ 0 = rw (left-more blankJourneyPoint (min (j .pointcount) 64) (w .i) (j .points) (omega arith) (omega arith), c .if1 .taken) in omega arith
+    let e : endingOf (drop (w .i) (pointsIn j)) ≡ 0 = rw (left-more blankJourneyPoint (min (j .«point_count») 64) (w .i) (j .points) (omega arith) (omega arith), c .if1 .taken) in omega arith
 
 add-i : tie.Need-add-i Inv-loop μ-loop
 add-i c = omega arith
@@ -46,7 +46,7 @@ loop-again : tie.Need-loop-again Inv-loop μ-loop
 loop-again c =
     let w = c .before .before .before .loop in
     let j = c .before .before .before .before .before .args .t1 in
-    let e : endingOf (drop (w .i) (pointsIn j)) ≡ endingOf (drop (w .i + 1) (pointsIn j)) + 1 = rw (left-more blankJourneyPoint (min (j .pointcount) 64) (w .i) (j .points) (omega arith) (omega arith), c .if1 .left) in (omega arith, omega arith)
+    let e : endingOf (drop (w .i) (pointsIn j)) ≡ endingOf (drop (w .i + 1) (pointsIn j)) + 1 = rw (left-more blankJourneyPoint (min (j .«point_count») 64) (w .i) (j .points) (omega arith) (omega arith), c .if1 .left) in (omega arith, omega arith)
 
 cast-result-2 : tie.Need-cast-result-2 Inv-loop μ-loop
 cast-result-2 c = omega arith
@@ -55,7 +55,7 @@ returns-2 : tie.Need-returns-2 Inv-loop μ-loop
 returns-2 c =
     let w = c .before .loop in
     let j = c .before .before .before .args .t1 in
-    let e : endingOf (drop (w .i) (pointsIn j)) ≡ 0 = rw (left-none blankJourneyPoint (min (j .pointcount) 64) (w .i) (j .points) (omega arith)) in omega arith
+    let e : endingOf (drop (w .i) (pointsIn j)) ≡ 0 = rw (left-none blankJourneyPoint (min (j .«point_count») 64) (w .i) (j .points) (omega arith)) in omega arith
 
 pub end-index-spec : {M : Type 1} → statement M
 end-index-spec =

@@ -6,7 +6,7 @@ use borrow.Author.Needs.{needs}
 use borrow.Author.Tests.{le-leb, lt-leb}
 use Rattle.journey.specs.Answers.{namesIn, pointsIn, blankJourneyPoint}
 use Rattle.route.specs.Table.{indexBeyond}
-use Rattle.route.specs.Loops.{left-more, left-none}
+use Rattle.route.proofs.Loops.{left-more, left-none}
 use Rattle.route.proofs.index_beyond.Statement.{statement}
 use Rattle.route.proofs.index_beyond.Tie as tie
 
@@ -39,7 +39,7 @@ returns c =
     let w = c .before .before .before .before .loop in
     let j = c .before .before .before .before .before .before .before .args .t1 in
     let e : length (namesIn j) ≤ getD (j .points) (w .i) blankJourneyPoint .index = rw length-take (omega arith) in
-    sym (w .inv ∙ rw (left-more blankJourneyPoint (min (j .pointcount) 64) (w .i) (j .points) (omega arith) (omega arith), le-leb _ _ e))
+    sym (w .inv ∙ rw (left-more blankJourneyPoint (min (j .«point_count») 64) (w .i) (j .points) (omega arith) (omega arith), le-leb _ _ e))
 
 add-i : tie.Need-add-i Inv-loop μ-loop
 add-i c = omega arith
@@ -52,13 +52,13 @@ loop-again c =
     let w = c .before .before .before .before .loop in
     let j = c .before .before .before .before .before .before .before .args .t1 in
     let e : getD (j .points) (w .i) blankJourneyPoint .index < length (namesIn j) = rw length-take (omega arith) in
-    w .inv ∙ rw (left-more blankJourneyPoint (min (j .pointcount) 64) (w .i) (j .points) (omega arith) (omega arith), lt-leb _ _ e)
+    w .inv ∙ rw (left-more blankJourneyPoint (min (j .«point_count») 64) (w .i) (j .points) (omega arith) (omega arith), lt-leb _ _ e)
 
 returns-2 : tie.Need-returns-2 Inv-loop μ-loop
 returns-2 c =
     let w = c .before .loop in
     let j = c .before .before .before .before .args .t1 in
-    sym (w .inv ∙ rw (left-none blankJourneyPoint (min (j .pointcount) 64) (w .i) (j .points) (omega arith)))
+    sym (w .inv ∙ rw (left-none blankJourneyPoint (min (j .«point_count») 64) (w .i) (j .points) (omega arith)))
 
 pub index-beyond-spec : {M : Type 1} → statement M
 index-beyond-spec =

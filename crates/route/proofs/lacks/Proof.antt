@@ -2,8 +2,8 @@ use denote.Ref.{now}
 use Rattle.book.specs.Book.{lookupPoint}
 use mathlib.Core.Path.{sym, ap, _∙_}
 use borrow.Author.Tests.{not-true, not-false}
-use Rattle.book.specs.Answers.{entrySegment, pointSeen}
-use Rattle.route.specs.Laws.{unbooked-lacks, booked-lacks}
+use Rattle.book.specs.Answers.{entrySegment, pointView}
+use Rattle.route.proofs.Placed.{unbooked-lacks, booked-lacks}
 use borrow.Author.Needs.{needs}
 use Rattle.route.proofs.lacks.Statement.{statement}
 use Rattle.route.proofs.lacks.Tie as tie
@@ -23,12 +23,12 @@ enum-told-2 c = search needs
 returns-2 : tie.Need-returns-2
 returns-2 c =
     let a = c .before .before .before .before .before .before .args in
-    booked-lacks (a .g) _ _ (not-false _ (c .before .before .before .if1 .left)) (ap (pointSeen (a .nidtp)) (sym (c .enum-told .given .1)) ∙ c .before .before .find-point .ensures)
+    booked-lacks (a .g) _ _ (not-false _ (c .before .before .before .if1 .left)) (ap (pointView (a .nidtp)) (sym (c .enum-told .given .1)) ∙ c .before .before .find-point .ensures)
 
 returns-3 : tie.Need-returns-3
 returns-3 c =
     let a = c .before .before .before .before .before .before .args in
-    booked-lacks (a .g) _ _ (not-false _ (c .before .before .before .if1 .left)) (ap (pointSeen (a .nidtp)) (sym (c .enum-told2 .given .1)) ∙ c .before .before .find-point .ensures)
+    booked-lacks (a .g) _ _ (not-false _ (c .before .before .before .if1 .left)) (ap (pointView (a .nidtp)) (sym (c .enum-told2 .given .1)) ∙ c .before .before .find-point .ensures)
 
 pub lacks-spec : {M : Type 1} → statement M
 lacks-spec =

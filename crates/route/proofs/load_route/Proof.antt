@@ -1,8 +1,8 @@
 use mathlib.Core.Path.{sym, _∙_}
 use denote.Ref.{now}
 use borrow.Author.Tests.{eq-eqb, ne-eqb}
-use Rattle.route.specs.Judging.{told-refused, book-refused, book-accepted, journey-refused, journey-accepted, no-book, no-journey, both}
-use Rattle.route.specs.Accepted.{book-sound}
+use Rattle.route.proofs.Rows.{told-refused, book-refused, book-accepted, journey-refused, journey-accepted, no-book, no-journey, both}
+use Rattle.route.proofs.Accepted.{book-sound}
 use borrow.Author.Needs.{needs}
 use Rattle.route.proofs.load_route.Statement.{statement}
 use Rattle.route.proofs.load_route.Tie as tie

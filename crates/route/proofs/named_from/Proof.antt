@@ -5,7 +5,7 @@ use native.Mathlib.Omega.{arith}
 use borrow.Author.Needs.{needs}
 use Rattle.journey.specs.Answers.{namesIn, blankName}
 use Rattle.route.specs.Table.{named}
-use Rattle.route.specs.Loops.{left-more, left-none}
+use Rattle.route.proofs.Loops.{left-more, left-none}
 use Rattle.route.proofs.named_from.Statement.{statement}
 use Rattle.route.proofs.named_from.Tie as tie
 
@@ -34,7 +34,7 @@ returns : tie.Need-returns Inv-loop μ-loop
 returns c =
     let w = c .before .before .before .before .loop in
     let j = c .before .before .before .before .before .before .args .t1 in
-    sym (w .inv ∙ rw (left-more blankName (min (j .namecount) 40) (w .i) (j .names) (omega arith) (omega arith), sym (c .before .is-named .ensures) ∙ c .if1 .taken))
+    sym (w .inv ∙ rw (left-more blankName (min (j .«name_count») 40) (w .i) (j .names) (omega arith) (omega arith), sym (c .before .is-named .ensures) ∙ c .if1 .taken))
 
 add-i : tie.Need-add-i Inv-loop μ-loop
 add-i c = omega arith
@@ -46,13 +46,13 @@ loop-again : tie.Need-loop-again Inv-loop μ-loop
 loop-again c =
     let w = c .before .before .before .before .loop in
     let j = c .before .before .before .before .before .before .args .t1 in
-    w .inv ∙ rw (left-more blankName (min (j .namecount) 40) (w .i) (j .names) (omega arith) (omega arith), sym (c .before .is-named .ensures) ∙ c .if1 .left)
+    w .inv ∙ rw (left-more blankName (min (j .«name_count») 40) (w .i) (j .names) (omega arith) (omega arith), sym (c .before .is-named .ensures) ∙ c .if1 .left)
 
 returns-2 : tie.Need-returns-2 Inv-loop μ-loop
 returns-2 c =
     let w = c .before .loop in
     let j = c .before .before .before .args .t1 in
-    sym (w .inv ∙ rw (left-none blankName (min (j .namecount) 40) (w .i) (j .names) (omega arith)))
+    sym (w .inv ∙ rw (left-none blankName (min (j .«name_count») 40) (w .i) (j .names) (omega arith)))
 
 pub named-from-spec : {M : Type 1} → statement M
 named-from-spec =

@@ -6,13 +6,13 @@ use native.Mathlib.Omega.{arith}
 use borrow.Author.Needs.{needs}
 use Rattle.journey.specs.Answers.{pointsIn, blankJourneyPoint}
 use Rattle.route.specs.Table.{nidtps}
-use Rattle.route.specs.Loops.{left-more, left-none}
-use Rattle.route.specs.Laws.{nidtps-more, nidtps-all}
+use Rattle.route.proofs.Loops.{left-more, left-none}
+use Rattle.route.proofs.Placed.{nidtps-more, nidtps-all}
 use Rattle.route.proofs.nidtps_of.Statement.{statement}
 use Rattle.route.proofs.nidtps_of.Tie as tie
 
 abbrev Inv-loop : tie.InvT-loop
-Inv-loop j n names₀ i₀ names i = (i ≤ min (j .pointcount) 64) × (length names ≡ 64) × (nidtps (pointsIn j) ≡ take i names ++ nidtps (drop i (pointsIn j)))
+Inv-loop j n names₀ i₀ names i = (i ≤ min (j .«point_count») 64) × (length names ≡ 64) × (nidtps (pointsIn j) ≡ take i names ++ nidtps (drop i (pointsIn j)))
 
 abbrev μ-loop : tie.MeasureT-loop
 μ-loop j n names₀ i₀ names i = n - i
@@ -46,13 +46,13 @@ loop-again c =
     let w = c .before .before .loop in
     let j = c .before .before .before .before .args .t1 in
     let long : length (w .names) ≡ 64 = w .inv .1 in
-    (omega arith, length-set (w .names) (w .i) _ ∙ long, nidtps-more (w .names) (w .i) _ _ (w .inv .2) (getD (j .points) (w .i) blankJourneyPoint) _ (omega arith) (left-more blankJourneyPoint (min (j .pointcount) 64) (w .i) (j .points) (omega arith) (omega arith)))
+    (omega arith, length-set (w .names) (w .i) _ ∙ long, nidtps-more (w .names) (w .i) _ _ (w .inv .2) (getD (j .points) (w .i) blankJourneyPoint) _ (omega arith) (left-more blankJourneyPoint (min (j .«point_count») 64) (w .i) (j .points) (omega arith) (omega arith)))
 
 returns : tie.Need-returns Inv-loop μ-loop
 returns c =
     let w = c .before .loop in
     let j = c .before .before .before .args .t1 in
-    nidtps-all (w .names) (w .i) _ _ (w .inv .2) (min (j .pointcount) 64) (w .inv .0) (omega arith) (left-none blankJourneyPoint (min (j .pointcount) 64) (w .i) (j .points) (omega arith))
+    nidtps-all (w .names) (w .i) _ _ (w .inv .2) (min (j .«point_count») 64) (w .inv .0) (omega arith) (left-none blankJourneyPoint (min (j .«point_count») 64) (w .i) (j .points) (omega arith))
 
 pub nidtps-of-spec : {M : Type 1} → statement M
 nidtps-of-spec =

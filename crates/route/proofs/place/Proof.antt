@@ -12,8 +12,8 @@ use Rattle.journey.specs.Journey.{JourneyValue}
 use Rattle.journey.specs.Answers.{namesIn, pointsIn, valueIn}
 use Rattle.route.specs.Placing.{segmentsOf, recordPoints, pointsOf}
 use Rattle.route.specs.Table.{mismatched, disordered}
-use Rattle.route.specs.Laws.{index-fits}
-use Rattle.route.specs.Judging.{mismatched-same, points-are, disordered-same, row-10, row-11, row-12, no-row, told-refused, told-loaded}
+use Rattle.route.proofs.Placed.{index-fits}
+use Rattle.route.proofs.Rows.{mismatched-same, points-are, disordered-same, row-10, row-11, row-12, no-row, told-refused, told-loaded}
 use Rattle.route.proofs.place.Statement.{statement}
 use Rattle.route.proofs.place.Tie as tie
 

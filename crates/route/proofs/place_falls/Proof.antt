@@ -4,8 +4,8 @@ use lib.ListN.{length, drop, take}
 use native.Mathlib.Omega.{arith}
 use borrow.Author.Needs.{needs}
 use Rattle.route.specs.Table.{placeFalls}
-use Rattle.route.specs.Loops.{left-more, left-none}
-use Rattle.data.specs.Engine.{blankPoint}
+use Rattle.route.proofs.Loops.{left-more, left-none}
+use Rattle.engine_value.specs.Engine.{blankPoint}
 use Rattle.route.proofs.place_falls.Statement.{statement}
 use Rattle.route.proofs.place_falls.Tie as tie
 

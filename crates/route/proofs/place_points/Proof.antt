@@ -4,12 +4,12 @@ use lib.ListN.{length, getD, drop, length-map, length-take}
 use native.Mathlib.Omega.{arith}
 use denote.Ref.{now}
 use borrow.Author.Needs.{needs}
-use Rattle.data.specs.Engine.{blankSegment}
+use Rattle.engine_value.specs.Engine.{blankSegment}
 use Rattle.book.specs.Answers.{blankEntry}
 use Rattle.journey.specs.Answers.{pointsIn, blankJourneyPoint}
-use Rattle.route.specs.Loops.{left-more, left-none, getD-there}
+use Rattle.route.proofs.Loops.{left-more, left-none, getD-there}
 use Rattle.route.specs.Answers.{recordsIn}
-use Rattle.route.specs.Laws.{index-below, entry-point, point-fits, point-is, PlacedPoints, points-none, points-more, points-end}
+use Rattle.route.proofs.Placed.{index-below, entry-point, point-fits, point-is, PlacedPoints, points-none, points-more, points-end}
 use Rattle.route.proofs.place_points.Statement.{statement}
 use Rattle.route.proofs.place_points.Tie as tie
 
@@ -99,14 +99,14 @@ loop-again c =
     let g = getD-there (m .segments) (p .index) _ blankSegment (omega (arith, k, long (c .before .before .before .before))) in
     let f = c .before .find-point .ensures ∙ entry-point s m p (getD (m .entries) (p .index) blankEntry) refl in
     let n : w .i < length (pointsIn j) = rw length-take (omega arith) in
-    points-more (m .segments) (recordsIn s m) (pointsIn j) (w .i) (w .points) p _ n (left-more blankJourneyPoint (min (j .pointcount) 64) (w .i) (j .points) (omega arith) (omega arith)) (c .point-of .ensures ∙ point-is s m p _ _ g f) (w .inv)
+    points-more (m .segments) (recordsIn s m) (pointsIn j) (w .i) (w .points) p _ n (left-more blankJourneyPoint (min (j .«point_count») 64) (w .i) (j .points) (omega arith) (omega arith)) (c .point-of .ensures ∙ point-is s m p _ _ g f) (w .inv)
 
 returns : tie.Need-returns Inv-loop μ-loop
 returns c =
     let w = c .before .loop in
     let a = c .before .before .before .before .before .args in
     let j = a .t1 in
-    points-end (a .t2 .segments) (recordsIn (now (a .s)) (a .t2)) (pointsIn j) (w .i) (w .points) (left-none blankJourneyPoint (min (j .pointcount) 64) (w .i) (j .points) (omega arith)) (w .inv)
+    points-end (a .t2 .segments) (recordsIn (now (a .s)) (a .t2)) (pointsIn j) (w .i) (w .points) (left-none blankJourneyPoint (min (j .«point_count») 64) (w .i) (j .points) (omega arith)) (w .inv)
 
 pub place-points-spec : {M : Type 1} → statement M
 place-points-spec =

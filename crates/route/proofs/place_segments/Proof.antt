@@ -3,10 +3,10 @@ use lib.ListN.{length, getD, length-take}
 use native.Mathlib.Omega.{arith}
 use borrow.Author.Needs.{needs}
 use Rattle.journey.specs.Answers.{namesIn, blankName}
-use Rattle.route.specs.Loops.{left-more, left-none}
+use Rattle.route.proofs.Loops.{left-more, left-none}
 use denote.Ref.{now}
 use Rattle.book.specs.Answers.{segmentsIn}
-use Rattle.route.specs.Laws.{Placed, placed-none, placed-more, placed-end, next-length}
+use Rattle.route.proofs.Placed.{Placed, placed-none, placed-more, placed-end, next-length}
 use Rattle.route.proofs.place_segments.Statement.{statement}
 use Rattle.route.proofs.place_segments.Tie as tie
 
@@ -83,7 +83,7 @@ loop-again c =
     let s = now (a .s) in
     let n : w .i < length (namesIn j) = rw length-take (omega arith) in
     placed-more s (segmentsIn s (a .b)) (namesIn j) (w .i) (w .m .segments) (w .m .entries) (w .before) (w .start) (getD (j .names) (w .i) blankName) (c .before .before .before .before .record-of .result) _ _ _ (c .before .before .before .before .before .before .before .before .before .before .before .pre) n
-    (left-more blankName (min (j .namecount) 40) (w .i) (j .names) (omega arith) (omega arith)) (c .before .before .before .before .record-of .ensures s) (c .before .before .before .entry-in .ensures) (c .before .before .segment-of .ensures) (c .before .goes-on .ensures s) (w .inv)
+    (left-more blankName (min (j .«name_count») 40) (w .i) (j .names) (omega arith) (omega arith)) (c .before .before .before .before .record-of .ensures s) (c .before .before .before .entry-in .ensures) (c .before .before .segment-of .ensures) (c .before .goes-on .ensures s) (w .inv)
 
 returns : tie.Need-returns Inv-loop μ-loop
 returns c =
@@ -92,7 +92,7 @@ returns c =
     let j = a .t1 in
     let s = now (a .s) in
     let n : length (namesIn j) ≤ w .i = rw length-take (omega arith) in
-    placed-end s (segmentsIn s (a .b)) (namesIn j) (w .i) (w .m .segments) (w .m .entries) (w .before) (w .start) (c .before .before .before .before .before .pre) n (left-none blankName (min (j .namecount) 40) (w .i) (j .names) (omega arith)) (w .inv)
+    placed-end s (segmentsIn s (a .b)) (namesIn j) (w .i) (w .m .segments) (w .m .entries) (w .before) (w .start) (c .before .before .before .before .before .pre) n (left-none blankName (min (j .«name_count») 40) (w .i) (j .names) (omega arith)) (w .inv)
 
 pub place-segments-spec : {M : Type 1} → statement M
 place-segments-spec =

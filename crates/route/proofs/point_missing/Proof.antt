@@ -4,13 +4,13 @@ use lib.ListN.{length, getD, drop, length-map}
 use native.Mathlib.Omega.{arith}
 use denote.Ref.{now}
 use borrow.Author.Needs.{needs}
-use Rattle.data.specs.Engine.{blankSegment}
+use Rattle.engine_value.specs.Engine.{blankSegment}
 use Rattle.book.specs.Answers.{blankEntry}
 use Rattle.journey.specs.Answers.{pointsIn, blankJourneyPoint}
 use Rattle.route.specs.Table.{pointMissing}
-use Rattle.route.specs.Loops.{left-more, left-none, getD-there}
+use Rattle.route.proofs.Loops.{left-more, left-none, getD-there}
 use Rattle.route.specs.Answers.{recordsIn}
-use Rattle.route.specs.Laws.{index-below, lacks-is}
+use Rattle.route.proofs.Placed.{index-below, lacks-is}
 use Rattle.route.proofs.point_missing.Statement.{statement}
 use Rattle.route.proofs.point_missing.Tie as tie
 
@@ -67,7 +67,7 @@ returns c =
     let k = small (c .before .before .before .before) in
     let g = getD-there (m .segments) (p .index) _ blankSegment (omega (arith, k, long (c .before .before .before .before))) in
     let e = c .before .lacks .ensures ∙ lacks-is (now (a .s)) m p _ (getD (m .entries) (p .index) blankEntry) g refl in
-    sym (w .inv ∙ rw (left-more blankJourneyPoint (min (j .pointcount) 64) (w .i) (j .points) (omega arith) (omega arith), sym e ∙ c .if1 .taken))
+    sym (w .inv ∙ rw (left-more blankJourneyPoint (min (j .«point_count») 64) (w .i) (j .points) (omega arith) (omega arith), sym e ∙ c .if1 .taken))
 
 add-i : tie.Need-add-i Inv-loop μ-loop
 add-i c = omega arith
@@ -85,13 +85,13 @@ loop-again c =
     let k = small (c .before .before .before .before) in
     let g = getD-there (m .segments) (p .index) _ blankSegment (omega (arith, k, long (c .before .before .before .before))) in
     let e = c .before .lacks .ensures ∙ lacks-is (now (a .s)) m p _ (getD (m .entries) (p .index) blankEntry) g refl in
-    w .inv ∙ rw (left-more blankJourneyPoint (min (j .pointcount) 64) (w .i) (j .points) (omega arith) (omega arith), sym e ∙ c .if1 .left)
+    w .inv ∙ rw (left-more blankJourneyPoint (min (j .«point_count») 64) (w .i) (j .points) (omega arith) (omega arith), sym e ∙ c .if1 .left)
 
 returns-2 : tie.Need-returns-2 Inv-loop μ-loop
 returns-2 c =
     let w = c .before .loop in
     let j = c .before .before .before .before .args .t1 in
-    sym (w .inv ∙ rw (left-none blankJourneyPoint (min (j .pointcount) 64) (w .i) (j .points) (omega arith)))
+    sym (w .inv ∙ rw (left-none blankJourneyPoint (min (j .«point_count») 64) (w .i) (j .points) (omega arith)))
 
 pub point-missing-spec : {M : Type 1} → statement M
 point-missing-spec =

@@ -23,7 +23,7 @@ slice-aggregate-repeated c =
     let j = c .before .before .before .args .j in
     let n = c .before .before .point-count in
     let e = ap (λ (k : ℕ). take k (c .before .nidtps-of .result)) (n .ensures .0) ∙ c .before .nidtps-of .ensures in
-    omega (arith, ap length e, length-map (pointsIn j) (λ (p : JourneyPoint). p .nidtp), length-take (min (j .pointcount) 64) (j .points), n .ensures .0, n .ensures .1)
+    omega (arith, ap length e, length-map (pointsIn j) (λ (p : JourneyPoint). p .nidtp), length-take (min (j .«point_count») 64) (j .points), n .ensures .0, n .ensures .1)
 
 repeated-requires : tie.Need-repeated-requires
 repeated-requires c κs = search needs

@@ -1,6 +1,6 @@
 use mathlib.Core.Path.{sym, _∙_}
 use native.Mathlib.Omega.{arith}
-use Rattle.book.specs.Laws.{lookup-at, lookup-missing, found-below}
+use Rattle.book.proofs.LookUps.{lookup-at, lookup-missing, found-below}
 use borrow.Author.Needs.{needs}
 use Rattle.route.proofs.record_of.Statement.{statement}
 use Rattle.route.proofs.record_of.Tie as tie

@@ -3,7 +3,7 @@ use mathlib.Core.Path.{_≡_, sym, _∙_}
 use mathlib.Core.Logic.{⊎-elim}
 use native.Mathlib.Omega.{arith}
 use borrow.Author.Needs.{needs}
-use Rattle.data.specs.Engine.{routeIn}
+use Rattle.engine_value.specs.Engine.{routeIn}
 use Rattle.timing.specs.Skips.{stopFrom, stopNamed}
 use Rattle.timing.proofs.Laws.{left-all, stop-none, stop-hit, stop-miss}
 use Rattle.timing.proofs.find_stop.Statement.{statement}

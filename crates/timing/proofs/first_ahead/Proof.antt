@@ -3,7 +3,7 @@ use mathlib.Core.Path.{_≡_, sym, ap, _∙_}
 use borrow.Author.Tests.{not-true, not-false}
 use native.Mathlib.Omega.{arith}
 use borrow.Author.Needs.{needs}
-use Rattle.data.specs.Engine.{routeIn}
+use Rattle.engine_value.specs.Engine.{routeIn}
 use Rattle.timing.specs.Load.{unskippedReport, targetFrom, target}
 use Rattle.timing.proofs.Laws.{left-all, target-none, target-unplaced, target-ahead, target-more}
 use Rattle.timing.proofs.first_ahead.Statement.{statement}

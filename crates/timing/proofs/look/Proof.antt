@@ -4,7 +4,7 @@ use mathlib.Core.Bool.{false}
 use borrow.Author.Tests.{not-true, not-false}
 use native.Mathlib.Omega.{arith}
 use borrow.Author.Needs.{needs}
-use Rattle.data.specs.Engine.{routeIn, progress}
+use Rattle.engine_value.specs.Engine.{routeIn, progress}
 use Rattle.timing.specs.Distance.{reportIn}
 use Rattle.timing.specs.Report.{looked, lookedFrom}
 use Rattle.timing.proofs.Laws.{look-none, look-unplaced, look-ends, look-more}

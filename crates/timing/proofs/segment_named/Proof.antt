@@ -6,7 +6,7 @@ use lib.ListN.{length, length-map}
 use borrow.Author.Tests.{eq-eqb, ne-eqb}
 use native.Mathlib.Omega.{arith}
 use borrow.Author.Needs.{needs}
-use Rattle.data.specs.Engine.{blankSegment}
+use Rattle.engine_value.specs.Engine.{blankSegment}
 use Rattle.timing.specs.Position.{segmentFrom}
 use Rattle.timing.specs.Seen.{namedIn}
 use Rattle.timing.proofs.Laws.{getD-there, and-first, left-all, segment-none, segment-hit, segment-miss}

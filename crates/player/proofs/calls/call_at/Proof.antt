@@ -1,6 +1,6 @@
 use mathlib.Core.Path.{sym, ap, _∙_}
 use denote.Ref.{now}
-use Rattle.player.specs.Calls.{call, profiles, blockSeen}
+use Rattle.player.specs.Calls.{call, profiles, blockView}
 use borrow.Author.Needs.{needs}
 use Rattle.player.proofs.calls.call_at.Statement.{statement}
 use Rattle.player.proofs.calls.call_at.Tie as tie
@@ -16,7 +16,7 @@ enum-told c = search needs
 
 returns : tie.Need-returns
 unfolding call
-returns c = rw (sym (c .before .before .block-at .ensures) ∙ ap (blockSeen (now (c .before .before .before .before .args .s))) (c .enum-told .given .1))
+returns c = rw (sym (c .before .before .block-at .ensures) ∙ ap (blockView (now (c .before .before .before .before .args .s))) (c .enum-told .given .1))
 
 is-load-requires : tie.Need-is-load-requires
 is-load-requires c κs = search needs
@@ -28,14 +28,14 @@ returns-2 : tie.Need-returns-2
 unfolding call
 returns-2 c =
     let s = now (c .before .before .before .before .before .before .before .before .args .s) in
-    let e = sym (c .before .before .before .before .before .before .block-at .ensures) ∙ ap (blockSeen s) (c .before .before .before .before .event .given .1) in
+    let e = sym (c .before .before .before .before .before .before .block-at .ensures) ∙ ap (blockView s) (c .before .before .before .before .event .given .1) in
     rw (e, sym (c .before .before .is-load .ensures) ∙ c .before .if1 .taken) (c .load-at .ensures)
 
 returns-3 : tie.Need-returns-3
 unfolding call profiles
 returns-3 c =
     let s = now (c .before .before .before .before .before .before .before .args .s) in
-    let e = sym (c .before .before .before .before .before .block-at .ensures) ∙ ap (blockSeen s) (c .before .before .before .event .given .1) in
+    let e = sym (c .before .before .before .before .before .block-at .ensures) ∙ ap (blockView s) (c .before .before .before .event .given .1) in
     rw (e, sym (c .before .is-load .ensures) ∙ c .if1 .left)
 
 pub call-at-spec : {M : Type 1} → statement M

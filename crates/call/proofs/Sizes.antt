@@ -1,0 +1,145 @@
+-- No event writes more than 1,669 bytes, whatever engine it finds: with so much memory 16 does not come.
+use Prim.Native.Nat.{ℕ, zero, suc, _+_, _-_, _*_, _≤_}
+use mathlib.Core.Path.{_≡_, refl, ap, subst, _∙_}
+use mathlib.Core.List.{List, [], _∷_, _++_, map}
+use mathlib.Core.Bool.{Bool, true, false, _&&_, _||_}
+use mathlib.Core.Option.{Option, none, some}
+use lib.ListN.{length, length-append, getD}
+use lib.Dec.{ltb}
+use borrow.Author.Tests.{le-ltb}
+use native.Mathlib.Omega.{arith}
+use Rattle.wire.specs.Judged.{Judged, thenJudge, row}
+use Rattle.wire.specs.Judged.Judged.{refuse, accept}
+use Rattle.engine_value.specs.Engine.{Route, routeIn, withPosition, progress}
+use Rattle.engine_value.specs.declared.Position.{Position}
+use Rattle.engine_value.specs.declared.Progress.{Progress}
+use Rattle.engine_value.specs.declared.Engine.{Engine}
+use Rattle.event.specs.declared.Event.{Event}
+use Rattle.event.specs.Kinds.{Role, off, load, report, other, skip, roleOf}
+use Rattle.packets.specs.Packets.{packetBytes, joined}
+use Rattle.packets.proofs.WriterLaws.{length-packetBytes, length-joined, length-one}
+use Rattle.journey.specs.declared.Head.{Head}
+use Rattle.route.specs.Route.{LoadValue, loadOf}
+use Rattle.timing.specs.Position.{pointCount, placed, known}
+use Rattle.timing.specs.Distance as distance
+use Rattle.timing.specs.Distance.{reportIn, beyond, moving}
+use Rattle.timing.specs.Report.{looked, lookedFrom, departs, firstLooked, reported, becameReached}
+use Rattle.timing.specs.Changes.{Change, change, passings, when, reportChanges, statusDeparted, statusStopped}
+use Rattle.timing.specs.Standing.{standing, behind, following}
+use Rattle.timing.proofs.Steps.{reported-stays, reported-departs, reported-looks}
+use Rattle.timing.specs.declared.Found.{Found}
+use Rattle.timing.specs.declared.Found.the-variants.{At, Nothing}
+use Rattle.call.specs.Packets.{timingPoint, jpReceived, atoStatus, received, statusDue, packetsOf}
+use Rattle.call.specs.Effect.{Effect, effectAs, effect, positionEffect, reportedIn, loadEffect, skipEffect, skippedIn, loadedIn, offsetBeyond, sameBool}
+use Rattle.call.specs.Call.{statusIn, stepBy}
+
+-- ---- the points that a report changes
+
+next-most : (j : Route) (r : distance.Report) (n k : ℕ) → looked j r n k .next ≤ k + n
+unfolding looked
+next-most j r zero k = omega arith
+next-most j r (suc n) k = go _ refl _ refl (next-most j r n (k + 1))
+  where
+    go : (a : Bool) → known j (r .position) && placed j k ≡ a → (b : Bool) → beyond j r k ≡ b → looked j r n (k + 1) .next ≤ k + 1 + n → looked j r (suc n) k .next ≤ k + suc n
+    go false p b q h = rw p (omega arith)
+    go true p true q h = rw (p, q) (omega arith)
+    go true p false q h = rw (p, q) (omega arith)
+
+length-passings : (n k : ℕ) → length (passings n k) ≡ n
+unfolding passings
+length-passings zero k = refl
+length-passings (suc n) k = ap suc (length-passings n (k + 1))
+
+length-when : {A : Type 0} (b : Bool) (a : A) → length (when b a) ≤ 1
+length-when true a = omega arith
+length-when false a = omega arith
+
+module _ (j : Route) (r : distance.Report) (p : Progress) where
+  after-most : (k : ℕ) → lookedFrom j r k .next - k ≤ 64
+  after-most k = omega (arith, next-most j r (pointCount j - k) k)
+
+  passed-most : reported j r p .next - firstLooked r p ≤ 64
+  passed-most = go (p .reached) refl (moving r) refl
+    where
+      go : (a : Bool) → p .reached ≡ a → (b : Bool) → moving r ≡ b → reported j r p .next - firstLooked r p ≤ 64
+      go false e b f = rw (reported-looks j r p e, e) (after-most (p .next))
+      go true e false f = rw (reported-stays j r p e f, e, f) (omega arith)
+      go true e true f = rw (reported-departs j r p e f, e, f) (after-most (following (p .next)))
+
+  changes-most : length (reportChanges j r p) ≤ 66
+  unfolding reportChanges
+  changes-most =
+      let a = length-when (departs r p) (change (p .next) statusDeparted (progress (firstLooked r p) false)) in
+      let b = length-when (becameReached j r p) (change (reported j r p .next) statusStopped (reported j r p)) in
+      simp (length-append, length-passings) (omega (arith, passed-most, a, b))
+
+-- ---- what an effect writes, but for packet 68
+
+abbrev loadBytes : Option Head → ℕ
+loadBytes none = 0
+loadBytes (some h) = 29
+
+abbrev Small : Judged Effect → Type 0
+Small (refuse n) = Unit {0}
+Small (accept f) = loadBytes (f .loaded) + 25 * length (f .changes) ≤ 1650
+
+small-row : (n : ℕ) (b : Bool) (f : Effect) → Small (accept f) → Small (thenJudge (row n b) (λ a. accept f))
+small-row n true f h = tt
+small-row n false f h = h
+
+small-skip : (e : Engine) (on : Bool) (f : Found) → Small (skipEffect e on f)
+unfolding skipEffect
+small-skip e on Nothing = tt
+small-skip e on (At k) = small-row 15 (behind (standing (e .progress) k) || sameBool (getD (e .skips) k false) on) (skippedIn e k on) (omega arith)
+
+small-load : (e : Engine) (x : Judged LoadValue) → Small (thenJudge x (λ l. accept (loadedIn e l)))
+small-load e (refuse n) = tt
+small-load e (accept l) = omega arith
+
+small-as : (r : Role) (m : Engine) (journey book : List ℕ) → Small (effectAs r m journey book)
+unfolding positionEffect loadEffect
+small-as off m journey book = omega arith
+small-as load m journey book = small-load m (loadOf journey book)
+small-as report m journey book = small-row 13 (offsetBeyond (routeIn m) (m .train .position)) (reportedIn m) (omega (arith, changes-most (routeIn m) (reportIn m) (m .progress)))
+small-as other m journey book = omega arith
+small-as (skip t on) m journey book = small-skip m on _
+
+small : (e : Engine) (journey book : List ℕ) (event : Event) → Small (effect e journey book event)
+unfolding effect
+small e journey book event = small-as (roleOf event) _ journey book
+
+-- ---- the packets
+
+module _ (j : Route) (x : Position) where
+  size-62s : (l : List Change) → length (joined (map (timingPoint j x) l)) ≡ 25 * length l
+  unfolding timingPoint
+  size-62s [] = refl
+  size-62s (c ∷ l) = length-append (packetBytes (timingPoint j x c)) _ ∙ omega (arith, length-packetBytes (timingPoint j x c), size-62s l)
+
+  size-65 : (h : Option Head) → length (joined (received j x h)) ≡ loadBytes h
+  unfolding jpReceived
+  size-65 none = refl
+  size-65 (some h) = length-one (jpReceived j x h) 29 refl
+
+  size-68 : (b : Bool) (s n : ℕ) → length (joined (when b (atoStatus j x s n))) ≤ 19
+  unfolding atoStatus
+  size-68 true s n = omega (arith, length-one (atoStatus j x s n) 19 refl)
+  size-68 false s n = omega arith
+
+-- "16 shorter than this event's packets"
+pub bytes-most : (e : Engine) (journey book : List ℕ) (event : Event) (f : Effect) → effect e journey book event ≡ accept f → length (joined (stepBy e event f .packets)) ≤ 1669
+unfolding packetsOf
+bytes-most e journey book event f q =
+    let m = stepBy e event f .engine in
+    let j = routeIn m in
+    let x = m .train .position in
+    let h : loadBytes (f .loaded) + 25 * length (f .changes) ≤ 1650 = subst Small q (small e journey book event) in
+    let due = statusDue (statusIn e) (statusIn m) in
+    let a = length-joined (received j x (f .loaded)) (map (timingPoint j x) (f .changes) ++ when due (atoStatus j x (statusIn m .state) (statusIn m .conditions))) in
+    let b = length-joined (map (timingPoint j x) (f .changes)) (when due (atoStatus j x (statusIn m .state) (statusIn m .conditions))) in
+    omega (arith, h, a, b, size-65 j x (f .loaded), size-62s j x (f .changes), size-68 j x due (statusIn m .state) (statusIn m .conditions))
+
+-- with so much memory that row does not refuse
+pub row-16 : (e : Engine) (journey book memory : List ℕ) (event : Event) (f : Effect) → effect e journey book event ≡ accept f → 1669 ≤ length memory
+    → row 16 (ltb (length memory) (length (joined (stepBy e event f .packets)))) ≡ accept tt
+row-16 e journey book memory event f q h = rw (le-ltb (length memory) (length (joined (stepBy e event f .packets))) (omega (arith, bytes-most e journey book event f q)))

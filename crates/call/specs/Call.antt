@@ -1,0 +1,91 @@
+-- The meaning of a call: the table of numbers from top to bottom, else the new engine, its answer and the output memory.
+use Prim.Native.Nat.{ℕ}
+use mathlib.Core.List.{List, [], _∷_, _++_}
+use mathlib.Core.Bool.{Bool, true, false, cond}
+use lib.ListN.{length, drop}
+use lib.Dec.{ltb}
+use Rattle.wire.specs.Judged.{Judged, thenJudge, row, _>>=_, _>>_}
+use Rattle.wire.specs.Judged.Judged.{refuse, accept}
+use Rattle.engine_value.specs.Engine.{routeIn, withControl}
+use Rattle.engine_value.specs.declared.Engine.{Engine}
+use Rattle.event.specs.Events.{eventOf}
+use Rattle.event.specs.Kinds.{kindOf}
+use Rattle.event.specs.declared.Event.{Event}
+use Rattle.packets.specs.Packets.{joined}
+use Rattle.packets.specs.declared.Packet.{Packet}
+use Rattle.timing.specs.Standing.{standing}
+use Rattle.control.specs.Codes.{stateAt}
+use Rattle.control.specs.Conditions.{conditions}
+use Rattle.control.specs.Numbers.{powerRows, stateRow}
+use Rattle.control.specs.Settled.{controlAfter}
+use Rattle.call.specs.Packets.{Status, packetsOf}
+use Rattle.call.specs.Effect.{Effect, effect}
+use Rattle.call.specs.declared.Answer.{Answer}
+
+-- "A call brings any event, profiles and output memory"
+pub record Call : Type 0 where
+  pub event : List ℕ
+  pub journey : List ℕ
+  pub book : List ℕ
+  pub memory : List ℕ
+
+-- "An accepted event returns state, request and bytes written."
+pub record Accepted : Type 0 where
+  pub state : ℕ
+  pub request : Bool
+  pub bytes : ℕ
+
+-- what a call answers and leaves
+pub record Outcome : Type 0 where
+  pub answer : Judged Accepted
+  pub engine : Engine
+  pub memory : List ℕ
+
+-- "For an answer that is an enum, a definition gives this paper's number and values for each of its cases."
+abbrev pub answerOf : Answer → Judged Accepted
+answerOf (Answer.Accepted s r n) = accept (record { state = s; request = r; bytes = n })
+answerOf (Answer.Refused n) = refuse n
+
+-- the nine conditions as the engine shows them
+unfoldable pub conditionsIn : Engine → ℕ
+conditionsIn e = conditions (routeIn e) (e .control .reports) (e .train .position) (standing (e .progress))
+
+abbrev pub statusIn : Engine → Status
+statusIn e = record { state = e .control .state; conditions = conditionsIn e; speed = e .train .position .speed }
+
+-- an accepted event: the engine after it, and its packets
+pub record Step : Type 0 where
+  pub engine : Engine
+  pub packets : List Packet
+
+abbrev pub stepTo : Engine → Effect → Engine → Step
+stepTo e f m = record { engine = m; packets = packetsOf (routeIn m) (m .train .position) (f .loaded) (f .changes) (statusIn e) (statusIn m) }
+
+-- "After each accepted event": the rows of the states over the event's values
+abbrev pub stepBy : Engine → Event → Effect → Step
+stepBy e event f = stepTo e f (withControl (f .engine) (controlAfter (f .engine .control) event (f .reached) (conditionsIn (f .engine))))
+
+-- the table of numbers; output: "16 shorter than this event's packets"
+unfoldable pub judged : Engine → Call → Judged Step
+judged e c = do
+  event ← eventOf (c .event)
+  powerRows (stateAt (e .control .state)) (kindOf event)
+  stateRow (stateAt (e .control .state)) (kindOf event)
+  f ← effect e (c .journey) (c .book) event
+  row 16 (ltb (length (c .memory)) (length (joined (stepBy e event f .packets))))
+  accept (stepBy e event f)
+
+-- "Every refusal returns the number only and changes neither engine nor memory."
+-- "An accepted event returns state, request and bytes written"; the bytes behind keep their values
+unfoldable pub outcomeOf : Engine → List ℕ → Judged Step → Outcome
+outcomeOf e memory (refuse n) = record { answer = refuse n; engine = e; memory = memory }
+outcomeOf e memory (accept s) =
+    let bytes = joined (s .packets) in
+    record {
+      answer = accept (record { state = s .engine .control .state; request = s .engine .control .request; bytes = length bytes });
+      engine = s .engine;
+      memory = bytes ++ drop (length bytes) memory;
+    }
+
+unfoldable pub stepOf : Engine → Call → Outcome
+stepOf e c = outcomeOf e (c .memory) (judged e c)

@@ -1,0 +1,28 @@
+-- For proofs by computation: `unfolding computed` opens `stepOf` and all that it is made of.
+use Rattle.wire.specs.Numbers.{number, bytesOf}
+use Rattle.wire.specs.Parse.{field, optional, many, counted, listed}
+use Rattle.event.specs.Events.{positioned, carries, eventOfKind, eventOf}
+use Rattle.book.specs.Book.{bookPoint, zoneRecord, segmentRecord, records, bookOf}
+use Rattle.journey.specs.Journey.{nameRecord, pointMap, pointRecord, headMap, headRecord, journeyRecord}
+use Rattle.route.specs.Placing.{segmentOf, segmentsFrom, pointOf, pointsFrom}
+use Rattle.route.specs.Table.{mismatched, disordered, checked, journeyOf}
+use Rattle.route.specs.Route.{routeOf, loadOf}
+use Rattle.timing.specs.Position.{segmentFrom, frontIn, front}
+use Rattle.timing.specs.Distance.{beyond, atStop}
+use Rattle.timing.specs.Load.{targetFrom, target}
+use Rattle.timing.specs.Report.{looked, reported}
+use Rattle.timing.specs.Changes.{passings, reportChanges}
+use Rattle.timing.specs.Skips.{stopFrom}
+use Rattle.control.specs.Conditions.{firstAhead, countsIn, counts, inZones, outsideIn, conditions}
+use Rattle.control.specs.Numbers.{powerRows, stateRow}
+use Rattle.control.specs.States.{settled}
+use Rattle.control.specs.Settled.{controlAfter}
+use Rattle.packets.specs.Packets.{headerBytes, bytes62, bytes65, bytes68}
+use Rattle.engine_value.specs.declared.Engine.{Engine}
+use Rattle.call.specs.Packets.{timingPoint, jpReceived, atoStatus, statusDue, packetsOf}
+use Rattle.call.specs.Effect.{beyondIn, offsetBeyond, positionEffect, loadEffect, skipEffect, effect}
+use Rattle.call.specs.Call.{Call, Outcome, conditionsIn, judged, outcomeOf, stepOf}
+
+unfoldable pub computed : Engine → Call → Outcome
+unfolding number bytesOf field optional many counted listed positioned carries eventOfKind eventOf bookPoint zoneRecord segmentRecord records bookOf nameRecord pointMap pointRecord headMap headRecord journeyRecord segmentOf segmentsFrom pointOf pointsFrom mismatched disordered checked journeyOf routeOf loadOf segmentFrom frontIn front beyond atStop targetFrom target looked reported passings reportChanges stopFrom firstAhead countsIn counts inZones outsideIn conditions powerRows stateRow settled controlAfter headerBytes bytes62 bytes65 bytes68 timingPoint jpReceived atoStatus statusDue packetsOf beyondIn offsetBeyond positionEffect loadEffect skipEffect effect conditionsIn judged outcomeOf stepOf
+computed e c = stepOf e c

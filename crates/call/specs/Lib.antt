@@ -1,0 +1,7 @@
+-- The meaning of a call.
+pub mod Packets
+pub mod Effect
+pub mod Call
+pub mod Shown
+pub mod Computed
+pub mod Trials

@@ -1,0 +1,81 @@
+-- Document 01, "Packets": which packets an event writes, and with what values. Header values are those after the event.
+use Prim.Native.Nat.{ℕ}
+use mathlib.Core.List.{List, [], _∷_, _++_, map}
+use mathlib.Core.Bool.{Bool, true, false, cond, not, _&&_, _||_}
+use mathlib.Core.Option.{Option, none, some}
+use lib.Dec.{eqb}
+use Rattle.wire.specs.Numbers.{flag, if_then_else_}
+use Rattle.engine_value.specs.Engine.{Route}
+use Rattle.engine_value.specs.declared.Position.{Position}
+use Rattle.packets.specs.declared.Header.{Header}
+use Rattle.packets.specs.declared.TimingPoint.{TimingPoint}
+use Rattle.packets.specs.declared.JpReceived.{JpReceived}
+use Rattle.packets.specs.declared.AtoStatus.{AtoStatus}
+use Rattle.packets.specs.declared.Packet.{Packet}
+use Rattle.journey.specs.declared.Head.{Head}
+use Rattle.timing.specs.Position.{point, known}
+use Rattle.timing.specs.Standing.{standing}
+use Rattle.timing.specs.Changes.{Change, statusStopped, when}
+use Rattle.control.specs.Codes.{code}
+use Rattle.control.specs.Conditions.{endAhead}
+use Rattle.control.specs.declared.State.the-variants.{EG}
+
+-- "header: NID_C (2), NID_SP (4), offset (4), speed (2), NID_OPERATIONAL (4; FFFFFFFF hexadecimal with no journey)"
+abbrev pub header : Route → Position → Header
+header j x = record { nidc = x .nidc; nidsp = x .nidsp; offset = x .offset; speed = x .speed; operational = j .load .operational }
+
+-- "62: point's NID_C, NID_TP, info: Q_EOJ_REACHED (after that change; 0 once the End of Journey is reached or passed, else 1) + 2 × alignment
+-- + 8 × status (..), stopping data (1; 0 unless status 1)"
+unfoldable pub timingPoint : Route → Position → Change → Packet
+timingPoint j x c =
+    let p = point j (c .index) in
+    Packet.TimingPoint (record {
+      header = header j x;
+      nidc = p .nidc;
+      nidtp = p .nidtp;
+      «q_eoj_reached» = flag (endAhead j (standing (c .after)));
+      alignment = p .alignment;
+      status = c .status;
+      stopping = if eqb (c .status) statusStopped then p .stopping else 0;
+    })
+
+-- "65 on an accepted load: NID_C (1,024 unless the position is known), NID_ATOTS, date, seconds, counter, status 0."
+unfoldable pub jpReceived : Route → Position → Head → Packet
+jpReceived j x h =
+    Packet.JpReceived (record {
+      header = header j x;
+      nidc = if known j x then x .nidc else 1024;
+      atots = h .atots;
+      date = h .date;
+      seconds = h .seconds;
+      counter = h .counter;
+      status = 0;
+    })
+
+-- "68: state + 16 × conditions (2)."
+unfoldable pub atoStatus : Route → Position → ℕ → ℕ → Packet
+atoStatus j x state conditions = Packet.AtoStatus (record { header = header j x; state = state; conditions = conditions })
+
+-- what a packet 68 is written for: state, conditions and speed
+pub record Status : Type 0 where
+  pub state : ℕ
+  pub conditions : ℕ
+  pub speed : ℕ
+
+-- "Written when state or conditions changed, or speed rose from 0 while not EG afterwards; once an event."
+unfoldable pub statusDue : Status → Status → Bool
+statusDue before after =
+    not (eqb (after .state) (before .state))
+    || (not (eqb (after .conditions) (before .conditions))
+    || (eqb (before .speed) 0 && (not (eqb (after .speed) 0) && not (eqb (after .state) (code EG)))))
+
+abbrev pub received : Route → Position → Option Head → List Packet
+received j x none = []
+received j x (some h) = jpReceived j x h ∷ []
+
+-- "Order: 65, the 62s as they arise, 68."
+unfoldable pub packetsOf : Route → Position → Option Head → List Change → Status → Status → List Packet
+packetsOf j x loaded changes before after =
+    received j x loaded
+    ++ (map (timingPoint j x) changes
+    ++ when (statusDue before after) (atoStatus j x (after .state) (after .conditions)))

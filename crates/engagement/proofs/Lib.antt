@@ -1,0 +1,2 @@
+pub mod Engaged
+pub mod Requests

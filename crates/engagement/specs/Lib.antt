@@ -1,0 +1,2 @@
+pub mod Engagement
+pub mod Run

@@ -1,0 +1,103 @@
+-- The engine as a value: blank elements, fresh, and a setter for each group (antt has no record update).
+use Prim.Native.Nat.{ℕ}
+use mathlib.Core.List.{List, _++_}
+use mathlib.Core.Bool.{Bool, true, false}
+use lib.ListN.{replicate, take}
+use Rattle.engine_value.specs.declared.Zone.{Zone}
+use Rattle.engine_value.specs.declared.Segment.{Segment}
+use Rattle.engine_value.specs.declared.Point.{Point}
+use Rattle.engine_value.specs.declared.Load.{Load}
+use Rattle.engine_value.specs.declared.Progress.{Progress}
+use Rattle.engine_value.specs.declared.Position.{Position}
+use Rattle.engine_value.specs.declared.Train.{Train}
+use Rattle.engine_value.specs.declared.Control.{Control}
+use Rattle.engine_value.specs.declared.Engine.{Engine}
+
+-- the greatest numbers of two and of four bytes
+abbrev pub max2 : ℕ
+max2 = 65535
+
+abbrev pub max4 : ℕ
+max4 = 4294967295
+
+-- "offset (4; 16,777,215 undefined, none higher)"
+abbrev pub undefined : ℕ
+undefined = 16777215
+
+-- ---- what stands in the arrays beyond the counts
+
+-- the first n of l, and behind them blank
+abbrev pub filled : {A : Type 0} → ℕ → A → List A → List A
+filled n blank l = take n (l ++ replicate n blank)
+
+abbrev pub blankZone : Zone
+blankZone = record { start = 0; end = 0 }
+
+abbrev pub blankSegment : Segment
+blankSegment = record { nidc = 0; nidsp = 0; booked = false; placed = false; start = 0; length = 0; «zone_count» = 0; zones = replicate 4 blankZone }
+
+abbrev pub blankPoint : Point
+blankPoint = record { nidtp = 0; nidc = 0; alignment = 0; stopping = 0; stop = false; trackside = false; placed = false; place = 0; reach = 0 }
+
+-- ---- "Fresh: NP, mode other, lever neutral, reports 0, length 0, speed 0, NID_C and NID_SP 0, offset undefined, no journey, no press, no request."
+
+abbrev pub progress : ℕ → Bool → Progress
+progress n r = record { next = n; reached = r }
+
+-- "NID_OPERATIONAL (4; FFFFFFFF hexadecimal with no journey)"
+abbrev pub noLoad : Load
+noLoad = record { valid = false; operational = max4; ending = 0; «point_count» = 0; «segment_count» = 0 }
+
+abbrev pub freshPosition : Position
+freshPosition = record { nidc = 0; nidsp = 0; offset = undefined; speed = 0 }
+
+abbrev pub fresh : Engine
+fresh = record {
+  points = replicate 64 blankPoint;
+  skips = replicate 64 false;
+  segments = replicate 40 blankSegment;
+  load = noLoad;
+  progress = progress 0 false;
+  train = record { position = freshPosition; length = 0 };
+  control = record { state = 0; mode = 0; lever = 0; reports = 0; press = false; request = false };
+}
+
+-- ---- a load's result: what stands in the engine until the next one
+
+pub record Route : Type 0 where
+  pub load : Load
+  pub points : List Point
+  pub segments : List Segment
+
+abbrev pub noRoute : Route
+noRoute = record { load = noLoad; points = replicate 64 blankPoint; segments = replicate 40 blankSegment }
+
+abbrev pub routeIn : Engine → Route
+routeIn e = record { load = e .load; points = e .points; segments = e .segments }
+
+abbrev pub noSkips : List Bool
+noSkips = replicate 64 false
+
+-- ---- setters
+
+-- "Driver skips are cleared."
+abbrev pub withRoute : Engine → Route → Engine
+withRoute e r = record { points = r .points; skips = noSkips; segments = r .segments; load = r .load; progress = e .progress; train = e .train; control = e .control }
+
+abbrev pub withSkips : Engine → List Bool → Engine
+withSkips e l = record { points = e .points; skips = l; segments = e .segments; load = e .load; progress = e .progress; train = e .train; control = e .control }
+
+abbrev pub withProgress : Engine → Progress → Engine
+withProgress e p = record { points = e .points; skips = e .skips; segments = e .segments; load = e .load; progress = p; train = e .train; control = e .control }
+
+abbrev pub withTrain : Engine → Train → Engine
+withTrain e t = record { points = e .points; skips = e .skips; segments = e .segments; load = e .load; progress = e .progress; train = t; control = e .control }
+
+abbrev pub withControl : Engine → Control → Engine
+withControl e c = record { points = e .points; skips = e .skips; segments = e .segments; load = e .load; progress = e .progress; train = e .train; control = c }
+
+abbrev pub withPosition : Engine → Position → Engine
+withPosition e p = withTrain e (record { position = p; length = e .train .length })
+
+abbrev pub withLength : Engine → ℕ → Engine
+withLength e n = withTrain e (record { position = e .train .position; length = n })

@@ -1,0 +1,182 @@
+// The engine as a value: the journey in force, the train, how far it has come, and the ATO state. Numbers, bools and arrays of
+// plain structs, so that a host in C can hold it.
+ghost use mathlib.Core.Path.{_≡_};
+ghost use Rattle.engine_value.specs.Engine.{blankSegment, blankPoint, freshPosition, fresh};
+
+// An inhibition zone of a segment, both ends inside.
+#[repr(C)]
+pub struct Zone {
+    pub start: u32,
+    pub end: u32,
+}
+
+// A segment of the journey. It is placed if it and all before it are in the book; `start` is then counted from the journey's start.
+#[repr(C)]
+pub struct Segment {
+    pub nidc: u16,
+    pub nidsp: u32,
+    pub booked: bool,
+    pub placed: bool,
+    pub start: u32,
+    pub length: u32,
+    pub zone_count: u8,
+    pub zones: [Zone; 4],
+}
+
+// A timing point of the journey. Where it is placed, `place` is counted from the journey's start, and `reach` is the reached distance R.
+#[repr(C)]
+pub struct Point {
+    pub nidtp: u32,
+    pub nidc: u16,
+    pub alignment: u8,
+    pub stopping: u8,
+    pub stop: bool,
+    pub trackside: bool,
+    pub placed: bool,
+    pub place: u32,
+    pub reach: u16,
+}
+
+// What a load settles beside the points and the segments; `ending` is the index of the End of Journey.
+#[repr(C)]
+pub struct Load {
+    pub valid: bool,
+    pub operational: u32,
+    pub ending: u8,
+    pub point_count: u8,
+    pub segment_count: u8,
+}
+
+// The first point not passed, and whether it is reached: points before it are passed, later ones not used.
+#[repr(C)]
+pub struct Progress {
+    pub next: u8,
+    pub reached: bool,
+}
+
+#[repr(C)]
+pub struct Position {
+    pub nidc: u16,
+    pub nidsp: u32,
+    pub offset: u32,
+    pub speed: u16,
+}
+
+#[repr(C)]
+pub struct Train {
+    pub position: Position,
+    pub length: u32,
+}
+
+// The ATO state and its inputs, by their codes.
+#[repr(C)]
+pub struct Control {
+    pub state: u8,
+    pub mode: u8,
+    pub lever: u8,
+    pub reports: u8,
+    pub press: bool,
+    pub request: bool,
+}
+
+// The journey's points and the driver skips of each, its segments, and the groups above.
+#[repr(C)]
+pub struct Engine {
+    pub points: [Point; 64],
+    pub skips: [bool; 64],
+    pub segments: [Segment; 40],
+    pub load: Load,
+    pub progress: Progress,
+    pub train: Train,
+    pub control: Control,
+}
+
+// The value of a segment beyond the journey's count.
+pub fn blank_segment() -> Segment
+    ensures { λ r. ⌜ r ≡ blankSegment ⌝ }
+{
+    let zone = Zone { start: 0, end: 0 };
+    let zones = [zone; 4];
+    Segment {
+        nidc: 0,
+        nidsp: 0,
+        booked: false,
+        placed: false,
+        start: 0,
+        length: 0,
+        zone_count: 0,
+        zones: zones,
+    }
+}
+
+// The value of a point beyond the journey's count.
+pub fn blank_point() -> Point
+    ensures { λ r. ⌜ r ≡ blankPoint ⌝ }
+{
+    Point {
+        nidtp: 0,
+        nidc: 0,
+        alignment: 0,
+        stopping: 0,
+        stop: false,
+        trackside: false,
+        placed: false,
+        place: 0,
+        reach: 0,
+    }
+}
+
+fn fresh_position() -> Position
+    ensures { λ r. ⌜ r ≡ freshPosition ⌝ }
+{
+    Position {
+        nidc: 0,
+        nidsp: 0,
+        offset: 16777215,
+        speed: 0,
+    }
+}
+
+// The fresh engine.
+pub fn fresh() -> Engine
+    ensures { λ r. ⌜ r ≡ fresh ⌝ }
+{
+    let point = blank_point();
+    let segment = blank_segment();
+    let position = fresh_position();
+    let points = [point; 64];
+    let skips = [false; 64];
+    let segments = [segment; 40];
+    let load = Load {
+        valid: false,
+        operational: 4294967295,
+        ending: 0,
+        point_count: 0,
+        segment_count: 0,
+    };
+    let progress = Progress {
+        next: 0,
+        reached: false,
+    };
+    let train = Train {
+        position: position,
+        length: 0,
+    };
+    let control = Control {
+        state: 0,
+        mode: 0,
+        lever: 0,
+        reports: 0,
+        press: false,
+        request: false,
+    };
+    Engine {
+        points: points,
+        skips: skips,
+        segments: segments,
+        load: load,
+        progress: progress,
+        train: train,
+        control: control,
+    }
+}

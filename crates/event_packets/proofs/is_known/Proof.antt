@@ -1,0 +1,24 @@
+use mathlib.Core.Path.{sym, ap, _∙_}
+use Rattle.timing.specs.Position.{isKnown}
+use borrow.Author.Needs.{needs}
+use Rattle.event_packets.proofs.is_known.Statement.{statement}
+use Rattle.event_packets.proofs.is_known.Tie as tie
+
+front-position-requires : tie.Need-front-position-requires
+front-position-requires c κs = search needs
+
+enum-told : tie.Need-enum-told
+enum-told c = search needs
+
+enum-told-2 : tie.Need-enum-told-2
+enum-told-2 c = search needs
+
+returns : tie.Need-returns
+returns c = sym (ap isKnown (sym (c .before .before .front-position .ensures .0) ∙ c .enum-told .given .1))
+
+returns-2 : tie.Need-returns-2
+returns-2 c = sym (ap isKnown (sym (c .before .before .front-position .ensures .0) ∙ c .enum-told2 .given .1))
+
+pub is-known-spec : {M : Type 1} → statement M
+is-known-spec =
+    tie.close (tie.spec front-position-requires enum-told enum-told-2 returns returns-2)

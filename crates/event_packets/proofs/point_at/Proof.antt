@@ -1,0 +1,28 @@
+use mathlib.Core.Path.{_≡_, sym, _∙_}
+use native.Mathlib.Omega.{arith}
+use lib.ListN.{length, length-map, List·getD-eq-default}
+use Rattle.engine_value.specs.Engine.{blankPoint}
+use borrow.Author.Needs.{needs}
+use Rattle.event_packets.proofs.point_at.Statement.{statement}
+use Rattle.event_packets.proofs.point_at.Tie as tie
+
+mul-result : tie.Need-mul-result
+mul-result c = search needs
+
+array-copy-out-result : tie.Need-array-copy-out-result
+array-copy-out-result c = search needs
+
+returns : tie.Need-returns
+returns c = search needs
+
+blank-point-requires : tie.Need-blank-point-requires
+blank-point-requires c κs = search needs
+
+returns-2 : tie.Need-returns-2
+returns-2 c = let b = c .before .before .before in let a = b .args in
+    let z : length (a .e .points) ≡ 64 = (sym (length-map (a .e .points) _) ∙ b .good .0 .1 .1 .0 .1 .0 .1) in
+    c .blank-point .ensures ∙ sym (List·getD-eq-default (a .e .points) blankPoint {n = a .k} (omega arith))
+
+pub point-at-spec : {M : Type 1} → statement M
+point-at-spec =
+    tie.close (tie.spec mul-result array-copy-out-result returns blank-point-requires returns-2)

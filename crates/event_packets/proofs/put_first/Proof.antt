@@ -1,0 +1,31 @@
+use borrow.Author.Tests.{not-false, not-true}
+use Rattle.event_packets.proofs.Stored.{put-62, none-62}
+use borrow.Author.Needs.{needs}
+use Rattle.event_packets.proofs.put_first.Statement.{statement}
+use Rattle.event_packets.proofs.put_first.Tie as tie
+
+returns : tie.Need-returns
+returns c = let a = c .before .before .before .args in none-62 (a .e) (a .at) _ (a .c .first) _ (not-true (a .c .first) (c .if1 .taken))
+
+timing-point-requires : tie.Need-timing-point-requires
+timing-point-requires c κs = search needs
+
+put-packet-requires : tie.Need-put-packet-requires
+put-packet-requires c κs = search needs
+
+add-result : tie.Need-add-result
+add-result c = search needs
+
+same-length : tie.Need-same-length
+same-length c = search needs
+
+returns-2 : tie.Need-returns-2
+returns-2 c = let b = c .before .before in
+    let s = b .before .before .before in
+    let a = s .before .before .before .args in
+    put-62 (a .e) (a .at) _ (a .c .first) _ _ _ (not-false (a .c .first) (s .if1 .left)) (b .before .before .timing-point .ensures) (b .put-packet .ensures)
+
+pub put-first-spec : {M : Type 1} → statement M
+put-first-spec =
+    tie.close
+    (tie.spec returns timing-point-requires put-packet-requires add-result same-length returns-2)

@@ -1,0 +1,85 @@
+-- The packets that the code's `Writes` stands for, with the values of the engine after the event.
+use Prim.Native.Nat.{ℕ, _+_, _-_, _*_, _≤_}
+use mathlib.Core.Path.{_≡_}
+use mathlib.Core.List.{List, _++_, map}
+use mathlib.Core.Option.{Option, none, some}
+use lib.ListN.{length}
+use lib.Dec.{eqb}
+use lib.Seq.{sets}
+use Rattle.wire.specs.Numbers.{flag, if_then_else_}
+use Rattle.engine_value.specs.Engine.{routeIn}
+use Rattle.engine_value.specs.declared.Load.{Load}
+use Rattle.engine_value.specs.declared.Point.{Point}
+use Rattle.engine_value.specs.declared.Progress.{Progress}
+use Rattle.engine_value.specs.declared.Engine.{Engine}
+use Rattle.journey.specs.declared.Head.{Head}
+use Rattle.packets.specs.Packets.{joined}
+use Rattle.packets.specs.declared.Header.{Header}
+use Rattle.packets.specs.declared.TimingPoint.{TimingPoint}
+use Rattle.packets.specs.declared.Packet.{Packet}
+use Rattle.timing.specs.Standing.{standing}
+use Rattle.control.specs.Conditions.{endAhead}
+use Rattle.control.specs.Seen.{bare}
+use Rattle.timing.specs.Changes.{Change, change, passings, when, statusStopped}
+use Rattle.call.specs.Packets.{Status, received, timingPoint, atoStatus}
+use Rattle.event_packets.specs.declared.Changes.{Changes}
+use Rattle.event_packets.specs.declared.Shown.{Shown}
+use Rattle.event_packets.specs.declared.Writes.{Writes}
+
+abbrev pub statusView : Shown → Status
+statusView s = record { state = s .state; conditions = s .conditions; speed = s .speed }
+
+abbrev pub firstIn : Changes → List Change
+firstIn c = when (c .first) (change (c .index) (c .status) (c .after))
+
+abbrev pub passingsIn : Changes → List Change
+passingsIn c = passings (c .to - c .from) (c .from)
+
+-- `p` is the progress after the event
+abbrev pub stoppedIn : Changes → Progress → List Change
+stoppedIn c p = when (c .stopped) (change (p .next) statusStopped p)
+
+abbrev pub changesIn : Changes → Progress → List Change
+changesIn c p = firstIn c ++ (passingsIn c ++ stoppedIn c p)
+
+abbrev pub loadedIn : Writes → Option Head
+loadedIn w = if w .loaded then some (w .head) else none
+
+-- packet 62 for a change of a point, by the load's group
+abbrev pub timingPointOf : Header → Load → Point → ℕ → Progress → Packet
+timingPointOf h l p status after =
+    Packet.TimingPoint (record {
+      header = h;
+      nidc = p .nidc;
+      nidtp = p .nidtp;
+      «q_eoj_reached» = flag (endAhead (bare l) (standing after));
+      alignment = p .alignment;
+      status = status;
+      stopping = if eqb status statusStopped then p .stopping else 0;
+    })
+
+abbrev pub packets62 : Engine → List Change → List Packet
+packets62 e l = map (timingPoint (routeIn e) (e .train .position)) l
+
+abbrev pub packets65 : Engine → Writes → List Packet
+packets65 e w = received (routeIn e) (e .train .position) (loadedIn w)
+
+abbrev pub packets68 : Engine → Writes → List Packet
+packets68 e w = when (w .due) (atoStatus (routeIn e) (e .train .position) (e .control .state) (w .conditions))
+
+-- "Order: 65, the 62s as they arise, 68."
+abbrev pub packetsIn : Engine → Writes → List Packet
+packetsIn e w = packets65 e w ++ (packets62 e (changesIn (w .changes) (e .progress)) ++ packets68 e w)
+
+-- their bytes: 29, 25 and 19 each
+abbrev pub sizeIn : Writes → ℕ
+sizeIn w =
+    29 * flag (w .loaded)
+    + 25 * (flag (w .changes .first) + (w .changes .to - w .changes .from) + flag (w .changes .stopped))
+    + 19 * flag (w .due)
+
+-- packets put from a position on, and the position r behind them; they are at most 255
+pub record Put (at : ℕ) (ps : List Packet) (before after : List ℕ) (r : ℕ) : Type 0 where
+  pub memory : after ≡ sets before at (joined ps)
+  pub next : r ≡ at + length (joined ps)
+  pub near : r ≤ at + 25 * 255

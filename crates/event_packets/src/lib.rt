@@ -1,0 +1,287 @@
+// The packets of an accepted event, written one behind the other into the output memory.
+use engine_value::Engine;
+use engine_value::Load;
+use engine_value::Point;
+use engine_value::Progress;
+use journey::Head;
+use packets::AtoStatus;
+use packets::Header;
+use packets::JpReceived;
+use packets::Packet;
+use packets::TimingPoint;
+use timing::Front;
+ghost use mathlib.Core.Path.{_≡_};
+ghost use Prim.Native.Nat.{_-_, _≤_};
+ghost use lib.Dec.{eqb};
+ghost use lib.Seq.{sets};
+ghost use Rattle.wire.specs.Numbers.{flag, if_then_else_};
+ghost use Rattle.engine_value.specs.Engine.{routeIn};
+ghost use Rattle.packets.specs.Packets.{joined};
+ghost use Rattle.timing.specs.Position.{point, known};
+ghost use Rattle.timing.specs.Changes.{change, passings, statusStopped};
+ghost use Rattle.call.specs.Packets.{header, timingPoint, jpReceived, atoStatus, statusDue};
+ghost use Rattle.event_packets.specs.View.{statusView, firstIn, stoppedIn, timingPointOf, packets62, packets65, packets68, packetsIn, sizeIn, Put};
+
+// What an event changes of the points: first, perhaps, a departure, a skip or its revocation; then the points from `from` to `to`, without that one,
+// pass; last, perhaps, the first point not passed becomes reached.
+pub struct Changes {
+    pub first: bool,
+    pub index: u8,
+    pub status: u8,
+    pub after: Progress,
+    pub from: u8,
+    pub to: u8,
+    pub stopped: bool,
+}
+
+// State, conditions and speed: a packet 68 is written when they change.
+pub struct Shown {
+    pub state: u8,
+    pub conditions: u16,
+    pub speed: u16,
+}
+
+// What an event writes, beside the values of the engine after it.
+pub struct Writes {
+    pub loaded: bool,
+    pub head: Head,
+    pub changes: Changes,
+    pub due: bool,
+    pub conditions: u16,
+}
+
+// ---- the packets
+
+fn header_of(e: Engine) -> Header
+    ensures { λ r. ⌜ r ≡ header (routeIn e) (e .train .position) ⌝ }
+{
+    let x = e.train.position;
+    Header {
+        nidc: x.nidc,
+        nidsp: x.nidsp,
+        offset: x.offset,
+        speed: x.speed,
+        operational: e.load.operational,
+    }
+}
+
+// Point k of the journey; blank beyond the 64th.
+fn point_at(e: Engine, k: u8) -> Point
+    ensures { λ r. ⌜ r ≡ point (routeIn e) k ⌝ }
+{
+    let i = k as usize;
+    let points = e.points;
+    if i < 64 {
+        return points[i];
+    }
+    engine_value::blank_point()
+}
+
+fn bit_of(b: bool) -> u8
+    ensures { λ r. ⌜ r ≡ flag b ⌝ }
+{
+    if b { 1 } else { 0 }
+}
+
+// The stopping data stands with status 1 only.
+fn stopping_of(p: Point, status: u8) -> u8
+    ensures { λ r. ⌜ r ≡ (if eqb status statusStopped then p .stopping else 0) ⌝ }
+{
+    if status == 1 { p.stopping } else { 0 }
+}
+
+// Packet 62 for a change of point p.
+fn timing_point_of(header: Header, l: Load, p: Point, status: u8, after: Progress) -> Packet
+    ensures { λ r. ⌜ r ≡ timingPointOf header l p status after ⌝ }
+{
+    let q_eoj_reached = bit_of(control::end_ahead(l, after));
+    let stopping = stopping_of(p, status);
+    Packet::TimingPoint(TimingPoint {
+        header: header,
+        nidc: p.nidc,
+        nidtp: p.nidtp,
+        q_eoj_reached: q_eoj_reached,
+        alignment: p.alignment,
+        status: status,
+        stopping: stopping,
+    })
+}
+
+// Packet 62 for a change of the point of an index.
+pub fn timing_point(e: Engine, index: u8, status: u8, after: Progress) -> Packet
+    ensures { λ r. ⌜ r ≡ timingPoint (routeIn e) (e .train .position) (change index status after) ⌝ }
+{
+    let header = header_of(e);
+    let p = point_at(e, index);
+    timing_point_of(header, e.load, p, status, after)
+}
+
+fn is_known(e: Engine) -> bool
+    ensures { λ r. ⌜ r ≡ known (routeIn e) (e .train .position) ⌝ }
+{
+    match timing::front_position(e) {
+        Front::Known(_) => true,
+        Front::Unknown => false,
+    }
+}
+
+// NID_C of the position, 1,024 unless it is known.
+fn country(e: Engine) -> u16
+    ensures { λ r. ⌜ r ≡ (if known (routeIn e) (e .train .position) then e .train .position .nidc else 1024) ⌝ }
+{
+    if is_known(e) {
+        e.train.position.nidc
+    } else {
+        1024
+    }
+}
+
+// Packet 65 for an accepted load.
+pub fn jp_received(e: Engine, head: Head) -> Packet
+    ensures { λ r. ⌜ r ≡ jpReceived (routeIn e) (e .train .position) head ⌝ }
+{
+    let header = header_of(e);
+    let nidc = country(e);
+    Packet::JpReceived(JpReceived {
+        header: header,
+        nidc: nidc,
+        atots: head.atots,
+        date: head.date,
+        seconds: head.seconds,
+        counter: head.counter,
+        status: 0,
+    })
+}
+
+// Packet 68 with the engine's state.
+pub fn ato_status(e: Engine, conditions: u16) -> Packet
+    ensures { λ r. ⌜ r ≡ atoStatus (routeIn e) (e .train .position) (e .control .state) conditions ⌝ }
+{
+    let header = header_of(e);
+    Packet::AtoStatus(AtoStatus {
+        header: header,
+        state: e.control.state,
+        conditions: conditions,
+    })
+}
+
+// A packet 68 is written.
+pub fn status_due(before: Shown, after: Shown) -> bool
+    ensures { λ r. ⌜ r ≡ statusDue (statusView before) (statusView after) ⌝ }
+{
+    if after.state != before.state {
+        return true;
+    }
+    if after.conditions != before.conditions {
+        return true;
+    }
+    (before.speed == 0) & ((after.speed != 0) & (after.state != 5))
+}
+
+// ---- how many bytes they take
+
+fn one_if(b: bool) -> usize
+    ensures { λ r. ⌜ (r ≡ flag b) × (r ≤ 1) ⌝ }
+{
+    if b { 1 } else { 0 }
+}
+
+fn count_of(from: u8, to: u8) -> usize
+    ensures { λ r. ⌜ (r ≡ to - from) × (r ≤ 255) ⌝ }
+{
+    if from < to { (to - from) as usize } else { 0 }
+}
+
+pub fn size(w: Writes) -> usize
+    ensures { λ r. ⌜ r ≡ sizeIn w ⌝ }
+{
+    let c = w.changes;
+    let changed = one_if(c.first) + count_of(c.from, c.to) + one_if(c.stopped);
+    29 * one_if(w.loaded) + 25 * changed + 19 * one_if(w.due)
+}
+
+// ---- writing: each of these puts its packets from a position on, and tells the position behind them
+
+fn put_received(e: Engine, w: Writes, out: &mut [u8]) -> usize
+    ensures { λ r. ⌜ Put 0 (packets65 e w) (now (out .entry)) (now (out .exit)) r ⌝ }
+{
+    if !w.loaded {
+        return 0;
+    }
+    let p = jp_received(e, w.head);
+    packets::put_packet(p, out, 0);
+    29
+}
+
+fn put_first(e: Engine, c: Changes, out: &mut [u8], at: usize) -> usize
+    requires { ⌜ at ≤ 100000 ⌝ }
+    ensures { λ r. ⌜ Put at (packets62 e (firstIn c)) (now (out .entry)) (now (out .exit)) r ⌝ }
+{
+    if !c.first {
+        return at;
+    }
+    let p = timing_point(e, c.index, c.status, c.after);
+    packets::put_packet(p, out, at);
+    at + 25
+}
+
+fn put_passings(e: Engine, from: u8, to: u8, out: &mut [u8], at: usize) -> usize
+    requires { ⌜ at ≤ 100000 ⌝ }
+    ensures { λ r. ⌜ Put at (packets62 e (passings (to - from) from)) (now (out .entry)) (now (out .exit)) r ⌝ }
+{
+    if to <= from {
+        return at;
+    }
+    let header = header_of(e);
+    let points = e.points;
+    let blank = engine_value::blank_point();
+    let mut k = from;
+    let mut p = at;
+    while k < to {
+        let after = Progress {
+            next: k + 1,
+            reached: false,
+        };
+        let i = k as usize;
+        let point = if i < 64 { points[i] } else { blank };
+        let packet = timing_point_of(header, e.load, point, 0, after);
+        packets::put_packet(packet, out, p);
+        p += 25;
+        k += 1;
+    }
+    p
+}
+
+fn put_stopped(e: Engine, c: Changes, out: &mut [u8], at: usize) -> usize
+    requires { ⌜ at ≤ 100000 ⌝ }
+    ensures { λ r. ⌜ Put at (packets62 e (stoppedIn c (e .progress))) (now (out .entry)) (now (out .exit)) r ⌝ }
+{
+    if !c.stopped {
+        return at;
+    }
+    let p = timing_point(e, e.progress.next, 1, e.progress);
+    packets::put_packet(p, out, at);
+    at + 25
+}
+
+fn put_status(e: Engine, w: Writes, out: &mut [u8], at: usize)
+    ensures { λ _. ⌜ now (out .exit) ≡ sets (now (out .entry)) at (joined (packets68 e w)) ⌝ }
+{
+    if !w.due {
+        return;
+    }
+    let p = ato_status(e, w.conditions);
+    packets::put_packet(p, out, at);
+}
+
+// The packets of an event, from the front of the output memory on.
+pub fn write(e: Engine, w: Writes, out: &mut [u8])
+    ensures { λ _. ⌜ now (out .exit) ≡ sets (now (out .entry)) 0 (joined (packetsIn e w)) ⌝ }
+{
+    let c = w.changes;
+    let first = put_received(e, w, out);
+    let passings = put_first(e, c, out, first);
+    let stopped = put_passings(e, c.from, c.to, out, passings);
+    let status = put_stopped(e, c, out, stopped);
+    put_status(e, w, out, status);
+}

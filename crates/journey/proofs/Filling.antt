@@ -1,0 +1,142 @@
+-- Arrays that hold a list from their front on and blank elements behind it, and the loops that fill them.
+use Prim.Native.Nat.{ℕ, zero, suc, _+_, _-_, _≤_, _<_}
+use mathlib.Core.Path.{_≡_, refl, sym, ap, _∙_}
+use mathlib.Core.List.{List, [], _∷_, _++_, append-assoc, append-nil}
+use native.Mathlib.Omega.{arith}
+use native.Mathlib.Numerals.{add-one}
+use lib.ListN.{length, getD, take, set, replicate, length-set, length-take, length-append, length-replicate, replicate-append-replicate, List·getD-eq-default, List·getD-append}
+use lib.Seq.{take-suc-set, set-at, take-at, take-take, length-take-le, getD-append-add}
+use lib.Dec.{ltb}
+use borrow.Author.Tests.{ltb-true, ltb-false}
+use mathlib.Core.Bool.{Bool, true, false}
+use Rattle.wire.specs.Parse.{Parse, Reader, andThen, field, many, counted}
+use Rattle.wire.specs.Parse.Parse.{bad, good}
+use Rattle.engine_value.specs.Engine.{filled}
+
+-- an array of which the first i elements are set, and the others blank
+pub record Filling {A : Type 0} (blank : A) (high i : ℕ) (xs : List A) : Type 0 where
+  pub size : length xs ≡ high
+  pub rest : xs ≡ take i xs ++ replicate (high - i) blank
+
+module _ {A : Type 0} (blank : A) (high : ℕ) where
+  pub filled-length : (l : List A) → length (filled high blank l) ≡ high
+  filled-length l = simp (length-take, length-append, length-replicate) (omega arith)
+
+  -- a list that fits stands there whole
+  pub filled-take : (l : List A) → length l ≤ high → take (length l) (filled high blank l) ≡ l
+  filled-take l h = take-take (length l) high (l ++ replicate high blank) h ∙ take-at l (replicate high blank) (length l) refl
+
+  filled-split : (l : List A) → length l ≤ high → l ++ replicate (high - length l) blank ≡ filled high blank l
+  filled-split l h =
+      let q : high ≡ high - length l + length l = omega arith in
+      let e : replicate high blank ≡ replicate (high - length l) blank ++ replicate (length l) blank =
+      ap (λ (k : ℕ). replicate k blank) q ∙ sym (replicate-append-replicate (high - length l) (length l) blank) in
+      let w : length (l ++ replicate (high - length l) blank) ≡ high = simp (length-append, length-replicate) (omega arith) in
+      sym (ap (λ (x : List A). take high (l ++ x)) e
+      ∙ ap (λ (x : List A). take high x) (sym (append-assoc l (replicate (high - length l) blank) (replicate (length l) blank)))
+      ∙ take-at (l ++ replicate (high - length l) blank) (replicate (length l) blank) high w)
+
+  -- an element by its index, blank beyond the list
+  pub filled-at : (l : List A) (k : ℕ) → length l ≤ high → getD (filled high blank l) k blank ≡ getD l k blank
+  filled-at l k h = ap (λ (x : List A). getD x k blank) (sym (filled-split l h)) ∙ go (ltb k (length l)) refl
+    where
+      blanks : (n i : ℕ) → getD (replicate n blank) i blank ≡ blank
+      blanks zero i = refl
+      blanks (suc n) zero = refl
+      blanks (suc n) (suc i) = blanks n i
+
+      go : (b : Bool) → ltb k (length l) ≡ b → getD (l ++ replicate (high - length l) blank) k blank ≡ getD l k blank
+      go true q = List·getD-append l (replicate (high - length l) blank) blank k (ltb-true k (length l) q)
+      go false q =
+          let h : length l ≤ k = ltb-false k (length l) q in
+          let e : k ≡ length l + (k - length l) = omega arith in
+          ap (λ (m : ℕ). getD (l ++ replicate (high - length l) blank) m blank) e
+          ∙ getD-append-add l (replicate (high - length l) blank) (k - length l) blank
+          ∙ blanks (high - length l) (k - length l) ∙ sym (List·getD-eq-default l blank h)
+
+  pub filling-none : Filling blank high 0 (replicate high blank)
+  filling-none = record { size = length-replicate high blank; rest = let e : high - 0 ≡ high = omega arith in rw e }
+
+  -- one more is set
+  pub filling-more : (i : ℕ) (xs : List A) (a : A) → i < high → Filling blank high i xs → Filling blank high (i + 1) (set xs i a)
+  filling-more i xs a h f =
+      let z : length xs ≡ high = f .size in
+      let n : length (take i xs) ≡ i = length-take-le i xs (omega arith) in
+      let e : high - i ≡ suc (high - (i + 1)) = omega arith in
+      let s : set xs i a ≡ take i xs ++ a ∷ replicate (high - (i + 1)) blank =
+      ap (λ (x : List A). set x i a) (f .rest ∙ ap (λ (k : ℕ). take i xs ++ replicate k blank) e)
+      ∙ set-at (take i xs) blank (replicate (high - (i + 1)) blank) a i n in
+      let t : take (i + 1) (set xs i a) ≡ take i xs ++ (a ∷ []) = ap (λ (k : ℕ). take k (set xs i a)) (add-one i) ∙ take-suc-set xs i a (omega arith) in
+      record {
+        size = length-set xs i a ∙ z;
+        rest = s ∙ sym (ap (λ (x : List A). x ++ replicate (high - (i + 1)) blank) t ∙ append-assoc (take i xs) (a ∷ []) (replicate (high - (i + 1)) blank));
+      }
+
+  pub filling-end : (i : ℕ) (xs : List A) → i ≤ high → Filling blank high i xs → xs ≡ filled high blank (take i xs)
+  filling-end i xs h f =
+      let z : length xs ≡ high = f .size in
+      let n : length (take i xs) ≡ i = length-take-le i xs (omega arith) in
+      f .rest ∙ ap (λ (k : ℕ). take i xs ++ replicate (high - k) blank) (sym n) ∙ filled-split (take i xs) (omega arith)
+
+-- the items before those that are still to be read
+abbrev pub behind : {A : Type 0} → List A → Parse (List A) → Parse (List A)
+behind xs bad = bad
+behind xs (good ys r) = good (xs ++ ys) r
+
+-- a loop that reads n items into an array of `high`: i of them are there, and the others are to be read from l
+pub record Reading {A : Type 0} (p : Reader A) (blank : A) (high n i : ℕ) (all : Parse (List A)) (l : List ℕ) (xs : List A) : Type 0 where
+  pub within : i ≤ n
+  pub most : n ≤ high
+  pub array : Filling blank high i xs
+  pub left : all ≡ behind (take i xs) (many (n - i) p l)
+
+module _ {A : Type 0} (p : Reader A) (blank : A) (high n : ℕ) (all : Parse (List A)) where
+  pub reading-none : (l : List ℕ) → n ≤ high → all ≡ many n p l → Reading p blank high n 0 all l (replicate high blank)
+  reading-none l h e =
+      let z : n - 0 ≡ n = omega arith in
+      record { within = omega arith; most = h; array = filling-none blank high; left = e ∙ rw z (plain (many n p l)) }
+    where
+      plain : (q : Parse (List A)) → q ≡ behind [] q
+      plain bad = refl
+      plain (good ys r) = refl
+
+  pub reading-more : (i : ℕ) (l r : List ℕ) (xs : List A) (a : A) → i < n → p l ≡ good a r → Reading p blank high n i all l xs → Reading p blank high n (i + 1) all r (set xs i a)
+  unfolding many
+  reading-more i l r xs a h g f =
+      let m : n ≤ high = f .most in
+      let z : length xs ≡ high = f .array .size in
+      let e : n - i ≡ suc (n - (i + 1)) = omega arith in
+      let t : take (i + 1) (set xs i a) ≡ take i xs ++ (a ∷ []) = ap (λ (k : ℕ). take k (set xs i a)) (add-one i) ∙ take-suc-set xs i a (omega arith) in
+      record {
+        within = omega arith;
+        most = m;
+        array = filling-more blank high i xs a (omega arith) (f .array);
+        left = f .left ∙ rw (e, g, t) (one (take i xs) a (many (n - (i + 1)) p r));
+      }
+    where
+      one : (ys : List A) (a : A) (q : Parse (List A)) → behind ys (andThen q (λ rest r. good (a ∷ rest) r)) ≡ behind (ys ++ (a ∷ [])) q
+      one ys a bad = refl
+      one ys a (good zs r) = ap (λ (x : List A). good x r) (sym (append-assoc ys (a ∷ []) zs))
+
+  pub reading-bad : (i : ℕ) (l : List ℕ) (xs : List A) → i < n → p l ≡ bad → Reading p blank high n i all l xs → bad ≡ all
+  unfolding many
+  reading-bad i l xs h g f = let e : n - i ≡ suc (n - (i + 1)) = omega arith in sym (f .left ∙ rw (e, g))
+
+  pub reading-end : (i : ℕ) (l : List ℕ) (xs : List A) → n ≤ i → Reading p blank high n i all l xs → (good (take n xs) l ≡ all) × (xs ≡ filled high blank (take n xs))
+  unfolding many
+  reading-end i l xs h f =
+      let w : i ≤ n = f .within in
+      let m : n ≤ high = f .most in
+      let e : n - i ≡ 0 = omega arith in
+      let q : i ≡ n = omega arith in
+      (sym (f .left ∙ rw (e, append-nil, q)), rw (← q) (filling-end blank high i xs (omega arith) (f .array)))
+
+-- a counted list by its count
+module _ {A : Type 0} (p : Reader A) (high : ℕ) (l : List ℕ) where
+  pub counted-bad : field 1 1 high l ≡ bad → bad ≡ counted high p l
+  unfolding counted
+  counted-bad e = rw e
+
+  pub counted-good : (n : ℕ) (r : List ℕ) → field 1 1 high l ≡ good n r → counted high p l ≡ many n p r
+  unfolding counted
+  counted-good n r e = rw e

@@ -1,9 +1,0 @@
--- The meaning of a call.
-pub mod Packets
-pub mod Effect
-pub mod Call
-pub mod Shown
-pub mod Laws
-pub mod Sizes
-pub mod Computed
-pub mod Trials

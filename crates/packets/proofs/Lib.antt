@@ -1,0 +1,4 @@
+pub mod WriterLaws
+pub mod RoundTrips
+pub mod Examples
+pub mod Stores

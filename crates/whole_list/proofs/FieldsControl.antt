@@ -1,0 +1,89 @@
+-- The rows of the states at the engine of a history lead to the engine of the history with the event.
+use mathlib.Core.Path.{_≡_, refl, sym, _∙_, ap}
+use mathlib.Core.Bool.{Bool, false}
+use mathlib.Core.List.{_∷_}
+use Rattle.engine_value.specs.Engine.{withControl}
+use Rattle.engine_value.specs.declared.Control.{Control}
+use Rattle.event.specs.declared.Event.{Event}
+use Rattle.event.specs.Kinds.{Role, off, load, report, other, skip, rowOf, roleOf}
+use Rattle.event.proofs.Known.{OfRole, known}
+use Rattle.control.specs.Codes.{code, stateAt, modeAt, leverAt}
+use Rattle.control.specs.Conditions.{O, T}
+use Rattle.control.proofs.CodeLaws.{state-code, O-word}
+use Rattle.control.specs.States.{machine, byRow, settled, given}
+use Rattle.control.specs.declared.Values.{Values}
+use Rattle.control.specs.declared.Machine.{Machine}
+use Rattle.control.specs.Settled.{valuesIn, machineIn, controlOf, controlAfter}
+use Rattle.call.specs.Call.{Call, conditionsIn, stepBy}
+use Rattle.whole_list.specs.Values.{History, eventOfCall, modeBy, leverBy, reportsBy, positionBy, routeBy}
+use Rattle.whole_list.specs.Rules.{standingBy, conditionsBy, valuesBy, becameReachedBy, machineBy, stateBy, requestBy}
+use Rattle.whole_list.proofs.Fields.{controlBy, engineOf, conditions-is}
+use Rattle.whole_list.proofs.FieldsEffect.{kept, effectOf}
+
+word-is : (h : History) (c : Call) → conditionsIn (effectOf h c .engine) ≡ conditionsBy (c ∷ h)
+unfolding conditionsIn
+word-is h c = conditions-is (c ∷ h)
+
+pub conditions-in : (h : History) → conditionsIn (engineOf h) ≡ conditionsBy h
+unfolding conditionsIn
+conditions-in h = conditions-is h
+
+values-is : (h : History) → valuesIn (controlBy h) (conditionsBy h) ≡ valuesBy h
+unfolding valuesBy conditionsBy
+values-is h = λ i. record {
+  O = sym (O-word (routeBy h) (reportsBy h) (positionBy h) (standingBy h)) i;
+  T = T (reportsBy h);
+  lever = leverAt (leverBy h);
+  mode = modeAt (modeBy h);
+}
+
+-- power off does not look at the state before
+module _ (m : Machine) (r : Bool) (v : Values) where
+  settled-kept : (e : Event) → settled (machine (stateAt (kept (roleOf e) 0 (code (m .state)))) (kept (roleOf e) false (m .press))) e r v ≡ settled m e r v
+  unfolding settled
+  settled-kept e = go (roleOf e) (known e .role)
+    where
+      same : byRow (machine (stateAt (code (m .state))) (m .press)) (rowOf e) r v ≡ byRow m (rowOf e) r v
+      same = ap (λ s. byRow (machine s (m .press)) (rowOf e) r v) (state-code (m .state))
+
+      go : (x : Role) → OfRole x e → byRow (machine (stateAt (kept x 0 (code (m .state)))) (kept x false (m .press))) (rowOf e) r v ≡ byRow m (rowOf e) r v
+      go off k = rw k refl
+      go load k = same
+      go report k = same
+      go other k = same
+      go (skip t on) k = same
+
+  given-kept : (e : Event) (before : Bool) → given (settled m e r v .state) v (kept (roleOf e) false before) ≡ given (settled m e r v .state) v before
+  unfolding settled
+  given-kept e b = go (roleOf e) (known e .role)
+    where
+      go : (x : Role) → OfRole x e → given (byRow m (rowOf e) r v .state) v (kept x false b) ≡ given (byRow m (rowOf e) r v .state) v b
+      go off k = rw k refl
+      go load k = refl
+      go report k = refl
+      go other k = refl
+      go (skip t on) k = refl
+
+pub control-is : (h : History) (c : Call) → controlAfter (effectOf h c .engine .control) (eventOfCall c) (becameReachedBy (c ∷ h)) (conditionsIn (effectOf h c .engine)) ≡ controlBy (c ∷ h)
+unfolding controlAfter machineBy requestBy
+control-is h c =
+    let taken : Control = effectOf h c .engine .control in
+    let e = eventOfCall c in
+    let r = becameReachedBy (c ∷ h) in
+    let v : Values = valuesBy (c ∷ h) in
+    let value-is : valuesIn taken (conditionsIn (effectOf h c .engine)) ≡ v = ap (valuesIn taken) (word-is h c) ∙ values-is (c ∷ h) in
+    let machine-is : settled (machineIn taken) e r v ≡ settled (machineBy h) e r v = settled-kept (machineBy h) r v e in
+    ap (λ u. controlOf taken u (settled (machineIn taken) e r u)) value-is
+    ∙ ap (λ m. controlOf taken v m) machine-is
+    ∙ λ i. record {
+      state = code (stateBy (c ∷ h));
+      mode = modeBy (c ∷ h);
+      lever = leverBy (c ∷ h);
+      reports = reportsBy (c ∷ h);
+      press = machineBy (c ∷ h) .press;
+      request = given-kept (machineBy h) r v e (requestBy h) i;
+    }
+
+-- the engine after the event
+pub engine-is : (h : History) (c : Call) → stepBy (engineOf h) (eventOfCall c) (effectOf h c) .engine ≡ engineOf (c ∷ h)
+engine-is h c = ap (λ x. withControl (engineOf (c ∷ h)) x) (control-is h c)

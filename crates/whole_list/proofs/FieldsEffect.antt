@@ -1,0 +1,235 @@
+-- The effect of an event at the engine of a history, with the rows "book" to "skip" of the table, is by the rules.
+use mathlib.Core.Path.{_≡_, refl, sym, _∙_, ap, subst}
+use mathlib.Core.Bool.{Bool, true, false, _||_, false≢true}
+use mathlib.Core.List.{List, [], _∷_, _++_}
+use mathlib.Core.Option.{Option, none, some}
+use Prim.Native.Nat.{ℕ, _≤_}
+use native.Mathlib.Omega.{arith}
+use lib.Dec.{ltb}
+use lib.ListN.{getD}
+use borrow.Author.Tests.{ltb-true, ltb-false}
+use Rattle.wire.specs.Numbers.{if_then_else_}
+use Rattle.wire.specs.Judged.{Judged, thenJudge, row}
+use Rattle.wire.specs.Judged.Judged.{refuse, accept}
+use Rattle.engine_value.specs.Engine.{Route, noRoute, progress, freshPosition, withControl, withPosition, withProgress, withSkips, withRoute}
+use Rattle.engine_value.specs.declared.Position.{Position}
+use Rattle.engine_value.specs.declared.Progress.{Progress}
+use Rattle.event.specs.declared.Event.{Event}
+use Rattle.event.specs.declared.Event.the-variants.{PowerOff, PositionReport, Load}
+use Rattle.event.specs.Kinds.{mode, lever, reports, trainLength, Carried, carried, Role, off, load, report, other, skip, roleOf, newer}
+use Rattle.event.proofs.Known.{OfRole, known}
+use Rattle.route.specs.Route.{LoadValue, loadOf}
+use Rattle.timing.specs.Position.{pointCount}
+use Rattle.timing.specs.Distance as distance
+use Rattle.timing.specs.Standing.{standing, behind}
+use Rattle.timing.specs.Load.{target}
+use Rattle.timing.specs.Report.{reported, becameReached, run}
+use Rattle.timing.specs.Changes.{Change, reportChanges}
+use Rattle.timing.specs.Skips.{stopNamed}
+use Rattle.timing.specs.declared.Found.{Found}
+use Rattle.timing.specs.declared.Found.the-variants.{At, Nothing}
+use Rattle.timing.proofs.Steps.{run-snoc}
+use Rattle.timing.proofs.Rule.{standing-passed}
+use Rattle.control.specs.Codes.{code}
+use Rattle.call.specs.Effect.{Effect, offsetBeyond, sameBool, reportedIn, positionEffect, loadedIn, loadEffect, skippedIn, skipEffect, taking, effectAs, effect}
+use Rattle.call.specs.Call.{Call}
+use Rattle.whole_list.specs.Values.{History, eventOfCall, loadOfCall, roleOfCall, isOff, latest, modeBy, leverBy, reportsBy, positionBy, lengthBy, routeLoaded, routeBy, skippedBy, reportAt, reportsSince, behindAtLoad}
+use Rattle.whole_list.specs.Rules.{standingBy, stateBy, machineBy, requestBy, newlyReached, becameReachedBy}
+use Rattle.whole_list.specs.Table.{changesFrom, changesBy, progressBy, skipChange, headOf, headOfCall, skipRows, kindRows}
+use Rattle.whole_list.proofs.Fields.{Below, skipBy, skipsThen, skipsOf, progressRun, engineOf, stop-in, skips-at, stands-at}
+use Rattle.whole_list.proofs.FieldsStep.{report-is, changes-is, became-is, target-is, progress-is}
+
+-- ---- what is by the role of an event
+
+abbrev valueThen : {A : Type 0} → (Carried → Option A) → A → Role → Carried → A → A
+valueThen f fresh q c a = if isOff q then fresh else newer (f c) a
+
+abbrev loadThen : Judged LoadValue → Option LoadValue
+loadThen m = elim m [ refuse n ↦ none | accept l ↦ some l ]
+
+abbrev routeThen : Role → Option LoadValue → Route → Route
+routeThen r o j = elim r [ off ↦ noRoute | load ↦ routeLoaded o j | report ↦ j | other ↦ j | skip t on ↦ j ]
+
+-- as before the event, and fresh at power off
+abbrev pub kept : {A : Type 0} → Role → A → A → A
+kept r fresh a = elim r [ off ↦ fresh | load ↦ a | report ↦ a | other ↦ a | skip t on ↦ a ]
+
+-- the engine with the event's values taken in, before the rows of the states, and what else the event does
+abbrev pub effectOf : History → Call → Effect
+effectOf h c = record {
+  engine = withControl (engineOf (c ∷ h)) (record {
+    state = kept (roleOfCall c) 0 (code (stateBy h));
+    mode = modeBy (c ∷ h);
+    lever = leverBy (c ∷ h);
+    reports = reportsBy (c ∷ h);
+    press = kept (roleOfCall c) false (machineBy h .press);
+    request = kept (roleOfCall c) false (requestBy h);
+  });
+  loaded = headOfCall c;
+  changes = changesBy h c;
+  reached = becameReachedBy (c ∷ h);
+}
+
+-- the same for any event: o is the load, t the number of points that it puts behind, r the report, with its changes
+module _ (h : History) (o : Option LoadValue) (t : ℕ) (r : distance.Report) (changes : List Change) (became : Bool) where
+  abbrev routeWith : Role → Route
+  routeWith q = routeThen q o (routeBy h)
+
+  abbrev progressThen : Role → Progress
+  progressThen q =
+      run (routeWith q) (progress (elim q [ off ↦ 0 | load ↦ t | report ↦ behindAtLoad h | other ↦ behindAtLoad h | skip t on ↦ behindAtLoad h ]) false)
+      (elim q [ off ↦ [] | load ↦ [] | report ↦ reportsSince h ++ (r ∷ []) | other ↦ reportsSince h | skip t on ↦ reportsSince h ])
+
+  abbrev effectBy : Role → Carried → Effect
+  effectBy q c = record {
+    engine = record {
+      points = routeWith q .points;
+      skips = skipsThen q (routeBy h) (skipsOf h);
+      segments = routeWith q .segments;
+      load = routeWith q .load;
+      progress = progressThen q;
+      train = record { position = valueThen (λ c. c .position) freshPosition q c (positionBy h); length = valueThen (λ c. c .number trainLength) 0 q c (lengthBy h) };
+      control = record {
+        state = kept q 0 (code (stateBy h));
+        mode = valueThen (λ c. c .number mode) 0 q c (modeBy h);
+        lever = valueThen (λ c. c .number lever) 0 q c (leverBy h);
+        reports = valueThen (λ c. c .number reports) 0 q c (reportsBy h);
+        press = kept q false (machineBy h .press);
+        request = kept q false (requestBy h);
+      };
+    };
+    loaded = elim q [ off ↦ none | load ↦ headOf o | report ↦ none | other ↦ none | skip t on ↦ none ];
+    changes = elim q [ off ↦ [] | load ↦ [] | report ↦ changes | other ↦ [] | skip t on ↦ skipChange (stopNamed (routeBy h) t) on (progressBy h) ];
+    reached = elim q [ off ↦ false | load ↦ false | report ↦ became | other ↦ false | skip t on ↦ false ];
+  }
+
+-- the rows from "book" to "skip"; x is the position after the event
+abbrev rowsWith : History → Role → Position → Judged LoadValue → Judged (Unit {0})
+rowsWith h q x m = elim q [
+  | off ↦ accept tt
+  | load ↦ thenJudge m (λ l. accept tt)
+  | report ↦ row 13 (offsetBeyond (routeBy h) x)
+  | other ↦ accept tt
+  | skip t on ↦ skipRows h (stopNamed (routeBy h) t) on
+]
+
+abbrev rowsBy : History → Role → Carried → Judged LoadValue → Judged (Unit {0})
+rowsBy h q c m = rowsWith h q (valueThen (λ c. c .position) freshPosition q c (positionBy h)) m
+
+abbrev startIn : History → Call → ℕ
+startIn h c = target (routeBy (c ∷ h)) (positionBy (c ∷ h)) (lengthBy (c ∷ h))
+
+abbrev changedIn : History → Call → List Change
+changedIn h c = changesFrom (standingBy h) (standingBy (c ∷ h)) (pointCount (routeBy h)) 0
+
+-- it is the same
+same-effect : (h : History) (c : Call) → effectOf h c ≡ effectBy h (loadOfCall c) (startIn h c) (reportAt (c ∷ h)) (changedIn h c) (newlyReached c h) (roleOfCall c) (carried (eventOfCall c))
+unfolding latest routeBy skipsOf reportsSince behindAtLoad progressRun changesBy becameReachedBy
+same-effect h c = refl
+
+same-rows : (h : History) (c : Call) → kindRows h c ≡ rowsBy h (roleOfCall c) (carried (eventOfCall c)) (loadOf (c .journey) (c .book))
+unfolding kindRows latest
+same-rows h c = refl
+
+-- ---- kind by kind
+
+-- of a driver skip or its revocation, where the rows accept it
+abbrev skipEffectBy : History → Found → Bool → Effect
+skipEffectBy h f on = record { engine = withSkips (engineOf h) (skipBy (skipsOf h) f on); loaded = none; changes = skipChange f on (progressBy h); reached = false }
+
+or-false : (a b : Bool) → (a || b) ≡ false → a ≡ false
+or-false true b e = e
+or-false false b e = refl
+
+ahead : (p : Progress) (k : ℕ) → behind (standing p k) ≡ false → p .next ≤ k
+ahead p k e = go _ refl
+  where
+    go : (b : Bool) → ltb k (p .next) ≡ b → p .next ≤ k
+    go true q = absurd (false≢true (sym e ∙ ap behind (standing-passed p k (ltb-true k (p .next) q))))
+    go false q = ltb-false k (p .next) q
+
+by-skip : (h : History) (f : Found) (on : Bool) → Below (pointCount (routeBy h)) f → skipEffect (engineOf h) on f ≡ thenJudge (skipRows h f on) (λ u. accept (skipEffectBy h f on))
+unfolding skipEffect
+by-skip h Nothing on l = refl
+by-skip h (At k) on l = ap (λ b. thenJudge (row 15 b) (λ u. accept (skippedIn (engineOf h) k on))) same ∙ go _ refl
+  where
+    test : Bool
+    test = behind (standingBy h k) || sameBool (skippedBy h k) on
+
+    same : (behind (standing (progressRun h) k) || sameBool (getD (skipsOf h) k false) on) ≡ test
+    same = ap (λ s. behind s || sameBool (getD (skipsOf h) k false) on) (stands-at h k l) ∙ ap (λ b. behind (standingBy h k) || sameBool b on) (skips-at h k)
+
+    go : (b : Bool) → test ≡ b → thenJudge (row 15 test) (λ u. accept (skippedIn (engineOf h) k on)) ≡ thenJudge (row 15 test) (λ u. accept (skipEffectBy h (At k) on))
+    go true e = ap (λ b. thenJudge (row 15 b) (λ u. accept (skippedIn (engineOf h) k on))) e ∙ sym (ap (λ b. thenJudge (row 15 b) (λ u. accept (skipEffectBy h (At k) on))) e)
+    go false e =
+        let s : behind (standing (progressRun h) k) ≡ false = ap behind (stands-at h k l) ∙ or-false (behind (standingBy h k)) _ e in
+        let n : progressRun h .next ≤ k = ahead (progressRun h) k s in
+        let p : progressBy h ≡ progressRun h = progress-is h (omega arith) in
+        ap (λ q. thenJudge (row 15 test) (λ u. accept (record { engine = withSkips (engineOf h) (skipBy (skipsOf h) (At k) on); loaded = none; changes = skipChange (At k) on q; reached = false }))) (sym p)
+
+module _ (h : History) (t : ℕ) (r : distance.Report) (changes : List Change) (became : Bool) (journey book : List ℕ) where
+  abbrev ByWith : Judged LoadValue → Role → Carried → Judged Effect
+  ByWith m q c = thenJudge (rowsBy h q c m) (λ u. accept (effectBy h (loadThen m) t r changes became q c))
+
+  abbrev ByRole : Role → Carried → Type 0
+  ByRole q c = effectAs q (taking (engineOf h) c) journey book ≡ ByWith (loadOf journey book) q c
+
+  abbrev By : Event → Type 0
+  By e = ByRole (roleOf e) (carried e)
+
+  by-report : (x : Position) → r ≡ distance.reportIn (withPosition (engineOf h) x)
+      → changes ≡ reportChanges (routeBy h) (distance.reportIn (withPosition (engineOf h) x)) (progressRun h)
+      → became ≡ becameReached (routeBy h) (distance.reportIn (withPosition (engineOf h) x)) (progressRun h) → By (PositionReport x)
+  unfolding positionEffect progressRun
+  by-report x e f g =
+      let m = withPosition (engineOf h) x in
+      let start = progress (behindAtLoad h) false in
+      let p : reported (routeBy h) (distance.reportIn m) (progressRun h) ≡ run (routeBy h) start (reportsSince h ++ (r ∷ [])) =
+      ap (λ y. reported (routeBy h) y (progressRun h)) (sym e) ∙ sym (run-snoc (routeBy h) (reportsSince h) r start) in
+      let same : reportedIn m ≡ effectBy h (loadThen (loadOf journey book)) t r changes became (roleOf (PositionReport x)) (carried (PositionReport x)) =
+      λ i. record { engine = withProgress m (p i); loaded = none; changes = sym f i; reached = sym g i } in
+      ap (λ y. thenJudge (row 13 (offsetBeyond (routeBy h) x)) (λ u. accept y)) same
+
+  by-load : ((l : LoadValue) → loadOf journey book ≡ accept l → t ≡ target (l .route) (positionBy h) (lengthBy h)) → By Load
+  unfolding loadEffect run
+  by-load e = go (loadOf journey book) e
+    where
+      go : (m : Judged LoadValue) → ((l : LoadValue) → m ≡ accept l → t ≡ target (l .route) (positionBy h) (lengthBy h))
+          → thenJudge m (λ l. accept (loadedIn (engineOf h) l)) ≡ ByWith m (roleOf Load) (carried Load)
+      go (refuse n) e = refl
+      go (accept l) e =
+          let p = e l refl in
+          ap accept (λ i. record { engine = withProgress (withRoute (engineOf h) (l .route)) (progress (sym p i) false); loaded = some (l .head); changes = []; reached = false })
+
+  -- an event that only brings a value
+  brought : (c : Carried) → ByRole other c
+  unfolding progressRun
+  brought c = refl
+
+  cleared : By PowerOff
+  unfolding progressRun run
+  cleared = refl
+
+  effect-by : (e : Event)
+      → ((x : Position) → e ≡ PositionReport x → By (PositionReport x))
+      → (e ≡ Load → By Load) → By e
+  unfolding progressRun
+  effect-by e f g = go (roleOf e) refl (known e .role)
+    where
+      go : (q : Role) → roleOf e ≡ q → OfRole q e → By e
+      go off z k = subst By (sym k) cleared
+      go load z k = subst By (sym k) (g k)
+      go report z k = subst By (sym (k .1)) (f (k .0) (k .1))
+      go other z k = subst (λ q. ByRole q (carried e)) (sym z) (brought (carried e))
+      go (skip t true) z k = subst By (sym k) (by-skip h (stopNamed (routeBy h) t) true (stop-in (routeBy h) t))
+      go (skip t false) z k = subst By (sym k) (by-skip h (stopNamed (routeBy h) t) false (stop-in (routeBy h) t))
+
+pub effect-is : (h : History) (c : Call) → effect (engineOf h) (c .journey) (c .book) (eventOfCall c) ≡ thenJudge (kindRows h c) (λ u. accept (effectOf h c))
+unfolding loadOfCall effect
+effect-is h c =
+    effect-by h (startIn h c) (reportAt (c ∷ h)) (changedIn h c) (newlyReached c h) (c .journey) (c .book) (eventOfCall c)
+    (λ x q. by-report h (startIn h c) (reportAt (c ∷ h)) (changedIn h c) (newlyReached c h) (c .journey) (c .book) x (report-is c h x q) (changes-is c h x q) (became-is c h x q))
+    (λ q. by-load h (startIn h c) (reportAt (c ∷ h)) (changedIn h c) (newlyReached c h) (c .journey) (c .book) (λ l p. target-is c h q l p))
+    ∙ sym
+    (ap (λ m. thenJudge m (λ u. accept (effectOf h c))) (same-rows h c)
+    ∙ ap (λ f. thenJudge (rowsBy h (roleOfCall c) (carried (eventOfCall c)) (loadOf (c .journey) (c .book))) (λ u. accept f)) (same-effect h c))

@@ -1,0 +1,202 @@
+-- Every packet of an accepted call is within its ranges: the reader takes its bytes and gives it back.
+use mathlib.Core.Path.{_≡_, refl, _∙_, ap}
+use mathlib.Core.Logic.{inl, inr}
+use mathlib.Core.Bool.{Bool, true, false, _&&_, _||_}
+use mathlib.Core.List.{List, [], _∷_, _++_, map}
+use mathlib.Core.Option.{Option, none, some}
+use Prim.Native.Nat.{ℕ, zero, suc, _+_, _≤_}
+use native.Mathlib.Omega.{arith}
+use lib.Dec.{eqb, leb}
+use borrow.Author.Tests.{le-leb}
+use Rattle.wire.specs.Numbers.{flag, if_then_else_}
+use Rattle.wire.specs.Judged.Judged.{accept}
+use Rattle.engine_value.specs.Engine.{Route}
+use Rattle.engine_value.specs.declared.Position.{Position}
+use Rattle.engine_value.specs.declared.Progress.{Progress}
+use Rattle.wire.specs.Lists.{All}
+use Rattle.journey.proofs.Accepted.{HeadFits}
+use Rattle.journey.specs.declared.Head.{Head}
+use Rattle.event.specs.Kinds.{Role, off, load, report, other, skip}
+use Rattle.route.specs.Route.{LoadValue}
+use Rattle.route.proofs.Ranges.{PointFits}
+use Rattle.packets.specs.Packets.{packetBytes, packetFits, headerFits, packetOf}
+use Rattle.packets.proofs.RoundTrips.{TypedHeader, Typed, read-written}
+use Rattle.packets.specs.declared.Packet.{Packet}
+use Rattle.timing.specs.Position.{point, pointCount, known}
+use Rattle.timing.specs.Standing.{standing}
+use Rattle.timing.specs.Changes.{Change, statusStopped, when}
+use Rattle.timing.specs.Skips.{stopNamed}
+use Rattle.timing.specs.declared.Found.{Found}
+use Rattle.timing.specs.declared.Found.the-variants.{At, Nothing}
+use Rattle.timing.specs.declared.Standing.{Standing}
+use Rattle.timing.specs.declared.Standing.the-variants.{Unused, Targeted, Reached, Passed}
+use Rattle.control.specs.Conditions.{endAhead}
+use Rattle.control.proofs.CodeLaws.{code-most, conditions-most}
+use Rattle.call.specs.Packets.{header, timingPoint, jpReceived, atoStatus, statusDue, received, packetsOf}
+use Rattle.call.specs.Call.{Call}
+use Rattle.whole_list.specs.Values.{History, loadOfCall, roleOfCall, positionBy, routeBy}
+use Rattle.whole_list.specs.Rules.{standingBy, conditionsBy, stateBy}
+use Rattle.whole_list.specs.Table.{changeAt, changesFrom, skipChange, changesBy, headOf, headOfCall, statusBy, progressBy, packetsBy}
+use Rattle.whole_list.specs.Recorded.{In}
+use Rattle.whole_list.specs.WholeList.{bytesOfEach}
+use Rattle.whole_list.proofs.Recorded.{Ranged}
+use Rattle.whole_list.proofs.Decoded.{load-in, RouteIn, route-in, ranged}
+
+all-append : {A : Type 0} (P : A → Type 0) (a b : List A) → All P a → All P b → All P (a ++ b)
+all-append P [] b x y = y
+all-append P (z ∷ a) b x y = (x .0, all-append P a b (x .1) y)
+
+-- in its ranges, and within its types
+abbrev pub Fits : Packet → Type 0
+Fits p = (packetFits p ≡ true) × Typed p
+
+-- ---- one packet
+
+module _ (j : Route) (x : Position) (r : Ranged j x) where
+  header-fits : headerFits (header j x) ≡ true
+  header-fits = rw (le-leb (x .nidc) 1023 (r .nidc), le-leb (x .offset) 16777215 (r .offset))
+
+  header-typed : TypedHeader (header j x)
+  header-typed = record { nidsp = omega (arith, r .nidsp); speed = omega (arith, r .speed); operational = omega (arith, r .operational) }
+
+  flag-most : (b : Bool) → flag b ≤ 1
+  flag-most true = omega arith
+  flag-most false = omega arith
+
+  -- "stopping data to 127, 0 unless status 1"
+  stopping-fits : (s n : ℕ) → n ≤ 127
+      → (leb (if eqb s statusStopped then n else 0) 127 && (eqb s 1 || eqb (if eqb s statusStopped then n else 0) 0)) ≡ true
+  stopping-fits s n h = go (eqb s 1)
+    where
+      go : (b : Bool) → (leb (if b then n else 0) 127 && (b || eqb (if b then n else 0) 0)) ≡ true
+      go true = rw (le-leb n 127 h)
+      go false = refl
+
+  fits-62 : (c : Change) → PointFits (point j (c .index)) → c .status ≤ 8 → Fits (timingPoint j x c)
+  unfolding timingPoint
+  fits-62 c p s =
+      let q = point j (c .index) in (
+        rw (header-fits, le-leb (q .nidc) 1023 (p .nidc), le-leb _ 1 (flag-most (endAhead j (standing (c .after)))), le-leb (q .alignment) 2 (p .alignment), le-leb (c .status) 8 s)
+            (stopping-fits (c .status) (q .stopping) (p .stopping)),
+        (header-typed, omega (arith, p .nidtp)),
+      )
+
+  fits-65 : (h : Head) → HeadFits h → Fits (jpReceived j x h)
+  unfolding jpReceived
+  fits-65 h p = (
+    rw (header-fits, le-leb _ 1024 (country (known j x)), le-leb (h .atots) 16384 (p .atots), le-leb (h .date) 32767 (p .date)),
+    (header-typed, (omega (arith, p .seconds), omega (arith, p .counter))),
+  )
+    where
+      country : (b : Bool) → (if b then x .nidc else 1024) ≤ 1024
+      country true = omega (arith, r .nidc)
+      country false = omega arith
+
+  fits-68 : (s c : ℕ) → s ≤ 7 → c ≤ 511 → Fits (atoStatus j x s c)
+  unfolding atoStatus
+  fits-68 s c h k = (rw (header-fits, le-leb s 7 h, le-leb c 511 k), header-typed)
+
+  -- ---- all of an event
+
+  all-62 : (l : List Change) → RouteIn j → All (λ (c : Change). c .status ≤ 8) l → All Fits (map (timingPoint j x) l)
+  all-62 [] p a = tt
+  all-62 (c ∷ l) p a = (fits-62 c (p .points (c .index)) (a .0), all-62 l p (a .1))
+
+  all-65 : (o : Option Head) → ((h : Head) → o ≡ some h → HeadFits h) → All Fits (received j x o)
+  all-65 none k = tt
+  all-65 (some h) k = (fits-65 h (k h refl), tt)
+
+  all-68 : (due : Bool) (s c : ℕ) → s ≤ 7 → c ≤ 511 → All Fits (when due (atoStatus j x s c))
+  all-68 true s c h k = (fits-68 s c h k, tt)
+  all-68 false s c h k = tt
+
+-- ---- the points that an event changes
+
+abbrev StatusIn : Change → Type 0
+StatusIn c = c .status ≤ 8
+
+change-status : (b a : Standing) (k : ℕ) → All StatusIn (changeAt b a k)
+change-status Passed a k = tt
+change-status Reached Passed k = (omega arith, tt)
+change-status Reached Reached k = tt
+change-status Reached Targeted k = tt
+change-status Reached Unused k = tt
+change-status Targeted Passed k = (omega arith, tt)
+change-status Targeted Reached k = (omega arith, tt)
+change-status Targeted Targeted k = tt
+change-status Targeted Unused k = tt
+change-status Unused Passed k = (omega arith, tt)
+change-status Unused Reached k = (omega arith, tt)
+change-status Unused Targeted k = tt
+change-status Unused Unused k = tt
+
+changes-status : (b a : ℕ → Standing) (n k : ℕ) → All StatusIn (changesFrom b a n k)
+unfolding changesFrom
+changes-status b a zero k = tt
+changes-status b a (suc n) k = all-append StatusIn (changeAt (b k) (a k) k) _ (change-status (b k) (a k) k) (changes-status b a n (k + 1))
+
+skip-status : (f : Found) (on : Bool) (p : Progress) → All StatusIn (skipChange f on p)
+skip-status Nothing on p = tt
+skip-status (At k) true p = (omega arith, tt)
+skip-status (At k) false p = (omega arith, tt)
+
+status-in : (h : History) (c : Call) → All StatusIn (changesBy h c)
+unfolding changesBy
+status-in h c = go (roleOfCall c)
+  where
+    go : (r : Role) → All StatusIn (elim r [
+      | off ↦ []
+      | load ↦ []
+      | report ↦ changesFrom (standingBy h) (standingBy (c ∷ h)) (pointCount (routeBy h)) 0
+      | other ↦ []
+      | skip t on ↦ skipChange (stopNamed (routeBy h) t) on (progressBy h)
+    ])
+    go off = tt
+    go load = tt
+    go report = changes-status (standingBy h) (standingBy (c ∷ h)) (pointCount (routeBy h)) 0
+    go other = tt
+    go (skip t on) = skip-status (stopNamed (routeBy h) t) on (progressBy h)
+
+head-in : (c : Call) (d : Head) → headOfCall c ≡ some d → HeadFits d
+head-in c d = go (roleOfCall c)
+  where
+    no : {A : Type 0} → none ≡ some d → A
+    no e = let z : _≡_ {A = ℕ} 0 1 = cc in absurd (omega arith)
+
+    by : (o : Option LoadValue) → loadOfCall c ≡ o → headOf o ≡ some d → HeadFits d
+    by none q e = no e
+    by (some l) q e = let z : l .head ≡ d = cc in rw (← z) (load-in c l q .head)
+
+    go : (r : Role) → elim r [ off ↦ none | load ↦ headOf (loadOfCall c) | report ↦ none | other ↦ none | skip t on ↦ none ] ≡ some d → HeadFits d
+    go off e = no e
+    go load e = by (loadOfCall c) refl e
+    go report e = no e
+    go other e = no e
+    go (skip t on) e = no e
+
+-- ---- for every history
+
+module _ (h : History) (c : Call) where
+  pub packets-fit : All Fits (packetsBy h c)
+  unfolding packetsBy packetsOf conditionsBy
+  packets-fit =
+      let r = ranged (c ∷ h) in
+      all-append Fits (received (routeBy (c ∷ h)) (positionBy (c ∷ h)) (headOfCall c)) _ (all-65 _ _ r (headOfCall c) (head-in c))
+      (all-append Fits (map (timingPoint (routeBy (c ∷ h)) (positionBy (c ∷ h))) (changesBy h c)) _
+      (all-62 _ _ r (changesBy h c) (route-in (c ∷ h)) (status-in h c))
+      (all-68 _ _ r (statusDue (statusBy h) (statusBy (c ∷ h))) _ _ (code-most (stateBy (c ∷ h))) (conditions-most _ _ _ _)))
+
+-- bytes among those of packets are the bytes of one of them, and read so
+pub record ReadAs (bytes : List ℕ) (ps : List Packet) : Type 0 where
+  pub packet : Packet
+  pub one-of-them : In packet ps
+  pub is-it : bytes ≡ packetBytes packet
+  pub read : packetOf bytes ≡ accept packet
+
+pub read-as : (bytes : List ℕ) (ps : List Packet) → All Fits ps → In bytes (bytesOfEach ps) → ReadAs bytes ps
+read-as bytes [] a i = absurd i
+read-as bytes (p ∷ ps) a (inl e) =
+    record { packet = p; one-of-them = inl refl; is-it = e; read = ap packetOf e ∙ read-written p (a .0 .0) (a .0 .1) }
+read-as bytes (p ∷ ps) a (inr i) =
+    let r = read-as bytes ps (a .1) i in
+    record { packet = r .packet; one-of-them = inr (r .one-of-them); is-it = r .is-it; read = r .read }

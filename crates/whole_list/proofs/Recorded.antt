@@ -1,0 +1,123 @@
+-- What an event writes is read again in memory, packet by packet; which packet 68 is the last one; and what it tells.
+use mathlib.Core.Path.{_≡_, refl, sym, _∙_, ap}
+use mathlib.Core.Bool.{Bool, true, false}
+use mathlib.Core.List.{List, [], _∷_, _++_, map}
+use mathlib.Core.Option.{Option, none, some}
+use Prim.Native.Nat.{ℕ, zero, suc, _≤_}
+use native.Mathlib.Omega.{arith}
+use lib.Dec.{eqb}
+use lib.ListN.{length, drop, getD, length-append}
+use lib.Seq.{take-append-seam, drop-append-seam}
+use borrow.Author.Tests.{le-leb, ne-eqb}
+use Rattle.wire.specs.Numbers.{if_then_else_}
+use Rattle.engine_value.specs.Engine.{Route, max2, max4, undefined}
+use Rattle.engine_value.specs.declared.Position.{Position}
+use Rattle.journey.specs.declared.Head.{Head}
+use Rattle.packets.specs.Packets.{bytes62, bytes65, bytes68, packetBytes, joined, sizeOf}
+use Rattle.packets.proofs.WriterLaws.{length-packetBytes}
+use Rattle.packets.proofs.RoundTrips.{read-written}
+use Rattle.packets.specs.declared.Packet.{Packet}
+use Rattle.timing.specs.Changes.{Change, when}
+use Rattle.call.specs.Packets.{header, timingPoint, jpReceived, atoStatus, Status, statusDue, received, packetsOf}
+use Rattle.whole_list.specs.Recorded.{sizeBy, cut, cutPackets, newest}
+use Rattle.whole_list.specs.WholeList.{bytesOfEach, StatusPacket}
+
+-- ---- packets one after the other
+
+-- a packet's first byte tells its size
+size-first : (p : Packet) (rest : List ℕ) → sizeBy (getD (packetBytes p ++ rest) 0 0) ≡ length (packetBytes p)
+unfolding bytes62 bytes65 bytes68
+size-first (Packet.TimingPoint p) rest = sym (length-packetBytes (Packet.TimingPoint p))
+size-first (Packet.JpReceived p) rest = sym (length-packetBytes (Packet.JpReceived p))
+size-first (Packet.AtoStatus p) rest = sym (length-packetBytes (Packet.AtoStatus p))
+
+size-some : (p : Packet) → 1 ≤ sizeOf p
+size-some (Packet.TimingPoint p) = omega arith
+size-some (Packet.JpReceived p) = omega arith
+size-some (Packet.AtoStatus p) = omega arith
+
+joined-long : (ps : List Packet) → length ps ≤ length (joined ps)
+joined-long [] = omega arith
+joined-long (p ∷ ps) = simp (length-append, length-packetBytes) (omega (arith, joined-long ps, size-some p))
+
+cut-joined : (ps : List Packet) (n : ℕ) → length ps ≤ n → cut n (joined ps) ≡ bytesOfEach ps
+unfolding cut
+cut-joined [] zero h = refl
+cut-joined [] (suc n) h = refl
+cut-joined (p ∷ ps) zero h = absurd (omega arith)
+cut-joined (p ∷ ps) (suc n) h =
+    let some : eqb (length (packetBytes p)) 0 ≡ false = ne-eqb (length (packetBytes p)) 0 (λ e. omega (arith, size-some p, length-packetBytes p)) in
+    rw (size-first p (joined ps), some, take-append-seam, drop-append-seam, cut-joined ps n (omega arith))
+
+-- what was written in front is read there
+pub front-read : (ps : List Packet) (rest : List ℕ) → cutPackets (length (joined ps)) (joined ps ++ rest) ≡ bytesOfEach ps
+unfolding cutPackets
+front-read ps rest = rw take-append-seam (cut-joined ps (length (joined ps)) (joined-long ps))
+
+-- the packets in the memory of an accepted call
+pub memory-read : (ps : List Packet) (memory : List ℕ) → cutPackets (length (joined ps)) (joined ps ++ drop (length (joined ps)) memory) ≡ bytesOfEach ps
+memory-read ps memory = front-read ps (drop (length (joined ps)) memory)
+
+-- ---- the last packet 68 of an event
+
+bytes-append : (ps qs : List Packet) → bytesOfEach (ps ++ qs) ≡ bytesOfEach ps ++ bytesOfEach qs
+bytes-append [] qs = refl
+bytes-append (p ∷ ps) qs = ap (λ l. packetBytes p ∷ l) (bytes-append ps qs)
+
+pub newest-append : (o : Option (List ℕ)) (a b : List (List ℕ)) → newest o (a ++ b) ≡ newest (newest o a) b
+unfolding newest
+newest-append o [] b = refl
+newest-append o (p ∷ a) b = newest-append _ a b
+
+newest-split : (o : Option (List ℕ)) (ps qs : List Packet) → newest o (bytesOfEach (ps ++ qs)) ≡ newest (newest o (bytesOfEach ps)) (bytesOfEach qs)
+newest-split o ps qs = ap (newest o) (bytes-append ps qs) ∙ newest-append o (bytesOfEach ps) (bytesOfEach qs)
+
+module _ (j : Route) (x : Position) where
+  -- 65 and 62 are no 68
+  newest-65 : (o : Option (List ℕ)) (h : Option Head) → newest o (bytesOfEach (received j x h)) ≡ o
+  unfolding newest jpReceived bytes65
+  newest-65 o none = refl
+  newest-65 o (some h) = refl
+
+  newest-62 : (o : Option (List ℕ)) (l : List Change) → newest o (bytesOfEach (map (timingPoint j x) l)) ≡ o
+  unfolding newest timingPoint bytes62
+  newest-62 o [] = refl
+  newest-62 o (c ∷ l) = newest-62 o l
+
+  newest-68 : (o : Option (List ℕ)) (due : Bool) (s c : ℕ) → newest o (bytesOfEach (when due (atoStatus j x s c))) ≡ (if due then some (packetBytes (atoStatus j x s c)) else o)
+  unfolding newest atoStatus bytes68
+  newest-68 o true s c = refl
+  newest-68 o false s c = refl
+
+  pub newest-is : (o : Option (List ℕ)) (loaded : Option Head) (changes : List Change) (before after : Status)
+      → newest o (bytesOfEach (packetsOf j x loaded changes before after)) ≡ (if statusDue before after then some (packetBytes (atoStatus j x (after .state) (after .conditions))) else o)
+  unfolding packetsOf
+  newest-is o loaded changes before after =
+      let last = when (statusDue before after) (atoStatus j x (after .state) (after .conditions)) in
+      let points = map (timingPoint j x) changes in
+      newest-split o (received j x loaded) (points ++ last)
+      ∙ ap (λ (p : Option (List ℕ)). newest p (bytesOfEach (points ++ last))) (newest-65 o loaded)
+      ∙ newest-split o points last
+      ∙ ap (λ (p : Option (List ℕ)). newest p (bytesOfEach last)) (newest-62 o changes)
+      ∙ newest-68 o (statusDue before after) (after .state) (after .conditions)
+
+-- ---- what a packet 68 tells
+
+-- the values of a header that is read back
+pub record Ranged (j : Route) (x : Position) : Type 0 where
+  pub nidc : x .nidc ≤ 1023
+  pub nidsp : x .nidsp ≤ max4
+  pub offset : x .offset ≤ undefined
+  pub speed : x .speed ≤ max2
+  pub operational : j .load .operational ≤ max4
+
+pub status-tells : (j : Route) (x : Position) (state conditions : ℕ) → Ranged j x → state ≤ 7 → conditions ≤ 511 → StatusPacket (packetBytes (atoStatus j x state conditions)) state conditions
+unfolding atoStatus
+status-tells j x state conditions r s c =
+    record {
+      status = record { header = header j x; state = state; conditions = conditions };
+      read = read-written _ (rw (le-leb (x .nidc) 1023 (r .nidc), le-leb (x .offset) 16777215 (r .offset), le-leb state 7 s, le-leb conditions 511 c))
+          (record { nidsp = omega (arith, r .nidsp); speed = omega (arith, r .speed); operational = omega (arith, r .operational) });
+      state-is = refl;
+      conditions-are = refl;
+    }

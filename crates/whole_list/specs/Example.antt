@@ -1,0 +1,73 @@
+-- The claim is not empty: two lists of calls, refused ones among them, one that ends in EG and one that ends in DE.
+use mathlib.Core.Path.{_≡_}
+use mathlib.Core.Bool.{true, false}
+use mathlib.Core.List.{List, [], _∷_, _++_, map}
+use mathlib.Core.Option.{none, some}
+use Prim.Native.Nat.{ℕ}
+use lib.ListN.{length}
+use Rattle.wire.specs.Judged.{Judged}
+use Rattle.wire.specs.Judged.Judged.{refuse}
+use Rattle.engine_value.specs.Engine.{fresh}
+use Rattle.engine_value.specs.declared.Engine.{Engine}
+use Rattle.timing.specs.Standing.{standing}
+use Rattle.timing.specs.Rule.{departing, through, pointOutcome, standingByReports}
+use Rattle.timing.specs.declared.Standing.{Standing}
+use Rattle.timing.specs.declared.Standing.the-variants.{Targeted, Reached, Passed}
+use Rattle.control.specs.Codes.{code}
+use Rattle.control.specs.Conditions.{O}
+use Rattle.call.specs.Call.{Call, Accepted}
+use Rattle.call.specs.Computed.{computed}
+use Rattle.call.specs.Trials.{answered, plain, powerOn, configured, reports, at, press, mode, plainly, trialLoad}
+use Rattle.whole_list.specs.Values.{eventOfCall, loadOfCall, latest, routeBy, skippedBy, reportsSince, behindAtLoad}
+use Rattle.whole_list.specs.Rules.{standingBy, conditionsBy, valuesBy, someBelow, becameReachedBy, machineBy, stateBy, requestBy}
+use Rattle.whole_list.specs.Table.{changesFrom, changesBy, packetsBy, kindRows, tableBy}
+use Rattle.whole_list.specs.Calls.{play, engineAfter, Done, trace, acceptedIn, historyOf, lastAnswer}
+use Rattle.whole_list.specs.Recorded.{cut, cutPackets, newest, lastStatus}
+
+-- the journey of document 01's trials: a stop at 7001, where a press in CO is refused
+abbrev pub stopped : List Call
+stopped = powerOn ∷ press ∷ trialLoad ∷ at 39900 0 ∷ []
+
+-- then engaged (an empty event is refused in between), and departed
+abbrev pub driven : List Call
+driven = stopped ++ (reports 31 ∷ configured ∷ press ∷ plain [] ∷ mode 1 ∷ at 40200 500 ∷ [])
+
+-- then past 7002, the End of Journey; a press is refused again
+abbrev pub finished : List Call
+finished = driven ++ (at 90001 500 ∷ press ∷ [])
+
+abbrev pub answersOf : List Call → List (Judged Accepted)
+answersOf calls = map (λ (d : Done). d .answer) (trace fresh calls)
+
+abbrev pub stands : List Call → ℕ → Standing
+stands calls k = standing (engineAfter calls .progress) k
+
+pub record Example : Type 0 where
+  pub answers : answersOf finished
+      ≡ answered 1 false 19 ∷ refuse 6 ∷ answered 1 false 48 ∷ answered 1 false 44 ∷ answered 1 false 19 ∷ answered 4 true 19
+      ∷ answered 4 true 0 ∷ refuse 1 ∷ answered 5 true 19 ∷ answered 5 true 25 ∷ answered 6 true 44 ∷ refuse 6 ∷ []
+  -- 7001 is reached, and then passed; 7002 is ahead; the state is EG
+  pub reached : stands stopped 0 ≡ Reached
+  pub passed : stands driven 0 ≡ Passed
+  pub ahead : stands driven 1 ≡ Targeted
+  pub engaged : engineAfter driven .control .state ≡ 5
+  pub accepted : length (historyOf driven) ≡ 8
+  pub last-answer : lastAnswer none (trace fresh driven) ≡ some (record { state = 5; request = true; bytes = 25 })
+  pub last-status : lastStatus none (trace fresh driven) ≡ some (plainly 68 39900 0 (0x1F ∷ 0xF5 ∷ []))
+  -- 7002 is passed; the state is DE
+  pub passed-too : stands finished 1 ≡ Passed
+  pub degraded : engineAfter finished .control .state ≡ 6
+  pub accepted-too : length (historyOf finished) ≡ 9
+  pub last-status-too : lastStatus none (trace fresh finished) ≡ some (plainly 68 90001 500 (0x1F ∷ 0x36 ∷ []))
+  -- the rules over the history say the same
+  pub by-rule : standingBy (historyOf stopped) 0 ≡ Reached
+  pub by-rule-passed : standingBy (historyOf finished) 1 ≡ Passed
+  pub by-rows : code (stateBy (historyOf driven)) ≡ 5
+  pub by-rows-too : code (stateBy (historyOf finished)) ≡ 6
+  pub all-nine : conditionsBy (historyOf driven) ≡ 511
+  pub requested : requestBy (historyOf driven) ≡ true
+
+-- for proofs by computation: `unfolding worked` opens the lists of calls, the rules and the meaning of a call
+unfoldable pub worked : List Call → Engine
+unfolding computed O departing through pointOutcome standingByReports eventOfCall loadOfCall latest routeBy skippedBy reportsSince behindAtLoad standingBy conditionsBy valuesBy someBelow becameReachedBy machineBy requestBy changesFrom changesBy packetsBy kindRows tableBy play trace acceptedIn lastAnswer cut cutPackets newest lastStatus
+worked calls = engineAfter calls

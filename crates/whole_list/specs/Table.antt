@@ -1,0 +1,122 @@
+-- The packets of an accepted call and the table of numbers, by the rules: functions of the history and the call.
+use mathlib.Core.Bool.{Bool, true, false, _||_}
+use mathlib.Core.List.{List, [], _∷_, _++_}
+use mathlib.Core.Option.{Option, none, some}
+use Prim.Native.Nat.{ℕ, zero, suc, _+_}
+use lib.ListN.{length}
+use lib.Dec.{ltb}
+use Rattle.wire.specs.Numbers.{if_then_else_}
+use Rattle.wire.specs.Judged.{Judged, thenJudge, row, _>>=_, _>>_}
+use Rattle.wire.specs.Judged.Judged.{refuse, accept}
+use Rattle.engine_value.specs.Engine.{progress}
+use Rattle.engine_value.specs.declared.Progress.{Progress}
+use Rattle.event.specs.Events.{eventOf}
+use Rattle.event.specs.Kinds.{kindOf, off, load, report, other, skip}
+use Rattle.journey.specs.declared.Head.{Head}
+use Rattle.route.specs.Route.{LoadValue, loadOf}
+use Rattle.packets.specs.Packets.{joined}
+use Rattle.packets.specs.declared.Packet.{Packet}
+use Rattle.timing.specs.Position.{pointCount}
+use Rattle.timing.specs.Standing.{isReached, behind}
+use Rattle.timing.specs.Changes.{Change, change, statusPassed, statusStopped, statusDeparted, statusSkipped, statusRevoked}
+use Rattle.timing.specs.Skips.{stopNamed}
+use Rattle.timing.specs.declared.Found.{Found}
+use Rattle.timing.specs.declared.Found.the-variants.{At, Nothing}
+use Rattle.timing.specs.declared.Standing.{Standing}
+use Rattle.timing.specs.declared.Standing.the-variants.{Unused, Targeted, Reached, Passed}
+use Rattle.control.specs.Codes.{code}
+use Rattle.control.specs.Conditions.{firstAhead}
+use Rattle.control.specs.Numbers.{powerRows, stateRow}
+use Rattle.call.specs.Packets.{Status, packetsOf}
+use Rattle.call.specs.Effect.{offsetBeyond, sameBool}
+use Rattle.call.specs.Call.{Call, Accepted}
+use Rattle.whole_list.specs.Values.{History, loadOfCall, roleOfCall, positionBy, routeBy, skippedBy}
+use Rattle.whole_list.specs.Rules.{standingBy, conditionsBy, stateBy, requestBy}
+
+-- ---- the points that a position report changed, by where the history rule has them before and after it; "Q_EOJ_REACHED (after that change ..)"
+
+-- "0 passed, 1 stopped, 2 departed". "A departure writes status 2 and no 0"
+abbrev pub changeAt : Standing → Standing → ℕ → List Change
+changeAt Passed after k = []
+changeAt Reached Passed k = change k statusDeparted (progress (k + 1) false) ∷ []
+changeAt Reached Reached k = []
+changeAt Reached Targeted k = []
+changeAt Reached Unused k = []
+changeAt Targeted Passed k = change k statusPassed (progress (k + 1) false) ∷ []
+changeAt Targeted Reached k = change k statusStopped (progress k true) ∷ []
+changeAt Targeted Targeted k = []
+changeAt Targeted Unused k = []
+changeAt Unused Passed k = change k statusPassed (progress (k + 1) false) ∷ []
+changeAt Unused Reached k = change k statusStopped (progress k true) ∷ []
+changeAt Unused Targeted k = []
+changeAt Unused Unused k = []
+
+-- of the n points from k on
+unfoldable pub changesFrom : (ℕ → Standing) → (ℕ → Standing) → ℕ → ℕ → List Change
+changesFrom before after zero k = []
+changesFrom before after (suc n) k = changeAt (before k) (after k) k ++ changesFrom before after n (k + 1)
+
+-- the first point not passed, and whether it is reached
+abbrev pub progressBy : History → Progress
+progressBy h =
+    let k = firstAhead (standingBy h) (pointCount (routeBy h)) 0 in
+    progress k (isReached (standingBy h k))
+
+-- "5 driver skip, 6 skip revoked"
+abbrev pub skipChange : Found → Bool → Progress → List Change
+skipChange Nothing on p = []
+skipChange (At k) on p = change k (if on then statusSkipped else statusRevoked) p ∷ []
+
+-- "points that a load puts behind write none"
+unfoldable pub changesBy : History → Call → List Change
+changesBy h c = elim (roleOfCall c) [
+  | off ↦ []
+  | load ↦ []
+  | report ↦ changesFrom (standingBy h) (standingBy (c ∷ h)) (pointCount (routeBy h)) 0
+  | other ↦ []
+  | skip t on ↦ skipChange (stopNamed (routeBy h) t) on (progressBy h)
+]
+
+-- ---- the packets of the call c, accepted after the history h
+
+abbrev pub headOf : Option LoadValue → Option Head
+headOf none = none
+headOf (some l) = some (l .head)
+
+abbrev pub headOfCall : Call → Option Head
+headOfCall c = elim (roleOfCall c) [ off ↦ none | load ↦ headOf (loadOfCall c) | report ↦ none | other ↦ none | skip t on ↦ none ]
+
+abbrev pub statusBy : History → Status
+statusBy h = record { state = code (stateBy h); conditions = conditionsBy h; speed = positionBy h .speed }
+
+unfoldable pub packetsBy : History → Call → List Packet
+packetsBy h c = packetsOf (routeBy (c ∷ h)) (positionBy (c ∷ h)) (headOfCall c) (changesBy h c) (statusBy h) (statusBy (c ∷ h))
+
+abbrev pub answerBy : History → Call → Accepted
+answerBy h c = record { state = code (stateBy (c ∷ h)); request = requestBy (c ∷ h); bytes = length (joined (packetsBy h c)) }
+
+-- ---- the table of numbers
+
+-- "14 no stop of that name; 15 point reached or passed, driver skip already given, or no driver skip to revoke"
+abbrev pub skipRows : History → Found → Bool → Judged (Unit {0})
+skipRows h Nothing on = refuse 14
+skipRows h (At k) on = row 15 (behind (standingBy h k) || sameBool (skippedBy h k) on)
+
+-- "7 to 12", "13 journey segment that is in the book, offset defined and beyond its length", 14 and 15
+unfoldable pub kindRows : History → Call → Judged (Unit {0})
+kindRows h c = elim (roleOfCall c) [
+  | off ↦ accept tt
+  | load ↦ thenJudge (loadOf (c .journey) (c .book)) (λ l. accept tt)
+  | report ↦ row 13 (offsetBeyond (routeBy h) (positionBy (c ∷ h)))
+  | other ↦ accept tt
+  | skip t on ↦ skipRows h (stopNamed (routeBy h) t) on
+]
+
+-- event, power, state, book, journey, position, skip, output: "16 shorter than this event's packets"
+unfoldable pub tableBy : History → Call → Judged (Unit {0})
+tableBy h c = do
+  event ← eventOf (c .event)
+  powerRows (stateBy h) (kindOf event)
+  stateRow (stateBy h) (kindOf event)
+  kindRows h c
+  row 16 (ltb (length (c .memory)) (length (joined (packetsBy h c))))
