@@ -1,3 +1,4 @@
+pub mod Computed
 pub mod Trials
 pub mod Rows
 pub mod Sizes

@@ -1,6 +1,6 @@
 -- The example and P1 to P8, one lemma, and further examples, by computation from the bytes of the calls.
 use mathlib.Core.Path.{refl}
-use Rattle.call.specs.Computed.{computed}
+use Rattle.call.proofs.Computed.{computed}
 use Rattle.call.specs.Trials.{Trials, Further, loaded, ahead, stopped, full, engaged}
 
 pub trials : Trials

@@ -3,5 +3,4 @@ pub mod Packets
 pub mod Effect
 pub mod Call
 pub mod Shown
-pub mod Computed
 pub mod Trials

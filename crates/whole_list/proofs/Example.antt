@@ -6,7 +6,8 @@ use Rattle.timing.specs.declared.Standing.the-variants.{Reached, Passed}
 use Rattle.whole_list.specs.Values.{routeBy}
 use Rattle.whole_list.specs.Rules.{StandsBy, Engaged}
 use Rattle.whole_list.specs.Calls.{historyOf, engineAfter}
-use Rattle.whole_list.specs.Example.{Example, worked, stopped, driven, finished}
+use Rattle.whole_list.specs.Example.{Example, stopped, driven, finished}
+use Rattle.whole_list.proofs.Computed.{worked}
 use Rattle.whole_list.proofs.WholeList.{whole-list}
 
 pub example : Example

@@ -13,4 +13,5 @@ pub mod TableRows
 pub mod Engaged
 pub mod Passed
 pub mod WholeList
+pub mod Computed
 pub mod Example

@@ -8,21 +8,15 @@ use lib.ListN.{length}
 use Rattle.wire.specs.Judged.{Judged}
 use Rattle.wire.specs.Judged.Judged.{refuse}
 use Rattle.engine_value.specs.Engine.{fresh}
-use Rattle.engine_value.specs.declared.Engine.{Engine}
 use Rattle.timing.specs.Standing.{standing}
-use Rattle.timing.specs.Rule.{departing, through, pointOutcome, standingByReports}
 use Rattle.timing.specs.declared.Standing.{Standing}
 use Rattle.timing.specs.declared.Standing.the-variants.{Targeted, Reached, Passed}
 use Rattle.control.specs.Codes.{code}
-use Rattle.control.specs.Conditions.{O}
 use Rattle.call.specs.Call.{Call, Accepted}
-use Rattle.call.specs.Computed.{computed}
 use Rattle.call.specs.Trials.{answered, plain, powerOn, configured, reports, at, press, mode, plainly, trialLoad}
-use Rattle.whole_list.specs.Values.{eventOfCall, loadOfCall, latest, routeBy, skippedBy, reportsSince, behindAtLoad}
-use Rattle.whole_list.specs.Rules.{standingBy, conditionsBy, valuesBy, someBelow, becameReachedBy, machineBy, stateBy, requestBy}
-use Rattle.whole_list.specs.Table.{changesFrom, changesBy, packetsBy, kindRows, tableBy}
-use Rattle.whole_list.specs.Calls.{play, engineAfter, Done, trace, acceptedIn, historyOf, lastAnswer}
-use Rattle.whole_list.specs.Recorded.{cut, cutPackets, newest, lastStatus}
+use Rattle.whole_list.specs.Rules.{standingBy, conditionsBy, stateBy, requestBy}
+use Rattle.whole_list.specs.Calls.{engineAfter, Done, trace, historyOf, lastAnswer}
+use Rattle.whole_list.specs.Recorded.{lastStatus}
 
 -- the journey of document 01's trials: a stop at 7001, where a press in CO is refused
 abbrev pub stopped : List Call
@@ -66,8 +60,3 @@ pub record Example : Type 0 where
   pub by-rows-too : code (stateBy (historyOf finished)) ≡ 6
   pub all-nine : conditionsBy (historyOf driven) ≡ 511
   pub requested : requestBy (historyOf driven) ≡ true
-
--- for proofs by computation: `unfolding worked` opens the lists of calls, the rules and the meaning of a call
-unfoldable pub worked : List Call → Engine
-unfolding computed O departing through pointOutcome standingByReports eventOfCall loadOfCall latest routeBy skippedBy reportsSince behindAtLoad standingBy conditionsBy valuesBy someBelow becameReachedBy machineBy requestBy changesFrom changesBy packetsBy kindRows tableBy play trace acceptedIn lastAnswer cut cutPackets newest lastStatus
-worked calls = engineAfter calls
