@@ -13,6 +13,8 @@ use Rattle.engine_value.specs.declared.Train.{Train}
 use Rattle.engine_value.specs.declared.Control.{Control}
 use Rattle.engine_value.specs.declared.Engine.{Engine}
 
+-- ---- constants
+
 -- the greatest numbers of two and of four bytes
 abbrev pub max2 : ℕ
 max2 = 65535
@@ -20,9 +22,37 @@ max2 = 65535
 abbrev pub max4 : ℕ
 max4 = 4294967295
 
+-- "NID_C (2 bytes, 0-1023)"
+abbrev pub maxNidc : ℕ
+maxNidc = 1023
+
+-- "NID_TP (4, below 4,294,967,295)"
+abbrev pub maxNidtp : ℕ
+maxNidtp = 4294967294
+
+-- of packet 65: "NID_C (1,024 unless the position is known)"
+abbrev pub unknownNidc : ℕ
+unknownNidc = 1024
+
 -- "offset (4; 16,777,215 undefined, none higher)"
 abbrev pub undefined : ℕ
 undefined = 16777215
+
+-- "NID_OPERATIONAL (4; FFFFFFFF hexadecimal with no journey)"
+abbrev pub noOperational : ℕ
+noOperational = 4294967295
+
+-- "segments: count (1, 1-40)"; "A book is 0 to 40 records"
+abbrev pub maxSegments : ℕ
+maxSegments = 40
+
+-- "points: count (1, 1-64)"
+abbrev pub maxPoints : ℕ
+maxPoints = 64
+
+-- of a segment record: "inhibition zones: count (1, 1-4)"
+abbrev pub maxZones : ℕ
+maxZones = 4
 
 -- ---- what stands in the arrays beyond the counts
 
@@ -34,7 +64,7 @@ abbrev pub blankZone : Zone
 blankZone = record { start = 0; end = 0 }
 
 abbrev pub blankSegment : Segment
-blankSegment = record { nidc = 0; nidsp = 0; booked = false; placed = false; start = 0; length = 0; «zone_count» = 0; zones = replicate 4 blankZone }
+blankSegment = record { nidc = 0; nidsp = 0; booked = false; placed = false; start = 0; length = 0; «zone_count» = 0; zones = replicate maxZones blankZone }
 
 abbrev pub blankPoint : Point
 blankPoint = record { nidtp = 0; nidc = 0; alignment = 0; stopping = 0; stop = false; trackside = false; placed = false; place = 0; reach = 0 }
@@ -44,22 +74,31 @@ blankPoint = record { nidtp = 0; nidc = 0; alignment = 0; stopping = 0; stop = f
 abbrev pub progress : ℕ → Bool → Progress
 progress n r = record { next = n; reached = r }
 
--- "NID_OPERATIONAL (4; FFFFFFFF hexadecimal with no journey)"
+-- "no journey"
 abbrev pub noLoad : Load
-noLoad = record { valid = false; operational = max4; ending = 0; «point_count» = 0; «segment_count» = 0 }
+noLoad = record { valid = false; operational = noOperational; ending = 0; «point_count» = 0; «segment_count» = 0 }
 
 abbrev pub freshPosition : Position
 freshPosition = record { nidc = 0; nidsp = 0; offset = undefined; speed = 0 }
 
+abbrev pub freshTrain : Train
+freshTrain = record { position = freshPosition; length = 0 }
+
+abbrev pub freshControl : Control
+freshControl = record { state = 0; mode = 0; lever = 0; reports = 0; press = false; request = false }
+
+abbrev pub noSkips : List Bool
+noSkips = replicate maxPoints false
+
 abbrev pub fresh : Engine
 fresh = record {
-  points = replicate 64 blankPoint;
-  skips = replicate 64 false;
-  segments = replicate 40 blankSegment;
+  points = replicate maxPoints blankPoint;
+  skips = noSkips;
+  segments = replicate maxSegments blankSegment;
   load = noLoad;
   progress = progress 0 false;
-  train = record { position = freshPosition; length = 0 };
-  control = record { state = 0; mode = 0; lever = 0; reports = 0; press = false; request = false };
+  train = freshTrain;
+  control = freshControl;
 }
 
 -- ---- a load's result: what stands in the engine until the next one
@@ -70,13 +109,10 @@ pub record Route : Type 0 where
   pub segments : List Segment
 
 abbrev pub noRoute : Route
-noRoute = record { load = noLoad; points = replicate 64 blankPoint; segments = replicate 40 blankSegment }
+noRoute = record { load = noLoad; points = replicate maxPoints blankPoint; segments = replicate maxSegments blankSegment }
 
 abbrev pub routeIn : Engine → Route
 routeIn e = record { load = e .load; points = e .points; segments = e .segments }
-
-abbrev pub noSkips : List Bool
-noSkips = replicate 64 false
 
 -- ---- setters
 
@@ -98,6 +134,3 @@ withControl e c = record { points = e .points; skips = e .skips; segments = e .s
 
 abbrev pub withPosition : Engine → Position → Engine
 withPosition e p = withTrain e (record { position = p; length = e .train .length })
-
-abbrev pub withLength : Engine → ℕ → Engine
-withLength e n = withTrain e (record { position = e .train .position; length = n })

@@ -1,7 +1,26 @@
 // The engine as a value: the journey in force, the train, how far it has come, and the ATO state. Numbers, bools and arrays of
 // plain structs, so that a host in C can hold it.
 ghost use mathlib.Core.Path.{_≡_};
-ghost use Rattle.engine_value.specs.Engine.{blankSegment, blankPoint, freshPosition, fresh};
+ghost use Rattle.engine_value.specs.Engine.{blankSegment, blankPoint, noLoad, freshTrain, freshControl, fresh};
+
+// The most points and segments of a journey, and the most zones of a segment.
+pub const MAX_POINTS: usize = 64;
+
+pub const MAX_SEGMENTS: usize = 40;
+
+pub const MAX_ZONES: usize = 4;
+
+// The greatest NID_C and NID_TP of a layout, and the NID_C that packet 65 writes where the position is not known.
+pub const MAX_NIDC: u32 = 1023;
+
+pub const MAX_NIDTP: u32 = 4294967294;
+
+pub const UNKNOWN_NIDC: u16 = 1024;
+
+// The offset that means undefined, and NID_OPERATIONAL where there is none.
+pub const UNDEFINED: u32 = 16777215;
+
+pub const NO_OPERATIONAL: u32 = 4294967295;
 
 // An inhibition zone of a segment, both ends inside.
 #[repr(C)]
@@ -20,7 +39,7 @@ pub struct Segment {
     pub start: u32,
     pub length: u32,
     pub zone_count: u8,
-    pub zones: [Zone; 4],
+    pub zones: [Zone; MAX_ZONES],
 }
 
 // A timing point of the journey. Where it is placed, `place` is counted from the journey's start, and `reach` is the reached distance R.
@@ -82,9 +101,9 @@ pub struct Control {
 // The journey's points and the driver skips of each, its segments, and the groups above.
 #[repr(C)]
 pub struct Engine {
-    pub points: [Point; 64],
-    pub skips: [bool; 64],
-    pub segments: [Segment; 40],
+    pub points: [Point; MAX_POINTS],
+    pub skips: [bool; MAX_POINTS],
+    pub segments: [Segment; MAX_SEGMENTS],
     pub load: Load,
     pub progress: Progress,
     pub train: Train,
@@ -96,7 +115,7 @@ pub fn blank_segment() -> Segment
     ensures { λ r. ⌜ r ≡ blankSegment ⌝ }
 {
     let zone = Zone { start: 0, end: 0 };
-    let zones = [zone; 4];
+    let zones = [zone; MAX_ZONES];
     Segment {
         nidc: 0,
         nidsp: 0,
@@ -126,14 +145,46 @@ pub fn blank_point() -> Point
     }
 }
 
-fn fresh_position() -> Position
-    ensures { λ r. ⌜ r ≡ freshPosition ⌝ }
+// ---- fresh, group by group
+
+// No journey.
+pub fn no_load() -> Load
+    ensures { λ r. ⌜ r ≡ noLoad ⌝ }
 {
-    Position {
+    Load {
+        valid: false,
+        operational: NO_OPERATIONAL,
+        ending: 0,
+        point_count: 0,
+        segment_count: 0,
+    }
+}
+
+pub fn fresh_train() -> Train
+    ensures { λ r. ⌜ r ≡ freshTrain ⌝ }
+{
+    let position = Position {
         nidc: 0,
         nidsp: 0,
-        offset: 16777215,
+        offset: UNDEFINED,
         speed: 0,
+    };
+    Train {
+        position: position,
+        length: 0,
+    }
+}
+
+pub fn fresh_control() -> Control
+    ensures { λ r. ⌜ r ≡ freshControl ⌝ }
+{
+    Control {
+        state: 0,
+        mode: 0,
+        lever: 0,
+        reports: 0,
+        press: false,
+        request: false,
     }
 }
 
@@ -143,40 +194,20 @@ pub fn fresh() -> Engine
 {
     let point = blank_point();
     let segment = blank_segment();
-    let position = fresh_position();
-    let points = [point; 64];
-    let skips = [false; 64];
-    let segments = [segment; 40];
-    let load = Load {
-        valid: false,
-        operational: 4294967295,
-        ending: 0,
-        point_count: 0,
-        segment_count: 0,
-    };
+    let points = [point; MAX_POINTS];
+    let skips = [false; MAX_POINTS];
+    let segments = [segment; MAX_SEGMENTS];
     let progress = Progress {
         next: 0,
         reached: false,
-    };
-    let train = Train {
-        position: position,
-        length: 0,
-    };
-    let control = Control {
-        state: 0,
-        mode: 0,
-        lever: 0,
-        reports: 0,
-        press: false,
-        request: false,
     };
     Engine {
         points: points,
         skips: skips,
         segments: segments,
-        load: load,
+        load: no_load(),
         progress: progress,
-        train: train,
-        control: control,
+        train: fresh_train(),
+        control: fresh_control(),
     }
 }
