@@ -2,9 +2,7 @@
 use Prim.Native.Nat.{ℕ}
 use mathlib.Core.Bool.{not, _&&_, _||_}
 use lib.Dec.{eqb}
-use Rattle.wire.specs.Numbers.{if_then_else_}
 use Rattle.wire.specs.Judged.{Judged, row, _>>_}
-use Rattle.wire.specs.Judged.Judged.{refuse, accept}
 use Rattle.control.specs.Codes.{is}
 use Rattle.control.specs.declared.State.{State}
 use Rattle.control.specs.declared.State.the-variants.{NP, CO, RE, FA}
@@ -25,7 +23,3 @@ unfoldable pub stateRows : State → ℕ → Judged (Unit {0})
 stateRows s kind = do
   powerRows s kind
   stateRow s kind
-
--- the number of the row that refuses; 0 where none does
-abbrev pub rowView : ℕ → Judged (Unit {0})
-rowView n = if eqb n 0 then accept tt else refuse n

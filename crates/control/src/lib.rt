@@ -4,6 +4,7 @@ ghost use mathlib.Core.Bool.{false, not, _&&_, _||_};
 ghost use Prim.Native.Nat.{_-_, _≤_, min};
 ghost use lib.Dec.{leb};
 ghost use Rattle.wire.specs.Numbers.{flag};
+ghost use Rattle.wire.specs.View.{verdictView};
 ghost use Rattle.engine_value.specs.Engine.{routeIn};
 ghost use Rattle.timing.specs.Position.{pointCount, placed};
 ghost use Rattle.timing.specs.Standing.{standing};
@@ -13,7 +14,7 @@ ghost use Rattle.control.specs.Conditions.{endAhead, lastAhead, tooFar, 
 ghost use Rattle.control.specs.Seen.{bare, locatedBy, viewBy, viewIn, conditionsBy};
 ghost use Rattle.control.specs.States.{machine, N, U, fromRE, fromEG, fromDE, byState, settled, wanted, given};
 ghost use Rattle.control.specs.Settled.{allNine, valuesIn, machineIn, controlAfter};
-ghost use Rattle.control.specs.Numbers.{rowView, powerRows, stateRow, stateRows};
+ghost use Rattle.control.specs.Numbers.{powerRows, stateRow, stateRows};
 use engine_value::Control;
 use engine_value::Engine;
 use engine_value::Load;
@@ -25,6 +26,7 @@ use event::Event;
 use event::Row;
 use event::row_of;
 use timing::Named;
+use wire::Verdict;
 
 // The states of document 01, by their codes 0 to 7 in this order.
 pub enum State {
@@ -592,37 +594,55 @@ pub fn settle(c: Control, event: Event, reached: bool, word: u16) -> Control
 
 // ---- the places "power" and "state" of the table of numbers
 
-fn power_row(s: State, kind: u8) -> u8
-    ensures { λ r. ⌜ rowView r ≡ powerRows s kind ⌝ }
+fn power_rows(s: State, kind: u8) -> Verdict
+    ensures { λ r. ⌜ verdictView r ≡ powerRows s kind ⌝ }
 {
     if same(s, State::NP) {
-        return if kind == 1 { 0 } else { 3 };
+        return if kind == 1 {
+            Verdict::Accepted
+        } else {
+            Verdict::Refused(3)
+        };
     }
     if kind == 1 {
-        return 4;
+        return Verdict::Refused(4);
     }
     if same(s, State::FA) {
-        return if kind == 3 { 0 } else { 5 };
+        return if kind == 3 {
+            Verdict::Accepted
+        } else {
+            Verdict::Refused(5)
+        };
     }
-    0
+    Verdict::Accepted
 }
 
-fn state_row(s: State, kind: u8) -> u8
-    ensures { λ r. ⌜ rowView r ≡ stateRow s kind ⌝ }
+fn state_row(s: State, kind: u8) -> Verdict
+    ensures { λ r. ⌜ verdictView r ≡ stateRow s kind ⌝ }
 {
     if kind == 2 {
-        return if same(s, State::CO) { 0 } else { 6 };
+        return if same(s, State::CO) {
+            Verdict::Accepted
+        } else {
+            Verdict::Refused(6)
+        };
     }
     if kind == 8 {
-        return if same(s, State::RE) { 0 } else { 6 };
+        return if same(s, State::RE) {
+            Verdict::Accepted
+        } else {
+            Verdict::Refused(6)
+        };
     }
-    0
+    Verdict::Accepted
 }
 
-// The number of the first of these rows that refuses; 0 where none does.
-pub fn power_number(s: State, kind: u8) -> u8
-    ensures { λ r. ⌜ rowView r ≡ stateRows s kind ⌝ }
+// Both places, one after the other.
+pub fn state_rows(s: State, kind: u8) -> Verdict
+    ensures { λ r. ⌜ verdictView r ≡ stateRows s kind ⌝ }
 {
-    let n = power_row(s, kind);
-    if n == 0 { state_row(s, kind) } else { n }
+    match power_rows(s, kind) {
+        Verdict::Accepted => state_row(s, kind),
+        Verdict::Refused(n) => Verdict::Refused(n),
+    }
 }

@@ -11,6 +11,8 @@ use native.Mathlib.Numerals.{add-one}
 use native.Mathlib.Omega.{arith}
 use Rattle.wire.specs.Judged.{Judged, thenJudge}
 use Rattle.wire.specs.Judged.Judged.{refuse, accept}
+use Rattle.wire.specs.View.{verdictView}
+use Rattle.wire.specs.declared.Verdict.{Verdict}
 use Rattle.engine_value.specs.Engine.{Route, routeIn, undefined, progress, withRoute, withSkips, withProgress, withControl, withPosition}
 use Rattle.engine_value.specs.declared.Position.{Position}
 use Rattle.engine_value.specs.declared.Engine.{Engine}
@@ -33,7 +35,7 @@ use Rattle.timing.specs.declared.Reported.{Reported}
 use Rattle.control.specs.Codes.{stateAt}
 use Rattle.control.specs.Conditions.{tooFar, conditions}
 use Rattle.control.specs.declared.View.{View}
-use Rattle.control.specs.Numbers.{powerRows, stateRow, stateRows, rowView}
+use Rattle.control.specs.Numbers.{powerRows, stateRow, stateRows}
 use Rattle.control.specs.Settled.{controlAfter}
 use Rattle.route.specs.Route.{LoadValue, loadOf, loadView}
 use Rattle.route.specs.declared.Loaded.{Loaded}
@@ -178,22 +180,22 @@ assoc : {A : Type 0} (p q : Judged (Unit {0})) (x : Judged A) → thenJudge p (�
 assoc (refuse n) q x = refl
 assoc (accept a) q x = refl
 
-module _ (e : Engine) (event : Event) (journey book memory : List ℕ) (n : ℕ) (told : rowView n ≡ stateRows (stateAt (e .control .state)) (kindOf event)) where
+module _ (e : Engine) (event : Event) (journey book memory : List ℕ) (w : Verdict) (told : verdictView w ≡ stateRows (stateAt (e .control .state)) (kindOf event)) where
   abbrev effectRows : Judged Step
   effectRows = thenJudge (model.effect e journey book event) (λ f. outputRow memory (stepBy e event f))
 
-  by-number : laterRows e event journey book memory ≡ thenJudge (rowView n) (λ a. effectRows)
+  by-verdict : (x : Verdict) → w ≡ x → laterRows e event journey book memory ≡ thenJudge (verdictView x) (λ a. effectRows)
   unfolding laterRows stateRows
-  by-number =
+  by-verdict x q =
       assoc (powerRows (stateAt (e .control .state)) (kindOf event)) (stateRow (stateAt (e .control .state)) (kindOf event)) effectRows
-      ∙ ap (λ (x : Judged (Unit {0})). thenJudge x (λ a. effectRows)) (sym told)
+      ∙ ap (λ (y : Judged (Unit {0})). thenJudge y (λ a. effectRows)) (sym told ∙ ap verdictView q)
 
-  pub rows-number : (n ≡ 0 → ⊥) → laterRows e event journey book memory ≡ refuse n
-  rows-number h = by-number ∙ rw (ne-eqb n 0 h)
+  pub rows-number : (n : ℕ) → w ≡ Verdict.Refused n → laterRows e event journey book memory ≡ refuse n
+  rows-number n q = by-verdict (Verdict.Refused n) q
 
-  module _ (f : Effect) (zero : n ≡ 0) (seen : effectView f ≡ model.effect e journey book event) where
+  module _ (f : Effect) (none : w ≡ Verdict.Accepted) (seen : effectView f ≡ model.effect e journey book event) where
     by-effect : laterRows e event journey book memory ≡ thenJudge (effectView f) (λ g. outputRow memory (stepBy e event g))
-    by-effect = by-number ∙ rw (eq-eqb n 0 zero) (ap (λ (x : Judged model.Effect). thenJudge x (λ g. outputRow memory (stepBy e event g))) (sym seen))
+    by-effect = by-verdict Verdict.Accepted none ∙ ap (λ (x : Judged model.Effect). thenJudge x (λ g. outputRow memory (stepBy e event g))) (sym seen)
 
     pub rows-effect : (f .number ≡ 0 → ⊥) → laterRows e event journey book memory ≡ refuse (f .number)
     rows-effect h = by-effect ∙ ap (λ (x : Judged model.Effect). thenJudge x (λ g. outputRow memory (stepBy e event g))) (seen-number f h)

@@ -20,6 +20,7 @@ use timing::Found;
 use timing::Named;
 use timing::Reported;
 use timing::Standing;
+use wire::Verdict;
 ghost use mathlib.Core.Path.{_≡_};
 ghost use mathlib.Core.Bool.{false};
 ghost use Prim.Native.Nat.{_<_};
@@ -567,8 +568,7 @@ fn take(e: Engine, v: Event, journey: &[u8], book: &[u8], out: &mut [u8]) -> Ste
     ensures { λ r. ⌜ Steps (outcomeOf e (now (out .entry)) (laterRows e v (now (journey .entry)) (now (book .entry)) (now (out .entry)))) r (now (out .exit)) ⌝ }
 {
     let state = control::state_at(e.control.state);
-    let n = control::power_number(state, event::kind_of(v));
-    if n != 0 {
+    if let Verdict::Refused(n) = control::state_rows(state, event::kind_of(v)) {
         return refused(e, n);
     }
     // control::view_of, written out: a call of it would copy the engine once more

@@ -4,20 +4,21 @@ use Rattle.event.specs.Kinds.{kindOf}
 use Rattle.control.specs.Codes.{stateAt}
 use Rattle.control.specs.Seen.{viewBy}
 use Rattle.control.proofs.Laws.{view-is}
-use Rattle.control.specs.Numbers.{rowView, stateRows}
+use Rattle.control.specs.Numbers.{stateRows}
+use Rattle.wire.specs.View.{verdictView}
 use Rattle.engine.specs.View.{viewOf}
 use Rattle.engine.proofs.Rows.{rows-number, rows-effect, rows-output, steps-refused, steps-by}
 use borrow.Author.Needs.{needs}
 use Rattle.engine.proofs.take.Statement.{statement}
 use Rattle.engine.proofs.take.Tie as tie
 
-numbered : (c : tie.After-power-number) → let a = c .before .before .before .before .before .before .args in rowView (c .power-number .result) ≡ stateRows (stateAt (a .e .control .state)) (kindOf (a .v))
-numbered c = c .power-number .ensures ∙ ap₂ stateRows (c .before .before .state-at .ensures) (c .before .kind-of .ensures)
+judged : (c : tie.After-state-rows) → let a = c .before .before .before .before .before .before .args in verdictView (c .state-rows .result) ≡ stateRows (stateAt (a .e .control .state)) (kindOf (a .v))
+judged c = c .state-rows .ensures ∙ ap₂ stateRows (c .before .before .state-at .ensures) (c .before .kind-of .ensures)
 
-viewed : (c : tie.After-view-by) → let a = c .before .before .before .before .before .before .before .before .before .before .args in c .view-by .result ≡ viewOf (a .e)
+viewed : (c : tie.After-view-by) → let a = c .before .before .before .before .before .before .before .before .before .before .before .args in c .view-by .result ≡ viewOf (a .e)
 viewed c =
     let s = c .before .before in
-    let e = s .before .before .before .before .before .before .before .before .args .e in
+    let e = s .before .before .before .before .before .before .before .before .before .args .e in
     c .view-by .ensures ∙ ap₂ (λ g b. viewBy g (e .train .position) b) (s .segment-named .ensures) (c .before .placed-at .ensures) ∙ view-is _ _ (e .progress)
 
 state-at-requires : tie.Need-state-at-requires
@@ -26,17 +27,23 @@ state-at-requires c κs = search needs
 kind-of-requires : tie.Need-kind-of-requires
 kind-of-requires c κs = search needs
 
-power-number-requires : tie.Need-power-number-requires
-power-number-requires c κs = search needs
+state-rows-requires : tie.Need-state-rows-requires
+state-rows-requires c κs = search needs
+
+enum-known-n : tie.Need-enum-known-n
+enum-known-n c = search needs
 
 refused-requires : tie.Need-refused-requires
 refused-requires c κs = search needs
 
 returns : tie.Need-returns
 returns c =
-    let p = c .before .before in
+    let p = c .before .before .before .before in
     let a = p .before .before .before .before .before .before .args in
-    steps-refused (a .e) (now (a .out)) _ _ _ (rows-number (a .e) (a .v) (now (a .journey)) (now (a .book)) (now (a .out)) _ (numbered p) (c .before .if1 .taken)) (c .refused .ensures)
+    steps-refused (a .e) (now (a .out)) _ _ _ (rows-number (a .e) (a .v) (now (a .journey)) (now (a .book)) (now (a .out)) _ (judged p) _ (c .before .before .n .given .1)) (c .refused .ensures)
+
+enum-told : tie.Need-enum-told
+enum-told c = search needs
 
 segment-named-requires : tie.Need-segment-named-requires
 segment-named-requires c κs = search needs
@@ -56,10 +63,10 @@ refused-requires-2 c κs = search needs
 returns-2 : tie.Need-returns-2
 returns-2 c =
     let f = c .before .before .before in
-    let p = f .before .before .before .before .before in
+    let p = f .before .before .before .before .before .before in
     let a = p .before .before .before .before .before .before .args in
     steps-refused (a .e) (now (a .out)) _ _ _
-    (rows-effect (a .e) (a .v) (now (a .journey)) (now (a .book)) (now (a .out)) _ (numbered p) (f .effect-of .result) (f .before .before .before .before .if1 .left) (f .effect-of .ensures .effect) (c .before .if2 .taken))
+    (rows-effect (a .e) (a .v) (now (a .journey)) (now (a .book)) (now (a .out)) _ (judged p) (f .effect-of .result) (f .before .before .before .before .enum-told .given .1) (f .effect-of .ensures .effect) (c .before .if1 .taken))
     (c .refused2 .ensures)
 
 conclude-requires : tie.Need-conclude-requires
@@ -73,10 +80,10 @@ returns-3 c =
     let o = c .before .before in
     let i = o .before .before in
     let f = i .before .before in
-    let p = f .before .before .before .before .before in
+    let p = f .before .before .before .before .before .before in
     let a = p .before .before .before .before .before .before .args in
     steps-by (a .e) (now (a .out)) _ _ _ _
-    (rows-output (a .e) (a .v) (now (a .journey)) (now (a .book)) (now (a .out)) _ (numbered p) (f .effect-of .result) (f .before .before .before .before .if1 .left) (f .effect-of .ensures .effect) (i .if2 .left))
+    (rows-output (a .e) (a .v) (now (a .journey)) (now (a .book)) (now (a .out)) _ (judged p) (f .effect-of .result) (f .before .before .before .before .enum-told .given .1) (f .effect-of .ensures .effect) (i .if1 .left))
     (o .conclude .ensures)
 
 pub take-spec : {M : Type 1} → statement M
@@ -85,9 +92,11 @@ take-spec =
     (tie.spec
     state-at-requires
     kind-of-requires
-    power-number-requires
+    state-rows-requires
+    enum-known-n
     refused-requires
     returns
+    enum-told
     segment-named-requires
     placed-at-requires
     view-by-requires

@@ -5,8 +5,8 @@ use Rattle.control.specs.Numbers.{powerRows}
 use Rattle.control.proofs.CodeLaws.{same-state}
 use Rattle.control.specs.declared.State.the-variants.{NP}
 use borrow.Author.Needs.{needs}
-use Rattle.control.proofs.power_row.Statement.{statement}
-use Rattle.control.proofs.power_row.Tie as tie
+use Rattle.control.proofs.power_rows.Statement.{statement}
+use Rattle.control.proofs.power_rows.Tie as tie
 
 same-requires : tie.Need-same-requires
 same-requires c κs = search needs
@@ -38,8 +38,8 @@ returns-6 : tie.Need-returns-6
 unfolding powerRows
 returns-6 c = rw (sym (c .before .before .before .before .same .ensures) ∙ c .before .before .before .if1 .left, ne-eqb _ _ (c .before .before .if3 .left), sym (c .before .same2 .ensures) ∙ c .if4 .left)
 
-pub power-row-spec : {M : Type 1} → statement M
-power-row-spec =
+pub power-rows-spec : {M : Type 1} → statement M
+power-rows-spec =
     tie.close
     (tie.spec
     same-requires
