@@ -1,7 +1,7 @@
 -- For proofs by computation: `unfolding computed` opens `stepOf` and all that it is made of.
 use Rattle.wire.specs.Numbers.{number, bytesOf}
 use Rattle.wire.specs.Parse.{field, optional, many, counted, listed}
-use Rattle.event.specs.Events.{positioned, carries, eventOfKind, eventOf}
+use Rattle.event.specs.Events.{eventWith, contentAmong, eventOfKind, eventOf}
 use Rattle.book.specs.Book.{bookPoint, zoneRecord, segmentRecord, records, bookOf}
 use Rattle.journey.specs.Journey.{nameRecord, pointMap, pointRecord, headMap, headRecord, journeyRecord}
 use Rattle.route.specs.Placing.{segmentOf, segmentsFrom, pointOf, pointsFrom}
@@ -24,5 +24,5 @@ use Rattle.call.specs.Effect.{beyondIn, offsetBeyond, positionEffect, lo
 use Rattle.call.specs.Call.{Call, Outcome, conditionsIn, judged, outcomeOf, stepOf}
 
 unfoldable pub computed : Engine → Call → Outcome
-unfolding number bytesOf field optional many counted listed positioned carries eventOfKind eventOf bookPoint zoneRecord segmentRecord records bookOf nameRecord pointMap pointRecord headMap headRecord journeyRecord segmentOf segmentsFrom pointOf pointsFrom mismatched disordered checked journeyOf routeOf loadOf segmentFrom frontIn front beyond atStop targetFrom target looked reported passings reportChanges stopFrom firstAhead countsIn counts inZones outsideIn conditions powerRows stateRow settled controlAfter headerBytes bytes62 bytes65 bytes68 timingPoint jpReceived atoStatus statusDue packetsOf beyondIn offsetBeyond positionEffect loadEffect skipEffect effect conditionsIn judged outcomeOf stepOf
+unfolding number bytesOf field optional many counted listed eventWith contentAmong eventOfKind eventOf bookPoint zoneRecord segmentRecord records bookOf nameRecord pointMap pointRecord headMap headRecord journeyRecord segmentOf segmentsFrom pointOf pointsFrom mismatched disordered checked journeyOf routeOf loadOf segmentFrom frontIn front beyond atStop targetFrom target looked reported passings reportChanges stopFrom firstAhead countsIn counts inZones outsideIn conditions powerRows stateRow settled controlAfter headerBytes bytes62 bytes65 bytes68 timingPoint jpReceived atoStatus statusDue packetsOf beyondIn offsetBeyond positionEffect loadEffect skipEffect effect conditionsIn judged outcomeOf stepOf
 computed e c = stepOf e c

@@ -1,3 +1,4 @@
-pub mod Carried
+pub mod ContentLaws
+pub mod Anchors
 pub mod Known
 pub mod Accepted

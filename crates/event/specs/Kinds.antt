@@ -1,11 +1,14 @@
--- What each kind of event is: its number, its row of the states, what it is to the journey and its points, and which value it brings. A kind is
--- said here and nowhere else; effects, rules and proofs go by row, role and value.
+-- What each kind of event is: its number, what it carries, its row of the states, what it is to the journey and its points, and which value it
+-- brings. A kind is said here and nowhere else; reader, effects, rules and proofs go by content, row, role and value.
 use Prim.Native.Nat.{ℕ}
 use mathlib.Core.Bool.{Bool, true, false}
+use mathlib.Core.List.{List, [], _∷_}
 use mathlib.Core.Option.{Option, none, some}
 use lib.Dec.{eqb}
 use Rattle.wire.specs.Numbers.{if_then_else_}
+use Rattle.engine_value.specs.Engine.{maxNidc, undefined, freshPosition}
 use Rattle.engine_value.specs.declared.Position.{Position}
+use Rattle.event.specs.Content.{Content, range, free, bare, one}
 use Rattle.event.specs.declared.Event.{Event}
 use Rattle.event.specs.declared.Event.the-variants.{PowerOn, Configured, PowerOff, Fault, Reports, Mode, Lever, Press, PositionReport, Length, Load, Skip, Revoke}
 use Rattle.event.specs.declared.Row.{Row}
@@ -39,29 +42,46 @@ newer (some b) a = b
 
 pub record Kind : Type 0 where
   pub number : ℕ
+  pub content : Content
   pub row : Row
   pub role : Role
   pub brings : Brings
 
-abbrev pub is : ℕ → Row → Role → Brings → Kind
-is n w r b = record { number = n; row = w; role = r; brings = b }
+abbrev pub is : ℕ → Content → Row → Role → Brings → Kind
+is n c w r b = record { number = n; content = c; row = w; role = r; brings = b }
+
+-- "NID_C (2, 0-1023), NID_SP (4), offset (4; 16,777,215 undefined, none higher), speed (2)"
+abbrev pub positionContent : Content
+positionContent = record {
+  fields = range 2 0 maxNidc ∷ free 4 ∷ range 4 0 undefined ∷ free 2 ∷ [];
+  event = λ v. let (c, (sp, (o, (s, _)))) = v in PositionReport (record { nidc = c; nidsp = sp; offset = o; speed = s });
+}
 
 -- ---- the table
 
+-- "1 power on; 2 configured; 3 power off; 4 fault; 5 reports (1: bit 0 ETCS conditions, .. 4 train conditions; 5-7 zero); 6 ETCS mode (1: 0 other,
+-- 1 AD); 7 lever (1: 0 neutral, 1 traction, 2 brake); 8 engage press; 9 position: ..; 10 train length (4, 1-100,000); 11 load, with journey and book
+-- lent beside it; 12 driver skip (4, NID_TP); 13 driver revokes skip (4)"
 abbrev pub kind : Event → Kind
-kind PowerOn = is 1 SwitchOn other nothing
-kind Configured = is 2 Configure other nothing
-kind PowerOff = is 3 SwitchOff off nothing
-kind Fault = is 4 Fail other nothing
-kind (Reports n) = is 5 ByState other (number reports n)
-kind (Mode n) = is 6 ByState other (number mode n)
-kind (Lever n) = is 7 ByState other (number lever n)
-kind Press = is 8 EngagePress other nothing
-kind (PositionReport x) = is 9 ByState report (position x)
-kind (Length n) = is 10 ByState other (number trainLength n)
-kind Load = is 11 ByState load nothing
-kind (Skip t) = is 12 ByState (skip t true) nothing
-kind (Revoke t) = is 13 ByState (skip t false) nothing
+kind PowerOn = is 1 (bare PowerOn) SwitchOn other nothing
+kind Configured = is 2 (bare Configured) Configure other nothing
+kind PowerOff = is 3 (bare PowerOff) SwitchOff off nothing
+kind Fault = is 4 (bare Fault) Fail other nothing
+kind (Reports n) = is 5 (one (range 1 0 31) Reports) ByState other (number reports n)
+kind (Mode n) = is 6 (one (range 1 0 1) Mode) ByState other (number mode n)
+kind (Lever n) = is 7 (one (range 1 0 2) Lever) ByState other (number lever n)
+kind Press = is 8 (bare Press) EngagePress other nothing
+kind (PositionReport x) = is 9 positionContent ByState report (position x)
+kind (Length n) = is 10 (one (range 4 1 100000) Length) ByState other (number trainLength n)
+kind Load = is 11 (bare Load) ByState load nothing
+kind (Skip t) = is 12 (one (free 4) Skip) ByState (skip t true) nothing
+kind (Revoke t) = is 13 (one (free 4) Revoke) ByState (skip t false) nothing
+
+-- each kind once, at some value: its number and its content do not depend on that
+abbrev pub kinds : List Event
+kinds =
+    PowerOn ∷ Configured ∷ PowerOff ∷ Fault ∷ Reports 0 ∷ Mode 0 ∷ Lever 0 ∷ Press ∷ PositionReport freshPosition ∷ Length 0 ∷ Load ∷ Skip 0 ∷ Revoke 0
+    ∷ []
 
 abbrev pub kindOf : Event → ℕ
 kindOf e = kind e .number

@@ -1,2 +1,4 @@
+pub mod Content
 pub mod Kinds
 pub mod Events
+pub mod View

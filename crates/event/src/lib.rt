@@ -1,13 +1,15 @@
 // Events: one byte kind and what it carries, read and checked (1, 2).
+use engine_value::MAX_NIDC;
 use engine_value::Position;
-use wire::Field;
-use wire::Width;
-use wire::read_field;
+use engine_value::UNDEFINED;
+use wire::be8;
+use wire::be16;
+use wire::be32;
 ghost use mathlib.Core.Path.{_≡_};
-ghost use Rattle.wire.specs.Parse.{bytes, give};
-ghost use Rattle.engine_value.specs.Engine.{max4};
+ghost use Rattle.event.specs.Content.{bare};
 ghost use Rattle.event.specs.Kinds.{kindOf, rowOf};
-ghost use Rattle.event.specs.Events.{carries, numbered, positioned, carried, eventOf, eventView, numberView};
+ghost use Rattle.event.specs.Events.{eventWith, eventOfKind, eventOf};
+ghost use Rattle.event.specs.View.{eventView};
 
 pub enum Event {
     PowerOn,
@@ -41,113 +43,113 @@ pub enum EventRead {
     Refused(u8),
 }
 
-// The number that an event carries, or the number that refuses it.
-enum NumberRead {
-    Value(u32),
-    Refused(u8),
-}
-
 // An event that carries nothing.
 fn read_plain(s: &[u8], e: Event) -> EventRead
-    ensures { λ r. ⌜ eventView r ≡ carries 0 (give e) (now (s .entry)) ⌝ }
+    ensures { λ r. ⌜ eventView r ≡ eventWith (bare e) (now (s .entry)) ⌝ }
 {
-    if s.len() == 0 {
+    if s.len() == 1 {
         EventRead::Event(e)
     } else {
         EventRead::Refused(1)
     }
 }
 
-// A number that fills its k bytes.
-fn read_number(s: &[u8], k: usize, w: Width, low: u32, high: u32) -> NumberRead
-    ensures { λ r. ⌜ numberView r ≡ carried k (bytes w) low high (now (s .entry)) ⌝ }
-{
-    if s.len() != k {
-        return NumberRead::Refused(1);
-    }
-    let Field::Value(n, _) = read_field(s, 0, w, low, high) else {
-        return NumberRead::Refused(2);
-    };
-    NumberRead::Value(n)
-}
-
 fn read_reports(s: &[u8]) -> EventRead
-    ensures { λ r. ⌜ eventView r ≡ carries 1 (numbered Event.Reports 1 0 31) (now (s .entry)) ⌝ }
+    ensures { λ r. ⌜ eventView r ≡ eventOfKind 5 (now (s .entry)) ⌝ }
 {
-    match read_number(s, 1, Width::One, 0, 31) {
-        NumberRead::Value(n) => EventRead::Event(Event::Reports(n as u8)),
-        NumberRead::Refused(k) => EventRead::Refused(k),
+    if s.len() != 2 {
+        return EventRead::Refused(1);
     }
+    let n = be8(s, 1);
+    if 31 < n {
+        return EventRead::Refused(2);
+    }
+    EventRead::Event(Event::Reports(n))
 }
 
 fn read_mode(s: &[u8]) -> EventRead
-    ensures { λ r. ⌜ eventView r ≡ carries 1 (numbered Event.Mode 1 0 1) (now (s .entry)) ⌝ }
+    ensures { λ r. ⌜ eventView r ≡ eventOfKind 6 (now (s .entry)) ⌝ }
 {
-    match read_number(s, 1, Width::One, 0, 1) {
-        NumberRead::Value(n) => EventRead::Event(Event::Mode(n as u8)),
-        NumberRead::Refused(k) => EventRead::Refused(k),
+    if s.len() != 2 {
+        return EventRead::Refused(1);
     }
+    let n = be8(s, 1);
+    if 1 < n {
+        return EventRead::Refused(2);
+    }
+    EventRead::Event(Event::Mode(n))
 }
 
 fn read_lever(s: &[u8]) -> EventRead
-    ensures { λ r. ⌜ eventView r ≡ carries 1 (numbered Event.Lever 1 0 2) (now (s .entry)) ⌝ }
+    ensures { λ r. ⌜ eventView r ≡ eventOfKind 7 (now (s .entry)) ⌝ }
 {
-    match read_number(s, 1, Width::One, 0, 2) {
-        NumberRead::Value(n) => EventRead::Event(Event::Lever(n as u8)),
-        NumberRead::Refused(k) => EventRead::Refused(k),
+    if s.len() != 2 {
+        return EventRead::Refused(1);
     }
+    let n = be8(s, 1);
+    if 2 < n {
+        return EventRead::Refused(2);
+    }
+    EventRead::Event(Event::Lever(n))
 }
 
 fn read_length(s: &[u8]) -> EventRead
-    ensures { λ r. ⌜ eventView r ≡ carries 4 (numbered Event.Length 4 1 100000) (now (s .entry)) ⌝ }
+    ensures { λ r. ⌜ eventView r ≡ eventOfKind 10 (now (s .entry)) ⌝ }
 {
-    match read_number(s, 4, Width::Four, 1, 100000) {
-        NumberRead::Value(n) => EventRead::Event(Event::Length(n)),
-        NumberRead::Refused(k) => EventRead::Refused(k),
+    if s.len() != 5 {
+        return EventRead::Refused(1);
     }
+    let n = be32(s, 1);
+    if n < 1 {
+        return EventRead::Refused(2);
+    }
+    if 100000 < n {
+        return EventRead::Refused(2);
+    }
+    EventRead::Event(Event::Length(n))
 }
 
 fn read_skip(s: &[u8]) -> EventRead
-    ensures { λ r. ⌜ eventView r ≡ carries 4 (numbered Event.Skip 4 0 max4) (now (s .entry)) ⌝ }
+    ensures { λ r. ⌜ eventView r ≡ eventOfKind 12 (now (s .entry)) ⌝ }
 {
-    match read_number(s, 4, Width::Four, 0, 4294967295) {
-        NumberRead::Value(n) => EventRead::Event(Event::Skip(n)),
-        NumberRead::Refused(k) => EventRead::Refused(k),
+    if s.len() != 5 {
+        return EventRead::Refused(1);
     }
+    let n = be32(s, 1);
+    EventRead::Event(Event::Skip(n))
 }
 
 fn read_revoke(s: &[u8]) -> EventRead
-    ensures { λ r. ⌜ eventView r ≡ carries 4 (numbered Event.Revoke 4 0 max4) (now (s .entry)) ⌝ }
+    ensures { λ r. ⌜ eventView r ≡ eventOfKind 13 (now (s .entry)) ⌝ }
 {
-    match read_number(s, 4, Width::Four, 0, 4294967295) {
-        NumberRead::Value(n) => EventRead::Event(Event::Revoke(n)),
-        NumberRead::Refused(k) => EventRead::Refused(k),
+    if s.len() != 5 {
+        return EventRead::Refused(1);
     }
+    let n = be32(s, 1);
+    EventRead::Event(Event::Revoke(n))
 }
 
 fn read_report(s: &[u8]) -> EventRead
-    ensures { λ r. ⌜ eventView r ≡ carries 12 positioned (now (s .entry)) ⌝ }
+    ensures { λ r. ⌜ eventView r ≡ eventOfKind 9 (now (s .entry)) ⌝ }
 {
-    if s.len() != 12 {
+    if s.len() != 13 {
         return EventRead::Refused(1);
     }
-    let Field::Value(nidc, a) = read_field(s, 0, Width::Two, 0, 1023) else {
+    let nidc = be16(s, 1);
+    let nidsp = be32(s, 3);
+    let offset = be32(s, 7);
+    let speed = be16(s, 11);
+    if MAX_NIDC < nidc as u32 {
         return EventRead::Refused(2);
-    };
-    let Field::Value(nidsp, b) = read_field(s, a, Width::Four, 0, 4294967295) else {
+    }
+    if UNDEFINED < offset {
         return EventRead::Refused(2);
-    };
-    let Field::Value(offset, c) = read_field(s, b, Width::Four, 0, 16777215) else {
-        return EventRead::Refused(2);
-    };
-    let Field::Value(speed, _) = read_field(s, c, Width::Two, 0, 65535) else {
-        return EventRead::Refused(2);
-    };
+    }
     EventRead::Event(Event::PositionReport(Position {
-        nidc: nidc as u16,
+        nidc: nidc,
         nidsp: nidsp,
         offset: offset,
-        speed: speed as u16,
+        speed: speed,
     }))
 }
 
@@ -159,21 +161,20 @@ pub fn read_event(s: &[u8]) -> EventRead
         return EventRead::Refused(1);
     }
     let kind = s[0];
-    let rest = &s[1..];
     match kind {
-        1 => read_plain(rest, Event::PowerOn),
-        2 => read_plain(rest, Event::Configured),
-        3 => read_plain(rest, Event::PowerOff),
-        4 => read_plain(rest, Event::Fault),
-        5 => read_reports(rest),
-        6 => read_mode(rest),
-        7 => read_lever(rest),
-        8 => read_plain(rest, Event::Press),
-        9 => read_report(rest),
-        10 => read_length(rest),
-        11 => read_plain(rest, Event::Load),
-        12 => read_skip(rest),
-        13 => read_revoke(rest),
+        1 => read_plain(s, Event::PowerOn),
+        2 => read_plain(s, Event::Configured),
+        3 => read_plain(s, Event::PowerOff),
+        4 => read_plain(s, Event::Fault),
+        5 => read_reports(s),
+        6 => read_mode(s),
+        7 => read_lever(s),
+        8 => read_plain(s, Event::Press),
+        9 => read_report(s),
+        10 => read_length(s),
+        11 => read_plain(s, Event::Load),
+        12 => read_skip(s),
+        13 => read_revoke(s),
         0 | 14..=255 => EventRead::Refused(1),
     }
 }

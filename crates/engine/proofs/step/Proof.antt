@@ -1,6 +1,6 @@
 use denote.Ref.{now}
 use mathlib.Core.Path.{sym, ap, _∙_}
-use Rattle.event.specs.Events.{eventView}
+use Rattle.event.specs.View.{eventView}
 use Rattle.call.specs.Call.{stepOf}
 use Rattle.engine.specs.View.{call}
 use Rattle.engine.proofs.Rows.{rows-read, rows-unread, steps-refused, steps-by}

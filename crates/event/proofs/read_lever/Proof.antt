@@ -1,31 +1,26 @@
-use denote.Ref.{now}
-use mathlib.Core.Path.{_∙_, sym, ap}
 use native.Mathlib.Omega.{arith}
-use Rattle.event.specs.Events.{numberView}
+use Rattle.event.specs.Content.{range, one}
+use Rattle.event.specs.Events.{contentAmong, eventOfKind}
 use Rattle.event.specs.declared.Event.the-variants.{Lever}
-use Rattle.event.proofs.Carried.{carries-number, carried-most}
+use Rattle.event.proofs.ContentLaws.{wrong-length, too-high, within}
 use borrow.Author.Needs.{needs}
 use Rattle.event.proofs.read_lever.Statement.{statement}
 use Rattle.event.proofs.read_lever.Tie as tie
 
-read-number-requires : tie.Need-read-number-requires
-read-number-requires c κs = search needs
-
-enum-known-n : tie.Need-enum-known-n
-enum-known-n c = search needs
-
-cast-t7 : tie.Need-cast-t7
-cast-t7 c = omega (arith, carried-most 1 1 0 2 (now (c .before .before .before .before .before .args .s)) _ (sym (c .before .before .before .read-number .ensures) ∙ ap numberView (c .before .n .given .1)))
-
-enum-known-k : tie.Need-enum-known-k
-enum-known-k c = search needs
-
 returns : tie.Need-returns
-returns c = sym (carries-number Lever 1 1 0 2 (now (c .before .before .before .before .before .args .s)) _ (sym (c .before .before .before .read-number .ensures) ∙ ap numberView (c .before .n .given .1)))
+unfolding eventOfKind contentAmong
+returns c = wrong-length (one (range 1 0 2) Lever) _ (c .if1 .taken)
+
+be8-requires : tie.Need-be8-requires
+be8-requires c κs = search needs
 
 returns-2 : tie.Need-returns-2
-returns-2 c = sym (carries-number Lever 1 1 0 2 (now (c .before .before .before .before .before .args .s)) _ (sym (c .before .before .before .read-number .ensures) ∙ ap numberView (c .before .k .given .1)))
+unfolding eventOfKind contentAmong
+returns-2 c = too-high (range 1 0 2) Lever _ _ (c .before .be8 .ensures) (c .before .before .if1 .left) (c .if2 .taken)
+
+returns-3 : tie.Need-returns-3
+unfolding eventOfKind contentAmong
+returns-3 c = within (range 1 0 2) Lever _ _ (c .before .be8 .ensures) (c .before .before .if1 .left) (omega arith) (omega (arith, c .if2 .left))
 
 pub read-lever-spec : {M : Type 1} → statement M
-read-lever-spec =
-    tie.close (tie.spec read-number-requires enum-known-n cast-t7 enum-known-k returns returns-2)
+read-lever-spec = tie.close (tie.spec returns be8-requires returns-2 returns-3)
