@@ -3,82 +3,70 @@
 //! Each step goes through the proved engine by its C interface and is compared with the model; shared beginnings are
 //! stepped once.
 
-#[path = "../tests/calls.rs"]
-mod calls;
-#[path = "../tests/host.rs"]
-mod host;
-mod language;
-#[path = "../tests/model.rs"]
-mod model;
-#[path = "../tests/pair.rs"]
-mod pair;
-mod tally;
-#[path = "../tests/values.rs"]
-mod values;
-#[path = "../tests/words.rs"]
-mod words;
-
-use calls::split_packets;
-use language::{Scenario, Step};
-use model::packets::{Content, Packet};
-use pair::{Memory, Pair};
+use model::packets::{split_packets, Content, Packet};
+use model::values::Journey;
+use proved::pair::{Memory, Pair};
 use std::hash::{DefaultHasher, Hash, Hasher};
-use tally::{Outcome, Tally, MOST};
+use tools::language::{Scenario, Step};
+use tools::outcomes::{Outcome, Outcomes, MOST};
 
-/// Where a ride stands: both engines, and what was recorded since the fixed beginning.
+/// How far an order has come: both engines, and what was recorded since the fixed beginning.
 #[derive(Clone)]
-struct Ride {
+struct Run {
     pair: Pair,
     /// A hash of all packets in their order.
     recording: u64,
     outcome: Outcome,
 }
 
-struct Rides<'a> {
+struct Orders<'a> {
     events: &'a [Step],
     points: Vec<u32>,
     memory: Memory,
     path: Vec<usize>,
-    tally: Tally,
+    outcomes: Outcomes,
 }
 
-impl Rides<'_> {
+impl Orders<'_> {
     /// One step of both engines. An error says where they differ.
-    fn step(&mut self, ride: &mut Ride, step: &Step) -> Result<Result<(), u8>, String> {
-        let answer = ride.pair.call(&step.call, &mut self.memory);
+    fn step(&mut self, run: &mut Run, step: &Step) -> Result<Result<(), u8>, String> {
+        let answer = run.pair.call(&step.call, &mut self.memory);
         let answer = answer.map_err(|error| format!("{} at '{}': {error}", self.path_in_words(), step.text))?;
-        let Ok(told) = answer else { return Ok(answer.map(|_| ())) };
-        let packets = &self.memory.host[..told.bytes];
+        let answer = match answer {
+            Ok(answer) => answer,
+            Err(number) => return Ok(Err(number)),
+        };
+        let packets = &self.memory.proved[..answer.bytes];
         if !packets.is_empty() {
             let mut hasher = DefaultHasher::new();
-            (ride.recording, packets).hash(&mut hasher);
-            ride.recording = hasher.finish();
+            (run.recording, packets).hash(&mut hasher);
+            run.recording = hasher.finish();
         }
         for packet in split_packets(packets) {
             if let Ok(Packet { content: Content::Point { nidtp, status, .. }, .. }) = Packet::read(packet) {
                 let point = self.points.iter().position(|&other| other == nidtp);
-                point.into_iter().for_each(|point| ride.outcome.note(point, status));
+                point.into_iter().for_each(|point| run.outcome.note(point, status));
             }
         }
         Ok(Ok(()))
     }
 
     /// Every order of the events in `left`, a bit each.
-    fn go(&mut self, ride: &Ride, left: u16) -> Result<(), String> {
+    fn try_all(&mut self, run: &Run, left: u16) -> Result<(), String> {
         if left == 0 {
-            if !ride.pair.host.shows(&ride.pair.model) {
+            if !run.pair.proved.shows(&run.pair.model) {
                 return Err(format!("{}: the engines differ at the end", self.path_in_words()));
             }
-            self.tally.end(&self.path, ride.pair.model.now.state, ride.recording, ride.outcome);
+            self.outcomes.end(&self.path, run.pair.model.now.state, run.recording, run.outcome);
             return Ok(());
         }
         let events = self.events;
         for k in (0..events.len()).filter(|k| left >> k & 1 == 1) {
-            let mut next = ride.clone();
+            let mut next = run.clone();
             let answer = self.step(&mut next, &events[k])?;
             self.path.push(k);
-            self.tally.step(&self.path, answer, ride.outcome, next.outcome);
-            self.go(&next, left & !(1 << k))?;
+            self.outcomes.step(&self.path, answer, run.outcome, next.outcome);
+            self.try_all(&next, left & !(1 << k))?;
             self.path.pop();
         }
         Ok(())
@@ -93,7 +81,7 @@ impl Rides<'_> {
 /// The points of these names, of all journeys that are loaded; with no names all of them.
 fn points_of(scenario: &Scenario, names: &[String]) -> Result<Vec<u32>, String> {
     let mut points: Vec<u32> = Vec::new();
-    for journey in scenario.steps.iter().filter_map(|step| values::Journey::read(&step.call.journey)) {
+    for journey in scenario.steps.iter().filter_map(|step| Journey::read(&step.call.journey)) {
         points.extend(journey.points.iter().map(|point| point.nidtp));
     }
     points.sort();
@@ -123,22 +111,22 @@ fn run(file: &str) -> Result<(), String> {
     let (scenario, line, names) = read(&text).map_err(|error| format!("{file}, {error}"))?;
     let (beginning, events) = scenario.steps.split_at(scenario.steps.partition_point(|step| step.line < line));
     if events.is_empty() || events.len() > MOST {
-        return Err(format!("{file}: {} events below 'orders'; 1 to {MOST} can be ridden", events.len()));
+        return Err(format!("{file}: {} events below 'orders'; 1 to {MOST} can be ordered", events.len()));
     }
     let points = points_of(&scenario, &names).map_err(|error| format!("{file}, line {line}: {error}"))?;
-    let tally = Tally::new(events.len(), points.len());
-    let mut rides = Rides { events, points, memory: Memory::new(), path: Vec::new(), tally };
-    let mut start = Ride { pair: Pair::fresh(), recording: 0, outcome: Outcome::default() };
+    let outcomes = Outcomes::new(events.len(), points.len());
+    let mut orders = Orders { events, points, memory: Memory::new(), path: Vec::new(), outcomes };
+    let mut start = Run { pair: Pair::fresh(), recording: 0, outcome: Outcome::default() };
     for step in beginning {
-        let answer = rides.step(&mut start, step)?;
+        let answer = orders.step(&mut start, step)?;
         answer
             .map_err(|number| format!("line {}: '{}' of the beginning is refused by {number}", step.line, step.text))?;
     }
-    let start = Ride { recording: 0, outcome: Outcome::default(), ..start };
-    rides.go(&start, ((1u32 << events.len()) - 1) as u16)?;
-    let names: Vec<String> = rides.points.iter().map(|&nidtp| scenario.point_name(nidtp)).collect();
+    let start = Run { recording: 0, outcome: Outcome::default(), ..start };
+    orders.try_all(&start, ((1u32 << events.len()) - 1) as u16)?;
+    let names: Vec<String> = orders.points.iter().map(|&nidtp| scenario.point_name(nidtp)).collect();
     let events: Vec<&str> = events.iter().map(|step| step.text.as_str()).collect();
-    print!("{}", rides.tally.in_words(&events, &names));
+    print!("{}", orders.outcomes.in_words(&events, &names));
     Ok(())
 }
 

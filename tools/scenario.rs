@@ -1,18 +1,10 @@
 //! `scenario encode FILE`: the events of a scenario as the player's input.
 //! `scenario explain FILE`: the player's lines, from standard input, in words beside the scenario's events.
 
-#[path = "../tests/calls.rs"]
-mod calls;
-mod language;
-#[path = "../tests/model.rs"]
-mod model;
-#[path = "../tests/values.rs"]
-mod values;
-#[path = "../tests/words.rs"]
-mod words;
-
-use language::Scenario;
+use model::calls::{write_calls, Call};
+use model::words::{bytes_of_hex, packet_in_words, STATES};
 use std::io::{Read, Write};
+use tools::language::Scenario;
 
 /// The table of numbers, so far as the player answers them.
 const NUMBERS: [&str; 16] = [
@@ -41,15 +33,10 @@ fn answer_in_words(line: &str) -> String {
         (Some(&"R"), Some(refused @ 1..=16)) => format!("refused by {refused}: {}", NUMBERS[refused - 1]),
         (Some(&"A"), Some(state @ 0..=7)) => {
             let request = if number(2) == Some(1) { "AD requested" } else { "AD not requested" };
-            format!("{} ({request})", words::STATES[state])
+            format!("{} ({request})", STATES[state])
         }
         _ => line.to_string(),
     }
-}
-
-fn packet_bytes(line: &str) -> Vec<u8> {
-    let digits: Vec<u32> = line.chars().filter_map(|c| c.to_digit(16)).collect();
-    digits.chunks_exact(2).map(|pair| (16 * pair[0] + pair[1]) as u8).collect()
 }
 
 fn explain(scenario: &Scenario, lines: &str) -> String {
@@ -60,7 +47,8 @@ fn explain(scenario: &Scenario, lines: &str) -> String {
             let event = steps.next().map_or("?".into(), |step| format!("line {}: {}", step.line, step.text));
             text += &format!("\n{event}\n    {}\n", answer_in_words(line));
         } else {
-            let packet = words::packet_in_words(&packet_bytes(line), &|nidtp| scenario.point_name(nidtp));
+            let bytes = bytes_of_hex(line).unwrap_or_default();
+            let packet = packet_in_words(&bytes, &|nidtp| scenario.point_name(nidtp));
             text += &format!("    {line}\n        {packet}\n");
         }
     }
@@ -75,8 +63,8 @@ fn run() -> Result<(), String> {
     let scenario = Scenario::read(&text).map_err(|error| format!("{file}, {error}"))?;
     let output = match command.as_str() {
         "encode" => {
-            let calls: Vec<calls::Call> = scenario.steps.iter().map(|step| step.call.clone()).collect();
-            calls::write_calls(&calls)
+            let calls: Vec<Call> = scenario.steps.iter().map(|step| step.call.clone()).collect();
+            write_calls(&calls)
         }
         "explain" => {
             let mut lines = String::new();

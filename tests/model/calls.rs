@@ -1,0 +1,145 @@
+//! The player's input as a list of calls, and the player's lines for an answer.
+
+use crate::engine::{Answer, Engine};
+use crate::numbers::Numbers;
+use crate::packets::split_packets;
+use crate::words::hex;
+
+/// Bytes of output memory that the player lends.
+pub const MEMORY: usize = 4096;
+
+#[derive(Clone, PartialEq, Eq, Debug, Default)]
+pub struct Call {
+    pub event: Vec<u8>,
+    /// Lent after kind 11 only.
+    pub journey: Vec<u8>,
+    pub book: Vec<u8>,
+}
+
+impl Call {
+    /// An event as it stands.
+    pub fn of(event: Vec<u8>) -> Call {
+        Call { event, ..Call::default() }
+    }
+
+    pub fn power_on() -> Call {
+        Call::of(vec![1])
+    }
+
+    pub fn configured() -> Call {
+        Call::of(vec![2])
+    }
+
+    pub fn power_off() -> Call {
+        Call::of(vec![3])
+    }
+
+    pub fn fault() -> Call {
+        Call::of(vec![4])
+    }
+
+    pub fn reports(reports: u8) -> Call {
+        Call::of(vec![5, reports])
+    }
+
+    pub fn mode(mode: u8) -> Call {
+        Call::of(vec![6, mode])
+    }
+
+    pub fn lever(lever: u8) -> Call {
+        Call::of(vec![7, lever])
+    }
+
+    pub fn press() -> Call {
+        Call::of(vec![8])
+    }
+
+    pub fn position(nidc: u16, nidsp: u32, offset: u32, speed: u16) -> Call {
+        let mut event = vec![9];
+        event.extend(nidc.to_be_bytes());
+        event.extend(nidsp.to_be_bytes());
+        event.extend(offset.to_be_bytes());
+        event.extend(speed.to_be_bytes());
+        Call::of(event)
+    }
+
+    pub fn length(length: u32) -> Call {
+        Call::with_number(10, length)
+    }
+
+    pub fn load(journey: Vec<u8>, book: Vec<u8>) -> Call {
+        Call { event: vec![11], journey, book }
+    }
+
+    pub fn skip(nidtp: u32) -> Call {
+        Call::with_number(12, nidtp)
+    }
+
+    pub fn revoke(nidtp: u32) -> Call {
+        Call::with_number(13, nidtp)
+    }
+
+    fn with_number(kind: u8, value: u32) -> Call {
+        Call::of([&[kind][..], &value.to_be_bytes()].concat())
+    }
+}
+
+fn read_bytes(from: &mut Numbers) -> Option<Vec<u8>> {
+    let length = from.u16()?;
+    Some(from.take(usize::from(length))?.to_vec())
+}
+
+/// `None` where the input is cut short.
+fn read_call(from: &mut Numbers) -> Option<Call> {
+    let event = read_bytes(from)?;
+    if event.first() != Some(&11) {
+        return Some(Call::of(event));
+    }
+    Some(Call { event, journey: read_bytes(from)?, book: read_bytes(from)? })
+}
+
+pub fn read_calls(input: &[u8]) -> Vec<Call> {
+    let mut from = Numbers(input);
+    std::iter::from_fn(|| read_call(&mut from)).collect()
+}
+
+fn write_call(call: &Call, to: &mut Vec<u8>) {
+    let mut put = |bytes: &[u8]| {
+        to.extend((bytes.len() as u16).to_be_bytes());
+        to.extend(bytes);
+    };
+    put(&call.event);
+    if call.event.first() == Some(&11) {
+        put(&call.journey);
+        put(&call.book);
+    }
+}
+
+pub fn write_calls(calls: &[Call]) -> Vec<u8> {
+    let mut bytes = Vec::new();
+    calls.iter().for_each(|call| write_call(call, &mut bytes));
+    bytes
+}
+
+/// The player's lines for one call.
+pub fn write_lines(answer: Result<Answer, u8>, out: &[u8], text: &mut String) {
+    match answer {
+        Err(number) => *text += &format!("R {number}\n"),
+        Ok(Answer { state, request, bytes }) => {
+            *text += &format!("A {state} {} {bytes}\n", u8::from(request));
+            split_packets(&out[..bytes]).iter().for_each(|packet| *text += &format!("{}\n", hex(packet)));
+        }
+    }
+}
+
+/// What the player prints for these calls, from a fresh engine.
+pub fn play(calls: &[Call]) -> String {
+    let mut engine = Engine::fresh();
+    let mut out = [0; MEMORY];
+    let mut text = String::new();
+    for call in calls {
+        let answer = engine.call(call, &mut out);
+        write_lines(answer, &out, &mut text);
+    }
+    text
+}

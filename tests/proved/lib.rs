@@ -1,0 +1,8 @@
+//! The proved engine through its C interface, as `rt staticlib host` builds it, beside the model.
+
+pub mod engine;
+#[path = "../../host/hollwern.rs"]
+pub mod hollwern;
+pub mod measure;
+pub mod pair;
+pub mod reading;

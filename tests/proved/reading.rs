@@ -1,0 +1,57 @@
+//! The proved packet reader beside the model's: every string of bytes must be read or refused alike.
+
+use crate::hollwern::{read, Header, PacketFields};
+use model::packets::{self, split_packets, Content, Packet};
+
+/// How many strings were read, and how many refused by 17, 18 and 19.
+pub type Readings = [u64; 4];
+
+/// The model's reading as the C interface must answer it.
+fn expected(bytes: &[u8]) -> PacketFields {
+    let packet = match Packet::read(bytes) {
+        Ok(packet) => packet,
+        Err(number) => return PacketFields { number, ..PacketFields::default() },
+    };
+    let packets::Header { nidc, nidsp, offset, speed, operational } = packet.header;
+    let header = Header { nidc, nidsp, offset, speed, operational };
+    let common = PacketFields { accepted: true, size: packet.size(), header, ..PacketFields::default() };
+    match packet.content {
+        Content::Point { nidc, nidtp, eoj, alignment, status, stopping } => {
+            PacketFields { kind: 62, nidc, nidtp, qeoj: eoj, alignment, status, stopping, ..common }
+        }
+        Content::Load { nidc, atots, date, seconds, counter, status } => {
+            PacketFields { kind: 65, nidc, atots, date, seconds, counter, status, ..common }
+        }
+        Content::State { state, conditions } => PacketFields { kind: 68, state, conditions, ..common },
+    }
+}
+
+/// The packet cut to every length and whole, longer by a byte, and with each of its bytes raised by `step`.
+/// Each string takes just its bytes, so that a memory checker sees its ends.
+fn strings(packet: &[u8], step: u8) -> Vec<Box<[u8]>> {
+    let cut = (0..=packet.len()).map(|n| packet[..n].into());
+    let longer = [packet, &[step]].concat().into();
+    let changed = (0..packet.len()).map(|k| {
+        let mut bytes: Box<[u8]> = packet.into();
+        bytes[k] = bytes[k].wrapping_add(step);
+        bytes
+    });
+    cut.chain([longer]).chain(changed).collect()
+}
+
+/// The packets that a call wrote and the strings made of each. An error says what differs.
+pub fn try_packets(written: &[u8], step: u8, readings: &mut Readings) -> Result<(), String> {
+    for packet in split_packets(written) {
+        if !read(packet).accepted {
+            return Err(format!("a written packet is not read: {packet:02X?}"));
+        }
+        for bytes in strings(packet, step) {
+            let (expected, found) = (expected(&bytes), read(&bytes));
+            if found != expected {
+                return Err(format!("{bytes:02X?}: the model reads {expected:?}, the proved reader {found:?}"));
+            }
+            readings[usize::from(found.number.saturating_sub(16))] += 1;
+        }
+    }
+    Ok(())
+}
