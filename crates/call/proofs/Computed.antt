@@ -17,12 +17,13 @@ use Rattle.control.specs.Conditions.{firstAhead, countsIn, counts, inZones, out
 use Rattle.control.specs.Numbers.{powerRows, stateRow}
 use Rattle.control.specs.States.{settled}
 use Rattle.control.specs.Settled.{controlAfter}
-use Rattle.packets.specs.Packets.{headerBytes, bytes62, bytes65, bytes68}
+use Rattle.layout.specs.Layout.{bytes}
+use Rattle.packets.specs.Packets.{valueBytes}
 use Rattle.engine_value.specs.declared.Engine.{Engine}
 use Rattle.call.specs.Packets.{timingPoint, jpReceived, atoStatus, statusDue, packetsOf}
 use Rattle.call.specs.Effect.{beyondIn, offsetBeyond, positionEffect, loadEffect, skipEffect, effect}
 use Rattle.call.specs.Call.{Call, Outcome, conditionsIn, judged, outcomeOf, stepOf}
 
 unfoldable pub computed : Engine → Call → Outcome
-unfolding number bytesOf field optional many counted listed eventWith contentAmong eventOfKind eventOf bookPoint zoneRecord segmentRecord records bookOf nameRecord pointMap pointRecord headMap headRecord journeyRecord segmentOf segmentsFrom pointOf pointsFrom mismatched disordered checked journeyOf routeOf loadOf segmentFrom frontIn front beyond atStop targetFrom target looked reported passings reportChanges stopFrom firstAhead countsIn counts inZones outsideIn conditions powerRows stateRow settled controlAfter headerBytes bytes62 bytes65 bytes68 timingPoint jpReceived atoStatus statusDue packetsOf beyondIn offsetBeyond positionEffect loadEffect skipEffect effect conditionsIn judged outcomeOf stepOf
+unfolding number bytesOf field optional many counted listed eventWith contentAmong eventOfKind eventOf bookPoint zoneRecord segmentRecord records bookOf nameRecord pointMap pointRecord headMap headRecord journeyRecord segmentOf segmentsFrom pointOf pointsFrom mismatched disordered checked journeyOf routeOf loadOf segmentFrom frontIn front beyond atStop targetFrom target looked reported passings reportChanges stopFrom firstAhead countsIn counts inZones outsideIn conditions powerRows stateRow settled controlAfter bytes valueBytes timingPoint jpReceived atoStatus statusDue packetsOf beyondIn offsetBeyond positionEffect loadEffect skipEffect effect conditionsIn judged outcomeOf stepOf
 computed e c = stepOf e c

@@ -17,7 +17,7 @@ use Rattle.engine_value.specs.declared.Engine.{Engine}
 use Rattle.event.specs.declared.Event.{Event}
 use Rattle.event.specs.Kinds.{Role, off, load, report, other, skip, roleOf}
 use Rattle.packets.specs.Packets.{packetBytes, joined}
-use Rattle.packets.proofs.WriterLaws.{length-packetBytes, length-joined, length-one}
+use Rattle.packets.proofs.PacketLaws.{length-packetBytes, length-joined, length-one}
 use Rattle.journey.specs.declared.Head.{Head}
 use Rattle.route.specs.Route.{LoadValue, loadOf}
 use Rattle.timing.specs.Position.{pointCount, placed, known}

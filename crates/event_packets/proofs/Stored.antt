@@ -15,8 +15,8 @@ use Rattle.engine_value.specs.declared.Progress.{Progress}
 use Rattle.engine_value.specs.declared.Position.{Position}
 use Rattle.engine_value.specs.declared.Engine.{Engine}
 use Rattle.packets.specs.Packets.{packetBytes, joined, sizeOf}
-use Rattle.packets.proofs.WriterLaws.{length-packetBytes, joined-append, length-one}
-use Rattle.packets.proofs.Stores.{sets-more}
+use Rattle.packets.proofs.PacketLaws.{length-packetBytes, joined-append, length-one}
+use Rattle.packet_writer.proofs.Stores.{sets-more}
 use Rattle.packets.specs.declared.Header.{Header}
 use Rattle.packets.specs.declared.Packet.{Packet}
 use Rattle.journey.specs.declared.Head.{Head}

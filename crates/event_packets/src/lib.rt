@@ -209,7 +209,7 @@ fn put_received(e: Engine, w: Writes, out: &mut [u8]) -> usize
         return 0;
     }
     let p = jp_received(e, w.head);
-    packets::put_packet(p, out, 0);
+    packet_writer::put_packet(p, out, 0);
     29
 }
 
@@ -221,7 +221,7 @@ fn put_first(e: Engine, c: Changes, out: &mut [u8], at: usize) -> usize
         return at;
     }
     let p = timing_point(e, c.index, c.status, c.after);
-    packets::put_packet(p, out, at);
+    packet_writer::put_packet(p, out, at);
     at + 25
 }
 
@@ -245,7 +245,7 @@ fn put_passings(e: Engine, from: u8, to: u8, out: &mut [u8], at: usize) -> usize
         let i = k as usize;
         let point = if i < 64 { points[i] } else { blank };
         let packet = timing_point_of(header, e.load, point, 0, after);
-        packets::put_packet(packet, out, p);
+        packet_writer::put_packet(packet, out, p);
         p += 25;
         k += 1;
     }
@@ -260,7 +260,7 @@ fn put_stopped(e: Engine, c: Changes, out: &mut [u8], at: usize) -> usize
         return at;
     }
     let p = timing_point(e, e.progress.next, 1, e.progress);
-    packets::put_packet(p, out, at);
+    packet_writer::put_packet(p, out, at);
     at + 25
 }
 
@@ -271,7 +271,7 @@ fn put_status(e: Engine, w: Writes, out: &mut [u8], at: usize)
         return;
     }
     let p = ato_status(e, w.conditions);
-    packets::put_packet(p, out, at);
+    packet_writer::put_packet(p, out, at);
 }
 
 // The packets of an event, from the front of the output memory on.

@@ -271,9 +271,9 @@ fn refused(n: u8) -> PacketFields
 pub extern "C" fn hollwern_read(bytes: &[u8]) -> PacketFields
     ensures { λ r. ⌜ r ≡ plainPacket (packetOf (now (bytes .entry))) ⌝ }
 {
-    let answer = packets::read_packet(bytes);
+    let answer = packet_reader::read_packet(bytes);
     match answer {
-        packets::PacketRead::Packet(p) => packet_fields(p),
-        packets::PacketRead::Refused(n) => refused(n),
+        packet_reader::PacketRead::Packet(p) => packet_fields(p),
+        packet_reader::PacketRead::Refused(n) => refused(n),
     }
 }

@@ -1,12 +1,12 @@
 // Trials of the packets' writer and reader, a line each: W and the count, or R and the number, and the memory in hexadecimal;
 // of a packet that was read its number and its fields in decimal, header first. `stdout` is worked out by hand from document 01.
+use packet_reader::PacketRead;
+use packet_writer::Written;
 use packets::AtoStatus;
 use packets::Header;
 use packets::JpReceived;
 use packets::Packet;
-use packets::PacketRead;
 use packets::TimingPoint;
-use packets::Written;
 
 // ---- printing
 
@@ -103,7 +103,7 @@ fn show_written(w: Written) {
 // The bytes, read.
 fn read(text: &[u8], s: &[u8]) {
     label(text);
-    match packets::read_packet(s) {
+    match packet_reader::read_packet(s) {
         PacketRead::Packet(p) => show_packet(p),
         PacketRead::Refused(n) => refused(n),
     }
@@ -113,7 +113,7 @@ fn read(text: &[u8], s: &[u8]) {
 // The packet, written into lent memory, and the memory afterwards.
 fn write(text: &[u8], p: Packet, memory: &mut [u8]) {
     label(text);
-    show_written(packets::write_packet(p, memory));
+    show_written(packet_writer::write_packet(p, memory));
     hexadecimal(memory);
     end_line();
 }
@@ -235,15 +235,15 @@ fn written() {
 // P7 behind the power on packet: 19 and 25 of 45 bytes, then one that stays; in 43 bytes the second is refused.
 fn appended() {
     let mut memory = [0xAAu8; 45];
-    packets::write_packet(power_on(), &mut memory);
+    packet_writer::write_packet(power_on(), &mut memory);
     label(b"P7 behind power on");
-    show_written(packets::append_packet(stopped(), &mut memory, 19));
+    show_written(packet_writer::append_packet(stopped(), &mut memory, 19));
     hexadecimal(&memory);
     end_line();
     let mut short = [0xAAu8; 43];
-    packets::write_packet(power_on(), &mut short);
+    packet_writer::write_packet(power_on(), &mut short);
     label(b"P7 with one byte less than it needs");
-    show_written(packets::append_packet(stopped(), &mut short, 19));
+    show_written(packet_writer::append_packet(stopped(), &mut short, 19));
     hexadecimal(&short);
     end_line();
 }

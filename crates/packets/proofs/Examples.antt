@@ -4,8 +4,9 @@ use mathlib.Core.Path.{_≡_, refl}
 use mathlib.Core.List.{List, [], _∷_}
 use Rattle.wire.specs.Numbers.{number, bytesOf}
 use Rattle.wire.specs.Judged.Judged.{accept}
+use Rattle.layout.specs.Layout.{bytes, valuesAt}
 use Rattle.packets.specs.declared.Packet.{Packet}
-use Rattle.packets.specs.Packets.{headerBytes, bytes62, bytes68, packetBytes, headerOf, values62, values68, sized, numbered, packetOf}
+use Rattle.packets.specs.Packets.{valueBytes, packetBytes, judgedPacket, packetOf}
 
 -- "Input 00 01 01 prints .. 4400000000000000FFFFFF0000FFFFFFFF0801": the fresh position, no journey, state CO, condition 7 alone
 abbrev pub powerOn : Packet
@@ -43,5 +44,5 @@ pub record Worked (p : Packet) (s : List ℕ) : Type 0 where
   pub reads : packetOf s ≡ accept p
 
 pub worked : Worked powerOn powerOnBytes × Worked stopped stoppedBytes
-unfolding headerBytes bytes62 bytes68 bytesOf number headerOf values62 values68 sized numbered packetOf
+unfolding valueBytes bytes bytesOf number valuesAt judgedPacket packetOf
 worked = (record { bytes = refl; reads = refl }, record { bytes = refl; reads = refl })

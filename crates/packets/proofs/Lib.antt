@@ -1,4 +1,3 @@
-pub mod WriterLaws
+pub mod PacketLaws
 pub mod RoundTrips
 pub mod Examples
-pub mod Stores

@@ -19,8 +19,12 @@ use Rattle.journey.specs.declared.Head.{Head}
 use Rattle.event.specs.Kinds.{Role, off, load, report, other, skip}
 use Rattle.route.specs.Route.{LoadValue}
 use Rattle.route.proofs.Ranges.{PointFits}
-use Rattle.packets.specs.Packets.{packetBytes, packetFits, headerFits, packetOf}
-use Rattle.packets.proofs.RoundTrips.{TypedHeader, Typed, read-written}
+use Rattle.layout.specs.Layout.{fits}
+use Rattle.layout.proofs.LayoutLaws.{Typed}
+use Rattle.packets.specs.Layouts.{headerLayout}
+use Rattle.packets.specs.View.{headerView}
+use Rattle.packets.specs.Packets.{packetBytes, packetFits, packetOf}
+use Rattle.packets.proofs.RoundTrips.{TypedPacket, read-written}
 use Rattle.packets.specs.declared.Packet.{Packet}
 use Rattle.timing.specs.Position.{point, pointCount, known}
 use Rattle.timing.specs.Standing.{standing}
@@ -48,16 +52,16 @@ all-append P (z ∷ a) b x y = (x .0, all-append P a b (x .1) y)
 
 -- in its ranges, and within its types
 abbrev pub Fits : Packet → Type 0
-Fits p = (packetFits p ≡ true) × Typed p
+Fits p = (packetFits p ≡ true) × TypedPacket p
 
 -- ---- one packet
 
 module _ (j : Route) (x : Position) (r : Ranged j x) where
-  header-fits : headerFits (header j x) ≡ true
+  header-fits : fits headerLayout (headerView (header j x)) ≡ true
   header-fits = rw (le-leb (x .nidc) 1023 (r .nidc), le-leb (x .offset) 16777215 (r .offset))
 
-  header-typed : TypedHeader (header j x)
-  header-typed = record { nidsp = omega (arith, r .nidsp); speed = omega (arith, r .speed); operational = omega (arith, r .operational) }
+  header-typed : Typed headerLayout (headerView (header j x))
+  header-typed = (tt, (omega (arith, r .nidsp), (tt, (omega (arith, r .speed), (omega (arith, r .operational), tt)))))
 
   flag-most : (b : Bool) → flag b ≤ 1
   flag-most true = omega arith
@@ -65,10 +69,10 @@ module _ (j : Route) (x : Position) (r : Ranged j x) where
 
   -- "stopping data to 127, 0 unless status 1"
   stopping-fits : (s n : ℕ) → n ≤ 127
-      → (leb (if eqb s statusStopped then n else 0) 127 && (eqb s 1 || eqb (if eqb s statusStopped then n else 0) 0)) ≡ true
+      → (leb (if eqb s statusStopped then n else 0) 127 && true && (eqb s 1 || eqb (if eqb s statusStopped then n else 0) 0)) ≡ true
   stopping-fits s n h = go (eqb s 1)
     where
-      go : (b : Bool) → (leb (if b then n else 0) 127 && (b || eqb (if b then n else 0) 0)) ≡ true
+      go : (b : Bool) → (leb (if b then n else 0) 127 && true && (b || eqb (if b then n else 0) 0)) ≡ true
       go true = rw (le-leb n 127 h)
       go false = refl
 
@@ -78,14 +82,14 @@ module _ (j : Route) (x : Position) (r : Ranged j x) where
       let q = point j (c .index) in (
         rw (header-fits, le-leb (q .nidc) 1023 (p .nidc), le-leb _ 1 (flag-most (endAhead j (standing (c .after)))), le-leb (q .alignment) 2 (p .alignment), le-leb (c .status) 8 s)
             (stopping-fits (c .status) (q .stopping) (p .stopping)),
-        (header-typed, omega (arith, p .nidtp)),
+        (header-typed, (tt, (omega (arith, p .nidtp), (tt, (tt, tt))))),
       )
 
   fits-65 : (h : Head) → HeadFits h → Fits (jpReceived j x h)
   unfolding jpReceived
   fits-65 h p = (
     rw (header-fits, le-leb _ 1024 (country (known j x)), le-leb (h .atots) 16384 (p .atots), le-leb (h .date) 32767 (p .date)),
-    (header-typed, (omega (arith, p .seconds), omega (arith, p .counter))),
+    (header-typed, (tt, (tt, (tt, (omega (arith, p .seconds), (omega (arith, p .counter), (tt, tt))))))),
   )
     where
       country : (b : Bool) → (if b then x .nidc else 1024) ≤ 1024
@@ -94,7 +98,7 @@ module _ (j : Route) (x : Position) (r : Ranged j x) where
 
   fits-68 : (s c : ℕ) → s ≤ 7 → c ≤ 511 → Fits (atoStatus j x s c)
   unfolding atoStatus
-  fits-68 s c h k = (rw (header-fits, le-leb s 7 h, le-leb c 511 k), header-typed)
+  fits-68 s c h k = (rw (header-fits, le-leb s 7 h, le-leb c 511 k), (header-typed, (tt, tt)))
 
   -- ---- all of an event
 

@@ -13,8 +13,8 @@ use Rattle.wire.specs.Numbers.{if_then_else_}
 use Rattle.engine_value.specs.Engine.{Route, max2, max4, undefined}
 use Rattle.engine_value.specs.declared.Position.{Position}
 use Rattle.journey.specs.declared.Head.{Head}
-use Rattle.packets.specs.Packets.{bytes62, bytes65, bytes68, packetBytes, joined, sizeOf}
-use Rattle.packets.proofs.WriterLaws.{length-packetBytes}
+use Rattle.packets.specs.Packets.{valueBytes, packetBytes, joined, sizeOf}
+use Rattle.packets.proofs.PacketLaws.{length-packetBytes}
 use Rattle.packets.proofs.RoundTrips.{read-written}
 use Rattle.packets.specs.declared.Packet.{Packet}
 use Rattle.timing.specs.Changes.{Change, when}
@@ -26,7 +26,7 @@ use Rattle.whole_list.specs.WholeList.{bytesOfEach, StatusPacket}
 
 -- a packet's first byte tells its size
 size-first : (p : Packet) (rest : List ℕ) → sizeBy (getD (packetBytes p ++ rest) 0 0) ≡ length (packetBytes p)
-unfolding bytes62 bytes65 bytes68
+unfolding valueBytes
 size-first (Packet.TimingPoint p) rest = sym (length-packetBytes (Packet.TimingPoint p))
 size-first (Packet.JpReceived p) rest = sym (length-packetBytes (Packet.JpReceived p))
 size-first (Packet.AtoStatus p) rest = sym (length-packetBytes (Packet.AtoStatus p))
@@ -75,17 +75,17 @@ newest-split o ps qs = ap (newest o) (bytes-append ps qs) ∙ newest-append o (b
 module _ (j : Route) (x : Position) where
   -- 65 and 62 are no 68
   newest-65 : (o : Option (List ℕ)) (h : Option Head) → newest o (bytesOfEach (received j x h)) ≡ o
-  unfolding newest jpReceived bytes65
+  unfolding newest jpReceived valueBytes
   newest-65 o none = refl
   newest-65 o (some h) = refl
 
   newest-62 : (o : Option (List ℕ)) (l : List Change) → newest o (bytesOfEach (map (timingPoint j x) l)) ≡ o
-  unfolding newest timingPoint bytes62
+  unfolding newest timingPoint valueBytes
   newest-62 o [] = refl
   newest-62 o (c ∷ l) = newest-62 o l
 
   newest-68 : (o : Option (List ℕ)) (due : Bool) (s c : ℕ) → newest o (bytesOfEach (when due (atoStatus j x s c))) ≡ (if due then some (packetBytes (atoStatus j x s c)) else o)
-  unfolding newest atoStatus bytes68
+  unfolding newest atoStatus valueBytes
   newest-68 o true s c = refl
   newest-68 o false s c = refl
 
@@ -117,7 +117,7 @@ status-tells j x state conditions r s c =
     record {
       status = record { header = header j x; state = state; conditions = conditions };
       read = read-written _ (rw (le-leb (x .nidc) 1023 (r .nidc), le-leb (x .offset) 16777215 (r .offset), le-leb state 7 s, le-leb conditions 511 c))
-          (record { nidsp = omega (arith, r .nidsp); speed = omega (arith, r .speed); operational = omega (arith, r .operational) });
+          ((tt, (omega (arith, r .nidsp), (tt, (omega (arith, r .speed), (omega (arith, r .operational), tt))))), (tt, tt));
       state-is = refl;
       conditions-are = refl;
     }

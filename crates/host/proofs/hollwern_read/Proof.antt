@@ -1,7 +1,7 @@
 use mathlib.Core.Path.{sym, ap, _∙_}
 use borrow.Author.Needs.{needs}
-use Rattle.packets.specs.declared.PacketRead.{PacketRead}
-use Rattle.packets.specs.Packets.{readView}
+use Rattle.packet_reader.specs.declared.PacketRead.{PacketRead}
+use Rattle.packet_reader.specs.View.{readView}
 use Rattle.host.specs.Fields.{plainPacket}
 use Rattle.host.proofs.hollwern_read.Statement.{statement}
 use Rattle.host.proofs.hollwern_read.Tie as tie

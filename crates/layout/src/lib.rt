@@ -1,0 +1,1 @@
+// Layouts of fixed size as values. Nothing is compiled.

@@ -1,0 +1,43 @@
+use denote.Ref.{now}
+use Prim.Native.Nat.{ℕ, _+_, _*_}
+use mathlib.Core.Path.{sym, ap, _∙_}
+use mathlib.Core.List.{List, _∷_, _++_, append-nil}
+use lib.Seq.{sets}
+use Rattle.wire.specs.Numbers.{bytesOf}
+use Rattle.layout.specs.Layout.{bytes}
+use Rattle.packets.specs.Layouts.{headerLayout}
+use Rattle.packets.specs.View.{headerView}
+use Rattle.packets.specs.Packets.{valueBytes}
+use Rattle.packet_writer.proofs.WriterLaws.{bytesOf-mod, behind-header}
+use borrow.Author.Needs.{needs}
+use Rattle.packet_writer.proofs.put_ato_status.Statement.{statement}
+use Rattle.packet_writer.proofs.put_ato_status.Tie as tie
+
+put-header-requires : tie.Need-put-header-requires
+put-header-requires c κs = search needs
+
+status-word-requires : tie.Need-status-word-requires
+status-word-requires c κs = search needs
+
+put16-requires : tie.Need-put16-requires
+put16-requires c κs = search needs
+
+same-length : tie.Need-same-length
+same-length c = search needs
+
+returns : tie.Need-returns
+unfolding valueBytes bytes
+returns c =
+    let b = c .before .before in
+    let z = b .before .before .before .before .before in
+    let a = z .before .before .before .args in
+    let word = a .p .state + 16 * a .p .conditions in
+    let h = headerView (a .p .header) in
+    rw (b .put16 .ensures, b .before .status-word .ensures, bytesOf-mod 2 word, z .put-header .ensures)
+    (behind-header (now (a .out)) 68 h (bytesOf 2 word)
+    ∙ ap (λ (content : List ℕ). sets (now (a .out)) 0 (68 ∷ bytes headerLayout h ++ content)) (sym (append-nil (bytesOf 2 word))))
+
+pub put-ato-status-spec : {M : Type 1} → statement M
+put-ato-status-spec =
+    tie.close
+    (tie.spec put-header-requires status-word-requires put16-requires same-length returns)

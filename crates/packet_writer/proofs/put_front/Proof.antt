@@ -1,0 +1,70 @@
+use denote.Ref.{now}
+use mathlib.Core.Path.{_∙_, sym, ap}
+use lib.Seq.{sets}
+use Rattle.packets.specs.Packets.{packetBytes}
+use Rattle.packets.specs.declared.Packet.{Packet}
+use borrow.Author.Needs.{needs}
+use Rattle.packet_writer.proofs.put_front.Statement.{statement}
+use Rattle.packet_writer.proofs.put_front.Tie as tie
+
+enum-known-p : tie.Need-enum-known-p
+enum-known-p c = search needs
+
+put-timing-point-requires : tie.Need-put-timing-point-requires
+put-timing-point-requires c κs = search needs
+
+enum-known-p-2 : tie.Need-enum-known-p-2
+enum-known-p-2 c = search needs
+
+put-jp-received-requires : tie.Need-put-jp-received-requires
+put-jp-received-requires c κs = search needs
+
+enum-known-p-3 : tie.Need-enum-known-p-3
+enum-known-p-3 c = search needs
+
+put-ato-status-requires : tie.Need-put-ato-status-requires
+put-ato-status-requires c κs = search needs
+
+same-length : tie.Need-same-length
+same-length c = search needs
+
+returns : tie.Need-returns
+returns c =
+    let b = c .before .before in
+    let a = b .before .before .before .before .before .before .args in
+    b .put-timing-point .ensures ∙ ap (λ (p : Packet). sets (now (a .out)) 0 (packetBytes p)) (sym (b .before .before .before .p .given .1))
+
+same-length-2 : tie.Need-same-length-2
+same-length-2 c = search needs
+
+returns-2 : tie.Need-returns-2
+returns-2 c =
+    let b = c .before .before in
+    let a = b .before .before .before .before .before .before .args in
+    b .put-jp-received .ensures ∙ ap (λ (p : Packet). sets (now (a .out)) 0 (packetBytes p)) (sym (b .before .before .before .p2 .given .1))
+
+same-length-3 : tie.Need-same-length-3
+same-length-3 c = search needs
+
+returns-3 : tie.Need-returns-3
+returns-3 c =
+    let b = c .before .before in
+    let a = b .before .before .before .before .before .before .args in
+    b .put-ato-status .ensures ∙ ap (λ (p : Packet). sets (now (a .out)) 0 (packetBytes p)) (sym (b .before .before .before .p3 .given .1))
+
+pub put-front-spec : {M : Type 1} → statement M
+put-front-spec =
+    tie.close
+    (tie.spec
+    enum-known-p
+    put-timing-point-requires
+    enum-known-p-2
+    put-jp-received-requires
+    enum-known-p-3
+    put-ato-status-requires
+    same-length
+    returns
+    same-length-2
+    returns-2
+    same-length-3
+    returns-3)

@@ -1,0 +1,56 @@
+use Rattle.layout.specs.Layout.{bytes}
+use Rattle.packets.specs.Packets.{valueBytes}
+use Rattle.wire.specs.Numbers.{bytesOf}
+use borrow.Author.Needs.{needs}
+use Rattle.packet_writer.proofs.put_jp_received.Statement.{statement}
+use Rattle.packet_writer.proofs.put_jp_received.Tie as tie
+
+put-header-requires : tie.Need-put-header-requires
+put-header-requires c κs = search needs
+
+put16-requires : tie.Need-put16-requires
+put16-requires c κs = search needs
+
+put16-requires-2 : tie.Need-put16-requires-2
+put16-requires-2 c κs = search needs
+
+put16-requires-3 : tie.Need-put16-requires-3
+put16-requires-3 c κs = search needs
+
+put32-requires : tie.Need-put32-requires
+put32-requires c κs = search needs
+
+put-byte-requires : tie.Need-put-byte-requires
+put-byte-requires c κs = search needs
+
+put-byte-requires-2 : tie.Need-put-byte-requires-2
+put-byte-requires-2 c κs = search needs
+
+same-length : tie.Need-same-length
+same-length c = search needs
+
+returns : tie.Need-returns
+unfolding valueBytes bytes bytesOf
+returns c =
+    let g = c .before .before in
+    let f = g .before .before .before .before in
+    let e = f .before .before .before .before in
+    let d = e .before .before .before .before in
+    let b = d .before .before .before .before in
+    let a = b .before .before .before .before in
+    let z = a .before .before .before .before in
+    rw (g .put-byte2 .ensures, f .put-byte .ensures, e .put32 .ensures, d .put163 .ensures, b .put162 .ensures, a .put16 .ensures, z .put-header .ensures)
+
+pub put-jp-received-spec : {M : Type 1} → statement M
+put-jp-received-spec =
+    tie.close
+    (tie.spec
+    put-header-requires
+    put16-requires
+    put16-requires-2
+    put16-requires-3
+    put32-requires
+    put-byte-requires
+    put-byte-requires-2
+    same-length
+    returns)
