@@ -1,8 +1,8 @@
 -- Laws of look-ups and of the tests for doubles, one turn of a loop each.
 use Prim.Native.Nat.{ℕ, zero, suc, _+_, _-_, _*_, _≤_, _<_}
-use mathlib.Core.Path.{_≡_, refl, sym, ap, _∙_, subst}
+use mathlib.Core.Path.{_≡_, refl, sym, ap, _∙_}
 use mathlib.Core.List.{List, [], _∷_, _++_, map, append-assoc, append-nil}
-use mathlib.Core.Bool.{Bool, true, false, _||_}
+use mathlib.Core.Bool.{Bool, true, false, cond, _||_}
 use mathlib.Core.Option.{some}
 use lib.ListN.{length, drop, take, getD, set, length-take, drop-of-length-le}
 use lib.Seq.{drop-cons, drop-drop, getD-take, take-suc-set}
@@ -11,10 +11,11 @@ use native.Mathlib.Omega.{arith}
 use borrow.Author.Tests.{eq-eqb, ne-eqb}
 use Rattle.engine_value.specs.declared.Zone.{Zone}
 use Rattle.wire.specs.Numbers.{number}
-use Rattle.book.specs.Book.{BookPoint, lookup, isSome, lookupPoint}
-use Rattle.book.specs.Answers.{items, pointOf, zoneOf, entrySegment, blankEntry, isNamed, indexFrom, pointView}
-use Rattle.wire.specs.Lists.{All}
-use Rattle.book.specs.Ranges.{SegmentFits}
+use Rattle.book.specs.Book.{BookPoint, lookupPoint}
+use Rattle.book.specs.Table.{sameSegment}
+use Rattle.book.specs.View.{items, pointOf, zoneOf, entrySegment, blankEntry, isNamed, indexFrom, pointView}
+use Rattle.wire.specs.Lists.{All, any}
+use Rattle.book.proofs.Accepted.{SegmentFits}
 use Rattle.book.specs.declared.Entry.{Entry}
 use Rattle.book.specs.declared.Found.{Found}
 use Rattle.book.specs.declared.PointFound.{PointFound}
@@ -56,14 +57,18 @@ abbrev pub isAt : Found → Bool
 isAt (Found.At i) = true
 isAt Found.Missing = false
 
-pub lookup-test : (s : List ℕ) (c sp i : ℕ) (es : List Entry) → isSome (lookup c sp (map (entrySegment s) es)) ≡ isAt (indexFrom c sp i es)
-lookup-test s c sp i [] = refl
-lookup-test s c sp i (e ∷ es) = go (isNamed c sp e) refl (lookup-test s c sp (i + 1) es)
+pub named-test : (c sp i : ℕ) (es : List Entry) → any (isNamed c sp) es ≡ isAt (indexFrom c sp i es)
+named-test c sp i [] = refl
+named-test c sp i (e ∷ es) = go (isNamed c sp e) (named-test c sp (i + 1) es)
   where
-    go : (b : Bool) → isNamed c sp e ≡ b → isSome (lookup c sp (map (entrySegment s) es)) ≡ isAt (indexFrom c sp (i + 1) es)
-        → isSome (lookup c sp (map (entrySegment s) (e ∷ es))) ≡ isAt (indexFrom c sp i (e ∷ es))
-    go true t ih = rw t
-    go false t ih = rw t ih
+    go : (b : Bool) → any (isNamed c sp) es ≡ isAt (indexFrom c sp (i + 1) es) → (b || any (isNamed c sp) es) ≡ isAt (cond b (Found.At i) (indexFrom c sp (i + 1) es))
+    go true ih = refl
+    go false ih = ih
+
+-- an entry's record is the same segment as one of others, by their names
+pub same-named : (s : List ℕ) (e : Entry) (es : List Entry) → any (λ g. sameSegment g (entrySegment s e)) (map (entrySegment s) es) ≡ any (isNamed (e .nidc) (e .nidsp)) es
+same-named s e [] = refl
+same-named s e (x ∷ es) = ap (λ (b : Bool). isNamed (e .nidc) (e .nidsp) x || b) (same-named s e es)
 
 -- stepping on by k bytes
 pub after-past : (s : List ℕ) (p k : ℕ) → length s ≤ p → drop p s ≡ drop k (drop p s)
@@ -116,15 +121,10 @@ items-past v k d (suc n) (suc i) l h = items-past v k d n i (drop k l) (omega ar
 
 -- an entry whose record fits has 16 points at most
 module _ (s : List ℕ) where
-  few-of : (es : List Entry) (i : ℕ) → i < length es → All SegmentFits (map (entrySegment s) es) → getD es i blankEntry .points ≤ 16
-  few-of [] i h f = absurd (omega arith)
-  few-of (e ∷ es) zero h f = omega (arith, f .0 .«point_count», items-length pointOf 10 (e .points) (drop (e .«points_at») s))
-  few-of (e ∷ es) (suc i) h f = few-of es i (omega arith) (f .1)
-
-  pub few-points : (n : ℕ) (es : List Entry) (i : ℕ) → i < n → n ≤ length es → All SegmentFits (map (entrySegment s) (take n es)) → getD es i blankEntry .points ≤ 16
-  few-points n es i h k f =
-      let m : i < length (take n es) = rw length-take (omega arith) in
-      subst (λ (e : Entry). e .points ≤ 16) (getD-take n es i blankEntry h) (few-of (take n es) i m f)
+  pub few-points : (es : List Entry) → All SegmentFits (map (entrySegment s) es) → (i : ℕ) → getD es i blankEntry .points ≤ 16
+  few-points [] f i = omega arith
+  few-points (e ∷ es) f zero = omega (arith, f .0 .«point_count», items-length pointOf 10 (e .points) (drop (e .«points_at») s))
+  few-points (e ∷ es) f (suc i) = few-points es (f .1) i
 
 -- the names of a record's points
 pub names : (n : ℕ) (l : List ℕ) → map (λ (p : BookPoint). p .nidtp) (items pointOf 10 n l) ≡ items (number 4) 10 n l

@@ -9,7 +9,7 @@ use lib.Seq.{getD-take}
 use native.Mathlib.Nat.{add-zero}
 use native.Mathlib.Omega.{arith}
 use Rattle.book.specs.Book.{lookup}
-use Rattle.book.specs.Answers.{entrySegment, entriesIn, segmentsIn, blankEntry, isNamed, indexFrom, foundView}
+use Rattle.book.specs.View.{entrySegment, entriesIn, segmentsIn, blankEntry, isNamed, indexFrom, foundView}
 use Rattle.book.specs.declared.Entry.{Entry}
 use Rattle.book.specs.declared.Book.{Book}
 use Rattle.book.specs.declared.Found.{Found}

@@ -1,21 +1,19 @@
 -- Laws of the readers of a record: lists that are checked over and lists that are read, and how many bytes a reader takes at least.
-use Prim.Native.Nat.{ℕ, zero, suc, _+_, _-_, _%_, _≤_, _<_}
+use Prim.Native.Nat.{ℕ, zero, suc, _+_, _-_, _≤_, _<_}
 use mathlib.Core.Path.{_≡_, refl, ap, _∙_}
 use mathlib.Core.List.{List, [], _∷_}
 use mathlib.Core.Bool.{Bool, true, false}
 use lib.ListN.{length, drop, length-drop}
 use lib.Seq.{drop-drop}
-use lib.Dec.{eqb}
 use native.Mathlib.Omega.{arith}
-use Rattle.engine_value.specs.Engine.{max4}
+use Rattle.engine_value.specs.Engine.{max4, maxNidc, maxNidtp, maxZones}
 use Rattle.engine_value.specs.declared.Zone.{Zone}
 use Rattle.wire.specs.Numbers.{number, bit}
-use Rattle.wire.specs.Parse.{Parse, Reader, andThen, field, many, counted, listed, must, give}
+use Rattle.wire.specs.Parse.{Parse, Reader, andThen, field, free, mapFits, bitMap, many, counted, listed, must, give}
 use Rattle.wire.specs.Parse.Parse.{bad, good}
 use Rattle.wire.proofs.ReaderLaws.{then-inv, FieldRead, field-inv}
-use Rattle.book.specs.Book.{BookPoint, bookPoint, zoneRecord, segmentRecord}
-use Rattle.book.specs.Answers.{items, pointOf, zoneOf}
-use Rattle.book.specs.Parts.{bare, checked, skip, most, Extent, extent}
+use Rattle.book.specs.Book.{BookPoint, maxLength, maxRecordPoints, maxReach, bookPoint, zoneRecord, segmentRecord}
+use Rattle.book.specs.View.{items, pointOf, zoneOf, bare, checked, skip, most, Extent, extent}
 use Rattle.book.specs.declared.Kind.{Kind}
 use Rattle.book.specs.declared.Kind.the-variants.{Points, Zones}
 
@@ -56,9 +54,9 @@ parts t = (t .value, t .rest)
 pub point-fixed : (len : ℕ) → Fixed (bookPoint len) pointOf 10
 unfolding bookPoint
 point-fixed len l a r e =
-    let i₁ = then-inv (field 4 0 4294967294 l) _ a r e in
+    let i₁ = then-inv (field 4 0 maxNidtp l) _ a r e in
     let i₂ = then-inv (field 4 0 len (i₁ .1)) _ a r (i₁ .3) in
-    let i₃ = then-inv (field 2 0 10000 (i₂ .1)) _ a r (i₂ .3) in
+    let i₃ = then-inv (field 2 0 maxReach (i₂ .1)) _ a r (i₂ .3) in
     point-parts l _ _ _ _ _ _ a r (parts (field-inv _ _ _ _ _ _ (i₁ .2))) (parts (field-inv _ _ _ _ _ _ (i₂ .2))) (parts (field-inv _ _ _ _ _ _ (i₃ .2))) (i₃ .3)
 
 zone-parts : (l r₁ r₂ : List ℕ) (x y : ℕ) (a : Zone) (r : List ℕ)
@@ -130,6 +128,12 @@ takes-then k j p f a b l x r e =
     let i = then-inv (p l) f x r e in
     omega (arith, a l (i .0) (i .1) (i .2), b (i .0) (i .1) x r (i .3))
 
+takes-map : (standing clear : List ℕ) → Takes 1 (bitMap standing clear)
+unfolding bitMap
+takes-map standing clear =
+    takes-then 1 0 (free 1) _ (takes-field 1 0 255) (λ m.
+    takes-then 0 0 (must (mapFits standing clear m)) _ (takes-must (mapFits standing clear m)) (λ u. takes-give m))
+
 takes-many : {A : Type 0} (p : Reader A) → Takes 0 p → (n : ℕ) → Takes 0 (many n p)
 unfolding many
 takes-many p h zero = takes-give []
@@ -146,11 +150,10 @@ fixed-takes p v k f l a r e = omega (arith, ap length (f l a r e .1), length-dro
 pub segment-takes : Takes 11 segmentRecord
 unfolding segmentRecord
 segment-takes =
-    takes-then 1 10 (field 1 0 31) _ (takes-field 1 0 31) (λ m.
-    takes-then 0 10 (must (eqb (m % 8) 7)) _ (takes-must (eqb (m % 8) 7)) (λ u.
-    takes-then 2 8 (field 2 0 1023) _ (takes-field 2 0 1023) (λ c.
-    takes-then 4 4 (field 4 0 max4) _ (takes-field 4 0 max4) (λ sp.
-    takes-then 4 0 (field 4 1 16777214) _ (takes-field 4 1 16777214) (λ len.
-    takes-then 0 0 (listed (bit 3 m) 16 (bookPoint len)) _ (takes-listed (bookPoint len) (fixed-takes (bookPoint len) pointOf 10 (point-fixed len)) (bit 3 m) 16) (λ ps.
-    takes-then 0 0 (listed (bit 4 m) 4 (zoneRecord len)) _ (takes-listed (zoneRecord len) (fixed-takes (zoneRecord len) zoneOf 8 (zone-fixed len)) (bit 4 m) 4) (λ zs.
-    takes-give (record { nidc = c; nidsp = sp; length = len; points = ps; zones = zs }))))))))
+    takes-then 1 10 (bitMap (0 ∷ 1 ∷ 2 ∷ []) (5 ∷ 6 ∷ 7 ∷ [])) _ (takes-map (0 ∷ 1 ∷ 2 ∷ []) (5 ∷ 6 ∷ 7 ∷ [])) (λ m.
+    takes-then 2 8 (field 2 0 maxNidc) _ (takes-field 2 0 maxNidc) (λ c.
+    takes-then 4 4 (free 4) _ (takes-field 4 0 max4) (λ sp.
+    takes-then 4 0 (field 4 1 maxLength) _ (takes-field 4 1 maxLength) (λ len.
+    takes-then 0 0 (listed (bit 3 m) maxRecordPoints (bookPoint len)) _ (takes-listed (bookPoint len) (fixed-takes (bookPoint len) pointOf 10 (point-fixed len)) (bit 3 m) maxRecordPoints) (λ ps.
+    takes-then 0 0 (listed (bit 4 m) maxZones (zoneRecord len)) _ (takes-listed (zoneRecord len) (fixed-takes (zoneRecord len) zoneOf 8 (zone-fixed len)) (bit 4 m) maxZones) (λ zs.
+    takes-give (record { nidc = c; nidsp = sp; length = len; points = ps; zones = zs })))))))

@@ -11,12 +11,13 @@ use borrow.Author.Tests.{eq-eqb, ne-eqb, lt-ltb, le-ltb, ltb-true, ltb-false}
 use Rattle.wire.specs.Parse.{Parse, andThen}
 use Rattle.wire.specs.Parse.Parse.{bad, good}
 use Rattle.wire.specs.Judged.Judged.{refuse, accept}
-use Rattle.book.specs.Book.{BookSegment, segmentRecord, records, segmentTwice, pointTwice, misbooked, bookOf}
-use Rattle.book.specs.Answers.{entrySegment, segmentsIn, bookView, blankEntry, BookRead}
-use Rattle.book.specs.Parts.{allRecords, ReadTo, refusedBook}
-use Rattle.wire.specs.Lists.{All}
-use Rattle.book.specs.Ranges.{SegmentFits}
-use Rattle.book.proofs.Accepted.{records-give}
+use Rattle.wire.specs.Lists.{All, any, twice}
+use Rattle.wire.proofs.Sure.{sure-of}
+use Rattle.engine_value.specs.Engine.{maxSegments}
+use Rattle.book.specs.Book.{BookSegment, segmentRecord, records}
+use Rattle.book.specs.Table.{sameSegment, nidtpTwice, bookOf}
+use Rattle.book.specs.View.{entrySegment, segmentsIn, bookView, blankEntry, BookRead, allRecords, Listed, refusedBook}
+use Rattle.book.proofs.Accepted.{SegmentFits, records-fit}
 use Rattle.book.specs.declared.Entry.{Entry}
 use Rattle.book.specs.declared.Book.{Book}
 use Rattle.book.proofs.Reading.{segment-takes}
@@ -106,68 +107,64 @@ kept-blank n es e z h = go (ltb n 40) refl
         let m′ : min (n + 1) 40 ≡ min n 40 = omega arith in
         rw (m′, set-out es n e (omega arith)) h
 
+-- the n records gs stand in s before the position at, and es lists them
+pub record ReadTo (s : List ℕ) (at n : ℕ) (es : List Entry) (gs : List BookSegment) : Type 0 where
+  pub all : allRecords s ≡ before gs (allRecords (drop at s))
+  pub listed : Listed s n es gs
+
 -- the pass over the book
 module _ (s : List ℕ) where
   pub read-start : (es : List Entry) → es ≡ replicate 40 blankEntry → ReadTo s 0 0 es []
-  read-start es e = record { all = before-none (allRecords s); count = refl; size = ap length e; first = refl; blank = e }
+  read-start es e = record { all = before-none (allRecords s); listed = record { count = refl; size = ap length e; first = refl; blank = e } }
 
   pub read-step : (p n : ℕ) (es es′ : List Entry) (gs : List BookSegment) (e : Entry) (q : ℕ) → ReadTo s p n es gs
       → segmentRecord (drop p s) ≡ good (entrySegment s e) (drop q s) → es′ ≡ set es n e → ReadTo s q (n + 1) es′ (gs ++ (entrySegment s e ∷ []))
   read-step p n es es′ gs e q g h x = record {
     all = g .all ∙ ap (before gs) (all-good (drop p s) (entrySegment s e) (drop q s) h) ∙ before-more gs (entrySegment s e) (allRecords (drop q s));
-    count = length-append gs (entrySegment s e ∷ []) ∙ ap (λ (k : ℕ). k + 1) (g .count);
-    size = ap length x ∙ length-set es n e ∙ g .size;
-    first = rw x (kept-first (entrySegment s) n es gs e (g .count) (g .size) (g .first));
-    blank = rw x (kept-blank n es e (g .size) (g .blank));
+    listed = record {
+      count = length-append gs (entrySegment s e ∷ []) ∙ ap (λ (k : ℕ). k + 1) (g .listed .count);
+      size = ap length x ∙ length-set es n e ∙ g .listed .size;
+      first = rw x (kept-first (entrySegment s) n es gs e (g .listed .count) (g .listed .size) (g .listed .first));
+      blank = rw x (kept-blank n es e (g .listed .size) (g .listed .blank));
+    };
   }
 
   pub read-bad : (p n : ℕ) (es : List Entry) (gs : List BookSegment) → ReadTo s p n es gs → p < length s → segmentRecord (drop p s) ≡ bad → allRecords s ≡ bad
   read-bad p n es gs g h e = g .all ∙ ap (before gs) (all-bad (drop p s) (rw length-drop (omega arith)) e)
 
-  pub read-end : (p n : ℕ) (es : List Entry) (gs : List BookSegment) → ReadTo s p n es gs → length s ≤ p → ReadTo s (length s) n es gs
-  read-end p n es gs g h = record {
-    all = g .all ∙ ap (λ (l : List ℕ). before gs (allRecords l)) (drop-of-length-le s h ∙ sym (drop-length s));
-    count = g .count;
-    size = g .size;
-    first = g .first;
-    blank = g .blank;
-  }
+  pub read-end : (p n : ℕ) (es : List Entry) (gs : List BookSegment) → ReadTo s p n es gs → length s ≤ p → allRecords s ≡ good gs []
+  read-end p n es gs g h =
+      g .all ∙ ap (λ (l : List ℕ). before gs (allRecords l)) (drop-of-length-le s h) ∙ ap (before gs) (all-end [] refl) ∙ ap (λ (x : List BookSegment). good x []) (append-nil gs)
 
   -- "7 bad map, range or length; 8 .."
   pub book-bad : allRecords s ≡ bad → bookOf s ≡ refuse 7
   unfolding bookOf allRecords
   book-bad e = rw e
 
-  book-all : (gs : List BookSegment) (r : List ℕ) → allRecords s ≡ good gs r → bookOf s ≡ cond (misbooked gs) (refuse 8) (accept gs)
+  book-read : (gs : List BookSegment) (r : List ℕ) (b : Bool) → allRecords s ≡ good gs r → (twice sameSegment gs || (any nidtpTwice gs || ltb maxSegments (length gs))) ≡ b → bookOf s ≡ cond b (refuse 8) (accept gs)
   unfolding bookOf allRecords
-  book-all gs r e = rw e
-
-  all-read : (n : ℕ) (es : List Entry) (gs : List BookSegment) → ReadTo s (length s) n es gs → allRecords s ≡ good gs (drop (length s) s)
-  all-read n es gs g =
-      g .all ∙ ap (before gs) (all-end (drop (length s) s) (rw length-drop (omega arith))) ∙ ap (λ (x : List BookSegment). good x (drop (length s) s)) (append-nil gs)
-
-  pub book-read : (n : ℕ) (es : List Entry) (gs : List BookSegment) → ReadTo s (length s) n es gs → bookOf s ≡ cond (misbooked gs) (refuse 8) (accept gs)
-  book-read n es gs g = book-all gs (drop (length s) s) (all-read n es gs g)
+  book-read gs r true e f = rw (e, f)
+  book-read gs r false e f = rw (e, f)
 
   all-fit : (gs : List BookSegment) (r : List ℕ) → allRecords s ≡ good gs r → All SegmentFits gs
   unfolding allRecords
-  all-fit gs r e = records-give (suc (length s)) s gs r e
+  all-fit gs r e = sure-of (All SegmentFits) (records (suc (length s)) s) gs r e (records-fit (suc (length s)) s)
 
   -- a refusal
   pub book-refused : (k : ℕ) → eqb k 0 ≡ false → bookOf s ≡ refuse k → BookRead s (refusedBook k)
   unfolding bookView
   book-refused k z e = record { seen = rw z (sym e); few = omega arith; none = λ u. refl; blank = refl }
 
-  or-last : (a b : Bool) → (a || (b || true)) ≡ true
-  or-last true b = refl
-  or-last false true = refl
-  or-last false false = refl
+  or-last : (a b c : Bool) → c ≡ true → (a || (b || c)) ≡ true
+  or-last true b c e = refl
+  or-last false true c e = refl
+  or-last false false c e = e
 
-  pub book-many : (n : ℕ) (es : List Entry) (gs : List BookSegment) → ReadTo s (length s) n es gs → 40 < n → bookOf s ≡ refuse 8
-  book-many n es gs g h = book-read n es gs g ∙ rw (lt-ltb 40 (length gs) (omega (arith, g .count)), or-last (segmentTwice gs) (pointTwice gs))
+  pub book-many : (n : ℕ) (gs : List BookSegment) → allRecords s ≡ good gs [] → length gs ≡ n → 40 < n → bookOf s ≡ refuse 8
+  book-many n gs e g h = book-read gs [] true e (or-last (twice sameSegment gs) (any nidtpTwice gs) _ (lt-ltb maxSegments (length gs) (omega arith)))
 
   -- where there are not too many, the records are those that the answer lists
-  module _ (n : ℕ) (es : List Entry) (gs : List BookSegment) (g : ReadTo s (length s) n es gs) (h : n ≤ 40) where
+  module _ (n : ℕ) (es : List Entry) (gs : List BookSegment) (a : allRecords s ≡ good gs []) (g : Listed s n es gs) (h : n ≤ 40) where
     abbrev pub book : Book
     book = record { number = 0; count = n; entries = es }
 
@@ -175,17 +172,17 @@ module _ (s : List ℕ) where
     few = sym (take-all 40 gs (omega (arith, g .count))) ∙ g .first
 
     pub book-fit : All SegmentFits (segmentsIn s book)
-    book-fit = subst (All SegmentFits) few (all-fit gs _ (all-read n es gs g))
+    book-fit = subst (All SegmentFits) few (all-fit gs [] a)
 
-    judged : bookOf s ≡ cond (segmentTwice (segmentsIn s book) || (pointTwice (segmentsIn s book) || false)) (refuse 8) (accept (segmentsIn s book))
-    judged = book-read n es gs g ∙ rw (le-ltb 40 (length gs) (omega (arith, g .count)), few)
+    judged : (b : Bool) → (twice sameSegment (segmentsIn s book) || (any nidtpTwice (segmentsIn s book) || false)) ≡ b → bookOf s ≡ cond b (refuse 8) (accept (segmentsIn s book))
+    judged b t = book-read gs [] b a (rw (le-ltb maxSegments (length gs) (omega (arith, g .count)), few) t) ∙ ap (λ (x : List BookSegment). cond b (refuse 8) (accept x)) few
 
-    pub book-segment : segmentTwice (segmentsIn s book) ≡ true → bookOf s ≡ refuse 8
-    book-segment t = judged ∙ rw t
+    pub book-segment : twice sameSegment (segmentsIn s book) ≡ true → bookOf s ≡ refuse 8
+    book-segment t = judged true (rw t)
 
-    pub book-point : segmentTwice (segmentsIn s book) ≡ false → pointTwice (segmentsIn s book) ≡ true → bookOf s ≡ refuse 8
-    book-point t u = judged ∙ rw (t, u)
+    pub book-point : twice sameSegment (segmentsIn s book) ≡ false → any nidtpTwice (segmentsIn s book) ≡ true → bookOf s ≡ refuse 8
+    book-point t u = judged true (rw (t, u))
 
-    pub book-good : segmentTwice (segmentsIn s book) ≡ false → pointTwice (segmentsIn s book) ≡ false → BookRead s book
+    pub book-good : twice sameSegment (segmentsIn s book) ≡ false → any nidtpTwice (segmentsIn s book) ≡ false → BookRead s book
     unfolding bookView
-    book-good t u = record { seen = sym (judged ∙ rw (t, u)); few = h; none = λ z. absurd (false≢true (sym z)); blank = let m : min n 40 ≡ n = omega arith in rw m at (g .blank) }
+    book-good t u = record { seen = sym (judged false (rw (t, u))); few = h; none = λ z. absurd (false≢true (sym z)); blank = let m : min n 40 ≡ n = omega arith in rw m at (g .blank) }

@@ -1,4 +1,3 @@
 pub mod Book
-pub mod Answers
-pub mod Parts
-pub mod Ranges
+pub mod Table
+pub mod View

@@ -4,15 +4,17 @@ use wire::Field;
 use wire::Width;
 use wire::read_field;
 ghost use mathlib.Core.Path.{_≡_};
-ghost use mathlib.Core.List.{List, map};
+ghost use mathlib.Core.List.{List, [], _∷_};
 ghost use Prim.Native.Nat.{ℕ, _≤_, min};
-ghost use lib.ListN.{drop, take};
+ghost use lib.ListN.{drop, take, getD};
+ghost use lib.Dec.{eqb};
 ghost use Rattle.wire.specs.Numbers.{number};
-ghost use Rattle.book.specs.Book.{segmentRecord, among, twice, lookup, lookupPoint, isSome, segmentTwice, pointTwice};
-ghost use Rattle.book.specs.Answers.{items, entrySegment, segmentsIn, blankEntry, entriesIn, isNamed, indexFrom, pointView, zoneIn, zonesOf, BookRead};
-ghost use Rattle.book.specs.Parts.{item, most, skip, extent, endsView, itemsView, segmentView, RecordsRead, refusedBook};
-ghost use Rattle.wire.specs.Lists.{All};
-ghost use Rattle.book.specs.Ranges.{SegmentFits};
+ghost use Rattle.wire.specs.Lists.{any, twice};
+ghost use Rattle.wire.specs.Parse.{mapFits};
+ghost use Rattle.book.specs.Book.{segmentRecord, lookupPoint};
+ghost use Rattle.book.specs.Table.{sameSegment, nidtpTwice};
+ghost use Rattle.book.specs.View.{items, entrySegment, segmentsIn, blankEntry, entriesIn, isNamed, indexFrom, pointView, zoneIn, zonesOf, BookRead};
+ghost use Rattle.book.specs.View.{item, most, skip, extent, endsView, itemsView, segmentView, RecordsRead, refusedBook};
 
 // A segment record that was read: its numbers, and where its lists stand in the book's bytes.
 pub struct Entry {
@@ -162,13 +164,29 @@ fn read_items(s: &[u8], at: usize, present: bool, kind: Kind, length: u32) -> It
     }
 }
 
+// Bits 0 to 2 stand, 5 to 7 do not.
+fn segment_map(map: u32) -> bool
+    ensures { λ r. ⌜ r ≡ mapFits (0 ∷ 1 ∷ 2 ∷ []) (5 ∷ 6 ∷ 7 ∷ []) map ⌝ }
+{
+    if map / 1 % 2 != 1 {
+        return false;
+    }
+    if map / 2 % 2 != 1 {
+        return false;
+    }
+    if map / 4 % 2 != 1 {
+        return false;
+    }
+    wire::upper_clear(map)
+}
+
 fn read_segment(s: &[u8], at: usize) -> SegmentRead
     ensures { λ r. ⌜ segmentView (now (s .entry)) r ≡ segmentRecord (drop at (now (s .entry))) ⌝ }
 {
-    let Field::Value(map, a) = read_field(s, at, Width::One, 0, 31) else {
+    let Field::Value(map, a) = read_field(s, at, Width::One, 0, 255) else {
         return SegmentRead::Bad;
     };
-    if map % 8 != 7 {
+    if !segment_map(map) {
         return SegmentRead::Bad;
     }
     let Field::Value(nidc, b) = read_field(s, a, Width::Two, 0, 1023) else {
@@ -292,7 +310,7 @@ pub fn find_segment(b: Book, nidc: u16, nidsp: u32) -> Found
 }
 
 fn has_from(b: Book, from: usize, nidc: u16, nidsp: u32) -> bool
-    ensures { λ r. ⌜ ((s : List ℕ) → r ≡ isSome (lookup nidc nidsp (map (entrySegment s) (drop from (entriesIn b))))) ⌝ }
+    ensures { λ r. ⌜ r ≡ any (isNamed nidc nidsp) (drop from (entriesIn b)) ⌝ }
 {
     match find_from(b, from, nidc, nidsp) {
         Found::At(_) => true,
@@ -302,7 +320,7 @@ fn has_from(b: Book, from: usize, nidc: u16, nidsp: u32) -> bool
 
 // Two entries have one name.
 fn segment_twice(b: Book) -> bool
-    ensures { λ r. ⌜ ((s : List ℕ) → r ≡ segmentTwice (segmentsIn s b)) ⌝ }
+    ensures { λ r. ⌜ ((s : List ℕ) → r ≡ twice sameSegment (segmentsIn s b)) ⌝ }
 {
     let n = count_of(b.count);
     let mut i: usize = 0;
@@ -347,7 +365,7 @@ fn names_of(s: &[u8], at: usize, n: usize) -> [u32; 16]
 
 // A name is among those from an index on.
 fn has_name(names: &[u32], from: usize, name: u32) -> bool
-    ensures { λ r. ⌜ r ≡ among name (drop from (now (names .entry))) ⌝ }
+    ensures { λ r. ⌜ r ≡ any (λ x. eqb x name) (drop from (now (names .entry))) ⌝ }
 {
     let mut i = from;
     while i < names.len() {
@@ -361,7 +379,7 @@ fn has_name(names: &[u32], from: usize, name: u32) -> bool
 
 // A name stands twice.
 pub fn repeated(names: &[u32]) -> bool
-    ensures { λ r. ⌜ r ≡ twice (now (names .entry)) ⌝ }
+    ensures { λ r. ⌜ r ≡ twice eqb (now (names .entry)) ⌝ }
 {
     let mut i: usize = 0;
     while i < names.len() {
@@ -377,7 +395,7 @@ pub fn repeated(names: &[u32]) -> bool
 // Two of n points have one name.
 fn name_twice(s: &[u8], at: usize, n: u8) -> bool
     requires { ⌜ n ≤ 16 ⌝ }
-    ensures { λ r. ⌜ r ≡ twice (items (number 4) 10 n (drop at (now (s .entry)))) ⌝ }
+    ensures { λ r. ⌜ r ≡ twice eqb (items (number 4) 10 n (drop at (now (s .entry)))) ⌝ }
 {
     let k = n as usize;
     let names = names_of(s, at, k);
@@ -386,8 +404,8 @@ fn name_twice(s: &[u8], at: usize, n: u8) -> bool
 
 // In one record two points have one name.
 fn point_twice(s: &[u8], b: Book) -> bool
-    requires { ⌜ All SegmentFits (segmentsIn (now s) b) ⌝ }
-    ensures { λ r. ⌜ r ≡ pointTwice (segmentsIn (now (s .entry)) b) ⌝ }
+    requires { ⌜ ((i : ℕ) → getD (entriesIn b) i blankEntry .points ≤ 16) ⌝ }
+    ensures { λ r. ⌜ r ≡ any nidtpTwice (segmentsIn (now (s .entry)) b) ⌝ }
 {
     let n = count_of(b.count);
     let mut i: usize = 0;
@@ -479,7 +497,7 @@ fn zone_in(s: &[u8], e: Entry, k: u8) -> Zone
     }
 }
 
-// The first four zones of a record; one that was read has no more.
+// The zones of a record; one that was read has at most four.
 pub fn zones_of(s: &[u8], e: Entry) -> Zones
     ensures { λ r. ⌜ r ≡ zonesOf (now (s .entry)) e ⌝ }
 {
@@ -490,7 +508,7 @@ pub fn zones_of(s: &[u8], e: Entry) -> Zones
     let n = e.zones;
     let zones = [a, b, c, d];
     Zones {
-        count: if n < 4 { n } else { 4 },
+        count: n,
         zones: zones,
     }
 }

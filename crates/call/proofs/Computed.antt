@@ -1,11 +1,12 @@
 -- For proofs by computation: `unfolding computed` opens `stepOf` and all that it is made of.
 use Rattle.wire.specs.Numbers.{number, bytesOf}
-use Rattle.wire.specs.Parse.{field, optional, many, counted, listed}
+use Rattle.wire.specs.Parse.{field, bitMap, optional, many, counted, listed}
 use Rattle.event.specs.Events.{eventWith, contentAmong, eventOfKind, eventOf}
-use Rattle.book.specs.Book.{bookPoint, zoneRecord, segmentRecord, records, bookOf}
-use Rattle.journey.specs.Journey.{nameRecord, pointMap, pointRecord, headMap, headRecord, journeyRecord}
-use Rattle.route.specs.Placing.{segmentOf, segmentsFrom, pointOf, pointsFrom}
-use Rattle.route.specs.Table.{mismatched, disordered, checked, journeyOf}
+use Rattle.book.specs.Book.{bookPoint, zoneRecord, segmentRecord, records}
+use Rattle.book.specs.Table.{bookOf}
+use Rattle.journey.specs.Journey.{nameRecord, pointRecord, headRecord, journeyRecord}
+use Rattle.route.specs.Placing.{placedAt, startAt, segmentOf, pointOf}
+use Rattle.route.specs.Table.{checked, journeyOf}
 use Rattle.route.specs.Route.{routeOf, loadOf}
 use Rattle.timing.specs.Position.{segmentFrom, frontIn, front}
 use Rattle.timing.specs.Distance.{beyond, atStop}
@@ -25,5 +26,5 @@ use Rattle.call.specs.Effect.{beyondIn, offsetBeyond, positionEffect, lo
 use Rattle.call.specs.Call.{Call, Outcome, conditionsIn, judged, outcomeOf, stepOf}
 
 unfoldable pub computed : Engine → Call → Outcome
-unfolding number bytesOf field optional many counted listed eventWith contentAmong eventOfKind eventOf bookPoint zoneRecord segmentRecord records bookOf nameRecord pointMap pointRecord headMap headRecord journeyRecord segmentOf segmentsFrom pointOf pointsFrom mismatched disordered checked journeyOf routeOf loadOf segmentFrom frontIn front beyond atStop targetFrom target looked reported passings reportChanges stopFrom firstAhead countsIn counts inZones outsideIn conditions powerRows stateRow settled controlAfter bytes valueBytes timingPoint jpReceived atoStatus statusDue packetsOf beyondIn offsetBeyond positionEffect loadEffect skipEffect effect conditionsIn judged outcomeOf stepOf
+unfolding number bytesOf field bitMap optional many counted listed eventWith contentAmong eventOfKind eventOf bookPoint zoneRecord segmentRecord records bookOf nameRecord pointRecord headRecord journeyRecord placedAt startAt segmentOf pointOf checked journeyOf routeOf loadOf segmentFrom frontIn front beyond atStop targetFrom target looked reported passings reportChanges stopFrom firstAhead countsIn counts inZones outsideIn conditions powerRows stateRow settled controlAfter bytes valueBytes timingPoint jpReceived atoStatus statusDue packetsOf beyondIn offsetBeyond positionEffect loadEffect skipEffect effect conditionsIn judged outcomeOf stepOf
 computed e c = stepOf e c

@@ -37,7 +37,8 @@ use Rattle.control.specs.Conditions.{tooFar, conditions}
 use Rattle.control.specs.declared.View.{View}
 use Rattle.control.specs.Numbers.{powerRows, stateRow, stateRows}
 use Rattle.control.specs.Settled.{controlAfter}
-use Rattle.route.specs.Route.{LoadValue, loadOf, loadView}
+use Rattle.route.specs.Route.{LoadValue, loadOf}
+use Rattle.route.specs.View.{loadView}
 use Rattle.route.specs.declared.Loaded.{Loaded}
 use Rattle.event_packets.specs.View.{statusView, packetsIn, sizeIn}
 use Rattle.event_packets.proofs.Stored.{size-in, packets-in}

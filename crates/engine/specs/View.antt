@@ -16,7 +16,7 @@ use Rattle.engine_value.specs.declared.Engine.{Engine}
 use Rattle.event.specs.Kinds.{kindOf}
 use Rattle.event.specs.declared.Event.{Event}
 use Rattle.packets.specs.Packets.{joined}
-use Rattle.journey.specs.Answers.{blankHead}
+use Rattle.journey.specs.Journey.{blankHead}
 use Rattle.timing.specs.Changes.{statusDeparted, statusSkipped, statusRevoked}
 use Rattle.timing.specs.declared.Named.{Named}
 use Rattle.timing.specs.declared.Reported.{Reported}

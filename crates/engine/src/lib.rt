@@ -26,7 +26,7 @@ ghost use mathlib.Core.Bool.{false};
 ghost use Prim.Native.Nat.{_<_};
 ghost use lib.ListN.{set, replicate};
 ghost use Rattle.engine_value.specs.Engine.{routeIn, blankPoint, blankSegment, fresh, progress, withPosition, withControl, withRoute, withSkips, withProgress};
-ghost use Rattle.journey.specs.Answers.{blankHead};
+ghost use Rattle.journey.specs.Journey.{blankHead};
 ghost use Rattle.timing.specs.Position.{placed};
 ghost use Rattle.timing.specs.Standing.{standing, behind};
 ghost use Rattle.control.specs.Conditions.{conditions};

@@ -1,18 +1,21 @@
 -- A journey by what was read of it so far.
 use Prim.Native.Nat.{ℕ, _≤_, _<_, min}
 use mathlib.Core.Path.{_≡_, refl, sym, ap, _∙_}
-use mathlib.Core.List.{List}
-use mathlib.Core.Bool.{true, false}
+use mathlib.Core.List.{List, [], _∷_}
+use mathlib.Core.Bool.{Bool, true, false, not, _&&_, _||_, false≢true}
 use native.Mathlib.Omega.{arith}
 use lib.ListN.{length, take, drop}
 use lib.Seq.{length-take-le}
 use borrow.Author.Tests.{eq-eqb, ne-eqb}
-use Rattle.wire.specs.Parse.{counted}
+use Rattle.wire.specs.Numbers.{bit}
+use Rattle.wire.specs.Parse.{Parse, andThen, must, mapFits, counted}
+use Rattle.wire.proofs.ReaderLaws.{and-left, and-right}
 use Rattle.wire.specs.Parse.Parse.{bad, good}
 use Rattle.wire.specs.Judged.Judged.{refuse, accept}
 use Rattle.journey.specs.Journey.{nameRecord, pointRecord, headRecord, journeyRecord, journeyValue}
 use Rattle.journey.proofs.Filling.{filled-length}
-use Rattle.journey.specs.Answers.{blankName, blankJourneyPoint, namesView, pointsView, refusedBy, JourneyRead}
+use Rattle.journey.specs.View.{namesView, pointsView, refusedBy, JourneyRead}
+use Rattle.journey.specs.Journey.{blankName, blankJourneyPoint}
 use Rattle.journey.specs.declared.Name.{Name}
 use Rattle.journey.specs.declared.JourneyPoint.{JourneyPoint}
 use Rattle.journey.specs.declared.Head.{Head}
@@ -20,6 +23,25 @@ use Rattle.journey.specs.declared.Journey.{Journey}
 use Rattle.journey.specs.declared.Names.{Names}
 use Rattle.journey.specs.declared.Points.{Points}
 use Rattle.engine_value.specs.Engine.{filled}
+
+-- a point's map: both its tests stand, or one fails
+abbrev pub pointBits : ℕ → Bool
+pointBits m = mapFits (0 ∷ 1 ∷ []) (7 ∷ []) m
+
+abbrev pub skipsStop : ℕ → Bool
+skipsStop m = not (bit 5 m) || bit 4 m
+
+pub map-stands : (m : ℕ) → (pointBits m && skipsStop m) ≡ true → (pointBits m ≡ true) × (skipsStop m ≡ true)
+map-stands m e = (and-left (pointBits m) (skipsStop m) e, and-right (pointBits m) (skipsStop m) e)
+
+pub map-missing : {A : Type 0} (m : ℕ) (l : List ℕ) (f : ℕ → Unit {0} → List ℕ → Parse A) → (pointBits m && skipsStop m) ≡ false
+    → bad ≡ andThen (andThen (must (pointBits m) l) (λ u r. good m r)) (λ n r. andThen (must (skipsStop n) r) (f n))
+map-missing {A} m l f = go (pointBits m) (skipsStop m) refl
+  where
+    go : (a b : Bool) → skipsStop m ≡ b → (a && b) ≡ false → _≡_ {A = Parse A} bad (andThen (andThen (must a l) (λ u r. good m r)) (λ n r. andThen (must (skipsStop n) r) (f n)))
+    go true true q e = absurd (false≢true (sym e))
+    go true false q e = rw q
+    go false b q e = refl
 
 pub told-refused : (s : List ℕ) (r : Journey) → r ≡ refusedBy 9 → refuse 9 ≡ journeyValue s → JourneyRead s r
 told-refused s r e q = rw e record { seen = q; held = refl }

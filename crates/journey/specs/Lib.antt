@@ -1,2 +1,2 @@
 pub mod Journey
-pub mod Answers
+pub mod View

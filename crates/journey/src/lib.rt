@@ -4,9 +4,13 @@ use wire::Width;
 use wire::read_field;
 use wire::read_optional;
 ghost use mathlib.Core.Path.{_≡_};
+ghost use mathlib.Core.List.{[], _∷_};
+ghost use mathlib.Core.Bool.{not, _&&_, _||_};
 ghost use lib.ListN.{drop};
-ghost use Rattle.journey.specs.Journey.{nameRecord, pointMap, pointRecord, headMap, headRecord};
-ghost use Rattle.journey.specs.Answers.{nameView, pointView, headView, NamesRead, PointsRead, refusedBy, JourneyRead};
+ghost use Rattle.wire.specs.Numbers.{bit};
+ghost use Rattle.wire.specs.Parse.{mapFits};
+ghost use Rattle.journey.specs.Journey.{nameRecord, pointRecord, headRecord};
+ghost use Rattle.journey.specs.View.{nameView, pointView, headView, NamesRead, PointsRead, refusedBy, JourneyRead};
 
 // The name of a segment.
 pub struct Name {
@@ -90,11 +94,17 @@ fn read_name(s: &[u8], at: usize) -> NameRead
     NameRead::Read(name, next)
 }
 
-// Bits 0 and 1 stand, and 5 only with 4.
+// Bits 0 and 1 stand, 7 does not, and 5 only with 4.
 fn point_map(map: u32) -> bool
-    ensures { λ r. ⌜ r ≡ pointMap map ⌝ }
+    ensures { λ r. ⌜ r ≡ (mapFits (0 ∷ 1 ∷ []) (7 ∷ []) map && (not (bit 5 map) || bit 4 map)) ⌝ }
 {
-    if map % 4 != 3 {
+    if map / 1 % 2 != 1 {
+        return false;
+    }
+    if map / 2 % 2 != 1 {
+        return false;
+    }
+    if map / 128 % 2 == 1 {
         return false;
     }
     if map / 32 % 2 == 1 {
@@ -107,7 +117,7 @@ fn point_map(map: u32) -> bool
 fn read_point(s: &[u8], at: usize) -> PointRead
     ensures { λ r. ⌜ pointView (now (s .entry)) r ≡ pointRecord (drop at (now (s .entry))) ⌝ }
 {
-    let Field::Value(map, a) = read_field(s, at, Width::One, 0, 127) else {
+    let Field::Value(map, a) = read_field(s, at, Width::One, 0, 255) else {
         return PointRead::Bad;
     };
     if point_map(map) {
@@ -147,9 +157,9 @@ fn read_point(s: &[u8], at: usize) -> PointRead
     }
 }
 
-// Bits 1, 3 and 4 stand.
+// Bits 1, 3 and 4 stand, 5 to 7 do not.
 fn head_map(map: u32) -> bool
-    ensures { λ r. ⌜ r ≡ headMap map ⌝ }
+    ensures { λ r. ⌜ r ≡ mapFits (1 ∷ 3 ∷ 4 ∷ []) (5 ∷ 6 ∷ 7 ∷ []) map ⌝ }
 {
     if map / 2 % 2 != 1 {
         return false;
@@ -157,14 +167,17 @@ fn head_map(map: u32) -> bool
     if map / 8 % 2 != 1 {
         return false;
     }
-    map / 16 % 2 == 1
+    if map / 16 % 2 != 1 {
+        return false;
+    }
+    wire::upper_clear(map)
 }
 
 // The map and the fields before the segments.
 fn read_head(s: &[u8]) -> HeadRead
     ensures { λ r. ⌜ headView (now (s .entry)) r ≡ headRecord (now (s .entry)) ⌝ }
 {
-    let Field::Value(map, a) = read_field(s, 0, Width::One, 0, 31) else {
+    let Field::Value(map, a) = read_field(s, 0, Width::One, 0, 255) else {
         return HeadRead::Bad;
     };
     if head_map(map) {

@@ -1,4 +1,4 @@
 pub mod Placing
 pub mod Table
 pub mod Route
-pub mod Answers
+pub mod View

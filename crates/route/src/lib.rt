@@ -13,21 +13,21 @@ use journey::JourneyPoint;
 use journey::Name;
 ghost use mathlib.Core.Path.{_≡_};
 ghost use mathlib.Core.List.{List};
-ghost use mathlib.Core.Bool.{Bool, false, not, _&&_};
+ghost use mathlib.Core.Bool.{false, not, _&&_, _||_};
 ghost use mathlib.Core.Option.{none, some};
 ghost use Prim.Native.Nat.{ℕ, _+_, _^_, _<_, _≤_, min};
 ghost use lib.ListN.{length, drop, take, replicate};
-ghost use lib.Dec.{ltb};
+ghost use lib.Dec.{eqb, ltb};
 ghost use Rattle.wire.specs.Numbers.{flag, if_then_else_};
 ghost use Rattle.engine_value.specs.Engine.{blankSegment, blankPoint, filled};
-ghost use Rattle.book.specs.Book.{twice, lookup, lookupPoint, isSome};
-ghost use Rattle.book.specs.Answers.{entrySegment, segmentsIn, blankEntry, pointView};
-ghost use Rattle.journey.specs.Answers.{namesIn, pointsIn, valueIn};
-ghost use Rattle.route.specs.Placing.{segmentOf, placeIn, reachIn, pointOf, pointsFrom};
-ghost use Rattle.route.specs.Table.{isNamed, named, nameTwice, indexBeyond, nidtps, ends, pointMissing, indexFalls, placeFalls, mismatched, disordered};
-ghost use Rattle.route.specs.Route.{endingOf, loadGroup, refusedBy};
-ghost use Rattle.route.specs.Answers.{recordView, entryIn, recordsIn, PlacesFit, PlacingRead, placedBy, AnsweredBy, LoadRead};
-ghost use Rattle.route.specs.Answers.{Sound};
+ghost use Rattle.wire.specs.Lists.{any, twice, falls, strictlyRises};
+ghost use Rattle.book.specs.Book.{BookSegment, lookup, lookupPoint, isSome};
+ghost use Rattle.book.specs.View.{entrySegment, segmentsIn, blankEntry, pointView};
+ghost use Rattle.journey.specs.View.{namesIn, pointsIn, valueIn};
+ghost use Rattle.route.specs.Placing.{segmentOf, placeOn, reachOn, pointOf, pointsOf};
+ghost use Rattle.route.specs.Table.{sameName, indexBeyond, nidtps, ends, pointMissing, indices, places};
+ghost use Rattle.route.specs.Route.{endingOf, loadGroup};
+ghost use Rattle.route.specs.View.{refusedBy, isNamed, recordView, entryIn, Sound, PlacesFit, PlacingRead, placedBy, AnsweredBy, LoadRead};
 
 // What a load takes; number is 0, or that of the row that refuses.
 pub struct Loaded {
@@ -73,7 +73,7 @@ fn is_named(n: Name, nidc: u16, nidsp: u32) -> bool
 
 // A name is among those from an index on.
 fn named_from(j: Journey, from: usize, nidc: u16, nidsp: u32) -> bool
-    ensures { λ r. ⌜ r ≡ named nidc nidsp (drop from (namesIn j)) ⌝ }
+    ensures { λ r. ⌜ r ≡ any (isNamed nidc nidsp) (drop from (namesIn j)) ⌝ }
 {
     let n = name_count(j);
     let mut i = from;
@@ -88,7 +88,7 @@ fn named_from(j: Journey, from: usize, nidc: u16, nidsp: u32) -> bool
 }
 
 fn name_twice(j: Journey) -> bool
-    ensures { λ r. ⌜ r ≡ nameTwice (namesIn j) ⌝ }
+    ensures { λ r. ⌜ r ≡ twice sameName (namesIn j) ⌝ }
 {
     let n = name_count(j);
     let mut i: usize = 0;
@@ -104,7 +104,7 @@ fn name_twice(j: Journey) -> bool
 
 // A point's index is not that of a segment.
 fn index_beyond(j: Journey) -> bool
-    ensures { λ r. ⌜ r ≡ indexBeyond (length (namesIn j)) (pointsIn j) ⌝ }
+    ensures { λ r. ⌜ r ≡ indexBeyond (valueIn j) ⌝ }
 {
     let segments = name_count(j);
     let n = point_count(j);
@@ -135,7 +135,7 @@ fn nidtps_of(j: Journey) -> [u32; 64]
 }
 
 fn point_twice(j: Journey) -> bool
-    ensures { λ r. ⌜ r ≡ twice (nidtps (pointsIn j)) ⌝ }
+    ensures { λ r. ⌜ r ≡ twice eqb (nidtps (pointsIn j)) ⌝ }
 {
     let n = point_count(j);
     let names = nidtps_of(j);
@@ -165,7 +165,7 @@ fn end_count(j: Journey) -> usize
 }
 
 fn index_falls(j: Journey) -> bool
-    ensures { λ r. ⌜ r ≡ indexFalls 0 (pointsIn j) ⌝ }
+    ensures { λ r. ⌜ r ≡ falls (indices (pointsIn j)) ⌝ }
 {
     let n = point_count(j);
     let mut last: u8 = 0;
@@ -231,7 +231,7 @@ fn entry_in(r: Recorded) -> Entry
 
 // A segment is in the book, and all before it are.
 fn goes_on(before: bool, r: Recorded) -> bool
-    ensures { λ b. ⌜ ((s : List ℕ) → b ≡ (isSome (recordView s r) && before)) ⌝ }
+    ensures { λ b. ⌜ ((s : List ℕ) → b ≡ (before && isSome (recordView s r))) ⌝ }
 {
     match r {
         Recorded::Record(_) => before,
@@ -246,17 +246,17 @@ fn start_if(placed: bool, start: u32) -> u32
 }
 
 // A segment that is in the book.
-fn booked_segment(s: &[u8], n: Name, before: bool, start: u32, e: Entry) -> Segment
-    ensures { λ r. ⌜ r ≡ segmentOf n before start (some (entrySegment (now (s .entry)) e)) ⌝ }
+fn booked_segment(s: &[u8], n: Name, placed: bool, start: u32, e: Entry) -> Segment
+    ensures { λ r. ⌜ r ≡ segmentOf n placed start (some (entrySegment (now (s .entry)) e)) ⌝ }
 {
     let z = book::zones_of(s, e);
     let zones = z.zones;
-    let from = start_if(before, start);
+    let from = start_if(placed, start);
     Segment {
         nidc: n.nidc,
         nidsp: n.nidsp,
         booked: true,
-        placed: before,
+        placed: placed,
         start: from,
         length: e.length,
         zone_count: z.count,
@@ -265,29 +265,30 @@ fn booked_segment(s: &[u8], n: Name, before: bool, start: u32, e: Entry) -> Segm
 }
 
 // A segment that is not.
-fn missing_segment(n: Name) -> Segment
-    ensures { λ r. ⌜ ((before : Bool) (start : ℕ) → r ≡ segmentOf n before start none) ⌝ }
+fn missing_segment(n: Name, placed: bool, start: u32) -> Segment
+    ensures { λ r. ⌜ r ≡ segmentOf n placed start none ⌝ }
 {
     let zone = Zone { start: 0, end: 0 };
     let zones = [zone; 4];
+    let from = start_if(placed, start);
     Segment {
         nidc: n.nidc,
         nidsp: n.nidsp,
         booked: false,
-        placed: false,
-        start: 0,
+        placed: placed,
+        start: from,
         length: 0,
         zone_count: 0,
         zones: zones,
     }
 }
 
-fn segment_of(s: &[u8], n: Name, before: bool, start: u32, r: Recorded) -> Segment
-    ensures { λ g. ⌜ g ≡ segmentOf n before start (recordView (now (s .entry)) r) ⌝ }
+fn segment_of(s: &[u8], n: Name, placed: bool, start: u32, r: Recorded) -> Segment
+    ensures { λ g. ⌜ g ≡ segmentOf n placed start (recordView (now (s .entry)) r) ⌝ }
 {
     match r {
-        Recorded::Record(e) => booked_segment(s, n, before, start, e),
-        Recorded::Missing => missing_segment(n),
+        Recorded::Record(e) => booked_segment(s, n, placed, start, e),
+        Recorded::Missing => missing_segment(n, placed, start),
     }
 }
 
@@ -311,17 +312,17 @@ fn place_segments(j: Journey, b: Book, s: &[u8]) -> Placing
 {
     let n = name_count(j);
     let mut m = blank_placing();
-    let mut before = true;
+    let mut placed = true;
     let mut start: u32 = 0;
     let mut i: usize = 0;
     while i < n {
         let name = j.names[i];
         let r = record_of(b, name);
         let e = entry_in(r);
-        let g = segment_of(s, name, before, start, r);
+        placed = goes_on(placed, r);
+        let g = segment_of(s, name, placed, start, r);
         m.segments[i] = g;
         m.entries[i] = e;
-        before = goes_on(before, r);
         start += e.length;
         i += 1;
     }
@@ -343,8 +344,8 @@ fn lacks(s: &[u8], g: Segment, e: Entry, nidtp: u32) -> bool
 
 // Each index is that of a segment.
 fn point_missing(j: Journey, m: Placing, s: &[u8]) -> bool
-    requires { ⌜ indexBeyond (length (namesIn j)) (pointsIn j) ≡ false ⌝ }
-    ensures { λ r. ⌜ r ≡ pointMissing (m .segments) (recordsIn (now (s .entry)) m) (pointsIn j) ⌝ }
+    requires { ⌜ indexBeyond (valueIn j) ≡ false ⌝ }
+    ensures { λ r. ⌜ ((book : List BookSegment) → PlacingRead (now (s .entry)) book (namesIn j) m → r ≡ pointMissing book (valueIn j)) ⌝ }
 {
     let n = point_count(j);
     let mut i: usize = 0;
@@ -362,7 +363,7 @@ fn point_missing(j: Journey, m: Placing, s: &[u8]) -> bool
 }
 
 fn place_in(f: PointFound) -> u32
-    ensures { λ r. ⌜ ((t : ℕ) → r ≡ placeIn (pointView t f)) ⌝ }
+    ensures { λ r. ⌜ ((t : ℕ) → r ≡ placeOn (pointView t f)) ⌝ }
 {
     match f {
         PointFound::Found { place, reach: _ } => place,
@@ -371,7 +372,7 @@ fn place_in(f: PointFound) -> u32
 }
 
 fn reach_in(f: PointFound) -> u16
-    ensures { λ r. ⌜ ((t : ℕ) → r ≡ reachIn (pointView t f)) ⌝ }
+    ensures { λ r. ⌜ ((t : ℕ) → r ≡ reachOn (pointView t f)) ⌝ }
 {
     match f {
         PointFound::Found { place: _, reach } => reach,
@@ -380,7 +381,7 @@ fn reach_in(f: PointFound) -> u16
 }
 
 fn point_of(p: JourneyPoint, g: Segment, f: PointFound) -> Point
-    requires { ⌜ g .start + placeIn (pointView (p .nidtp) f) < 2 ^ 32 ⌝ }
+    requires { ⌜ g .start + placeOn (pointView (p .nidtp) f) < 2 ^ 32 ⌝ }
     ensures { λ r. ⌜ r ≡ pointOf p g (pointView (p .nidtp) f) ⌝ }
 {
     let place = place_in(f);
@@ -413,8 +414,8 @@ fn point_of(p: JourneyPoint, g: Segment, f: PointFound) -> Point
 
 // Each point of the journey by the segments.
 fn place_points(j: Journey, m: Placing, s: &[u8]) -> [Point; 64]
-    requires { ⌜ (indexBeyond (length (namesIn j)) (pointsIn j) ≡ false) × PlacesFit (now s) m ⌝ }
-    ensures { λ r. ⌜ r ≡ filled 64 blankPoint (pointsFrom (m .segments) (recordsIn (now (s .entry)) m) (pointsIn j)) ⌝ }
+    requires { ⌜ (indexBeyond (valueIn j) ≡ false) × PlacesFit (now s) m ⌝ }
+    ensures { λ r. ⌜ ((book : List BookSegment) → PlacingRead (now (s .entry)) book (namesIn j) m → r ≡ filled 64 blankPoint (pointsOf book (valueIn j))) ⌝ }
 {
     let n = point_count(j);
     let blank = engine_value::blank_point();
@@ -452,7 +453,7 @@ fn least_after(p: Point, least: u64) -> u64
 }
 
 fn place_falls(points: [Point; 64], n: usize) -> bool
-    ensures { λ r. ⌜ r ≡ placeFalls 0 (take (min n 64) points) ⌝ }
+    ensures { λ r. ⌜ r ≡ not (strictlyRises (places (take (min n 64) points))) ⌝ }
 {
     let mut least: u64 = 0;
     let mut i: usize = 0;
@@ -470,9 +471,9 @@ fn place_falls(points: [Point; 64], n: usize) -> bool
     false
 }
 
-// 11.
-fn mismatched(j: Journey, m: Placing, s: &[u8]) -> bool
-    ensures { λ r. ⌜ r ≡ mismatched (m .segments) (recordsIn (now (s .entry)) m) (valueIn j) ⌝ }
+// 11 refuses.
+fn row_11(j: Journey, m: Placing, s: &[u8]) -> bool
+    ensures { λ r. ⌜ ((book : List BookSegment) → PlacingRead (now (s .entry)) book (namesIn j) m → r ≡ (indexBeyond (valueIn j) || (twice eqb (nidtps (pointsIn j)) || (not (eqb (ends (pointsIn j)) 1) || pointMissing book (valueIn j))))) ⌝ }
 {
     if index_beyond(j) {
         return true;
@@ -486,9 +487,9 @@ fn mismatched(j: Journey, m: Placing, s: &[u8]) -> bool
     point_missing(j, m, s)
 }
 
-// 12.
-fn disordered(j: Journey, points: [Point; 64]) -> bool
-    ensures { λ r. ⌜ r ≡ disordered (take (length (pointsIn j)) points) (valueIn j) ⌝ }
+// 12 refuses.
+fn row_12(j: Journey, points: [Point; 64]) -> bool
+    ensures { λ r. ⌜ r ≡ (falls (indices (pointsIn j)) || not (strictlyRises (places (take (length (pointsIn j)) points)))) ⌝ }
 {
     if index_falls(j) {
         return true;
@@ -550,16 +551,16 @@ fn place(j: Journey, b: Book, s: &[u8]) -> Loaded
 {
     let m = place_segments(j, b, s);
     let twice = name_twice(j);
-    let mismatch = mismatched(j, m, s);
+    let eleven = row_11(j, m, s);
     if twice {
         return refused(10);
     }
-    if mismatch {
+    if eleven {
         return refused(11);
     }
     let points = place_points(j, m, s);
-    let disorder = disordered(j, points);
-    if disorder {
+    let twelve = row_12(j, points);
+    if twelve {
         return refused(12);
     }
     let load = load_of(j);

@@ -1,2 +1,4 @@
 pub mod NumberLaws
 pub mod ReaderLaws
+pub mod Sure
+pub mod ListLaws

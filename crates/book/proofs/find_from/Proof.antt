@@ -1,6 +1,6 @@
 use Prim.Native.Nat.{ℕ, _+_, _-_, _<_, min}
 use lib.ListN.{length, drop, getD, length-map}
-use Rattle.book.specs.Answers.{entriesIn, blankEntry, indexFrom}
+use Rattle.book.specs.View.{entriesIn, blankEntry, indexFrom}
 use mathlib.Core.Path.{_≡_, refl, _∙_, sym, ap}
 use native.Mathlib.Omega.{arith}
 use borrow.Author.Needs.{needs}

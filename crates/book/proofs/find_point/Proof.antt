@@ -6,7 +6,7 @@ use native.Mathlib.Omega.{arith}
 use borrow.Author.Needs.{needs}
 use Rattle.wire.specs.Numbers.{number}
 use Rattle.book.specs.Book.{lookupPoint}
-use Rattle.book.specs.Answers.{items, pointOf}
+use Rattle.book.specs.View.{items, pointOf}
 use Rattle.book.proofs.Entries.{items-start, items-step, items-end, name-found, name-next, point-answer}
 use Rattle.book.proofs.find_point.Statement.{statement}
 use Rattle.book.proofs.find_point.Tie as tie

@@ -5,13 +5,14 @@ use lib.ListN.{length, drop}
 use native.Mathlib.Omega.{arith}
 use borrow.Author.Needs.{needs}
 use borrow.Author.Tests.{eq-eqb, ne-eqb}
-use Rattle.book.specs.Book.{among}
+use lib.Dec.{eqb}
+use Rattle.wire.specs.Lists.{any}
 use Rattle.book.proofs.Entries.{number-step, number-end, or-true-left, or-false-left}
 use Rattle.book.proofs.has_name.Statement.{statement}
 use Rattle.book.proofs.has_name.Tie as tie
 
 abbrev Inv-loop : tie.InvT-loop
-Inv-loop names from name i₀ i = among name (drop from names) ≡ among name (drop i names)
+Inv-loop names from name i₀ i = any (λ x. eqb x name) (drop from names) ≡ any (λ x. eqb x name) (drop i names)
 
 abbrev μ-loop : tie.MeasureT-loop
 μ-loop names from name i₀ i = length names - i
@@ -30,7 +31,7 @@ returns c =
     let a = c .before .before .before .before .args in
     let w = c .before .before .before .loop in
     let step = number-step (now (a .names)) (w .i) (omega arith) in
-    sym (w .inv ∙ ap (among (a .name)) step ∙ or-true-left _ _ (eq-eqb _ _ (c .if1 .taken)))
+    sym (w .inv ∙ ap (any (λ x. eqb x (a .name))) step ∙ or-true-left _ _ (eq-eqb _ _ (c .if1 .taken)))
 
 add-i : tie.Need-add-i Inv-loop μ-loop
 add-i c = search needs
@@ -43,13 +44,13 @@ loop-again c =
     let a = c .before .before .before .before .args in
     let w = c .before .before .before .loop in
     let step = number-step (now (a .names)) (w .i) (omega arith) in
-    w .inv ∙ ap (among (a .name)) step ∙ or-false-left _ _ (ne-eqb _ _ (c .if1 .left))
+    w .inv ∙ ap (any (λ x. eqb x (a .name))) step ∙ or-false-left _ _ (ne-eqb _ _ (c .if1 .left))
 
 returns-2 : tie.Need-returns-2 Inv-loop μ-loop
 returns-2 c =
     let a = c .before .before .args in
     let w = c .before .loop in
-    sym (w .inv ∙ ap (among (a .name)) (number-end (now (a .names)) (w .i) (c .loop-test .left)))
+    sym (w .inv ∙ ap (any (λ x. eqb x (a .name))) (number-end (now (a .names)) (w .i) (c .loop-test .left)))
 
 pub has-name-spec : {M : Type 1} → statement M
 has-name-spec =

@@ -1,7 +1,7 @@
 use denote.Ref.{now}
 use mathlib.Core.Path.{_∙_, sym, ap}
 use lib.ListN.{drop}
-use Rattle.book.specs.Parts.{item}
+use Rattle.book.specs.View.{item}
 use Rattle.book.specs.declared.Kind.{Kind}
 use borrow.Author.Needs.{needs}
 use Rattle.book.proofs.item_end.Statement.{statement}

@@ -4,7 +4,7 @@ use mathlib.Core.Path.{_≡_, _∙_, sym, ap}
 use lib.ListN.{drop}
 use native.Mathlib.Omega.{arith}
 use borrow.Author.Needs.{needs}
-use Rattle.book.specs.Parts.{item, skip, endsView}
+use Rattle.book.specs.View.{item, skip, endsView}
 use Rattle.book.proofs.Reading.{skip-start, skip-step, skip-bad, skip-end}
 use Rattle.book.proofs.items_end.Statement.{statement}
 use Rattle.book.proofs.items_end.Tie as tie

@@ -2,7 +2,8 @@ use denote.Ref.{now}
 use mathlib.Core.Path.{_∙_, sym, ap}
 use lib.ListN.{length, drop}
 use Rattle.wire.specs.Numbers.{number}
-use Rattle.book.specs.Book.{twice}
+use lib.Dec.{eqb}
+use Rattle.wire.specs.Lists.{twice}
 use Rattle.book.proofs.Entries.{items-length}
 use borrow.Author.Needs.{needs}
 use Rattle.book.proofs.name_twice.Statement.{statement}
@@ -21,7 +22,7 @@ repeated-requires : tie.Need-repeated-requires
 repeated-requires c κs = search needs
 
 returns : tie.Need-returns
-returns c = c .repeated .ensures ∙ ap twice (c .before .before .names-of .ensures)
+returns c = c .repeated .ensures ∙ ap (twice eqb) (c .before .before .names-of .ensures)
 
 pub name-twice-spec : {M : Type 1} → statement M
 name-twice-spec =

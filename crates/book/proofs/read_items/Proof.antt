@@ -3,7 +3,7 @@ use mathlib.Core.Path.{_∙_, sym, ap}
 use native.Mathlib.Omega.{arith}
 use Rattle.wire.specs.Parse.{fieldView}
 use Rattle.wire.proofs.ReaderLaws.{field-inv}
-use Rattle.book.specs.Parts.{extent, endsView}
+use Rattle.book.specs.View.{extent, endsView}
 use Rattle.book.proofs.Reading.{most-small}
 use borrow.Author.Needs.{needs}
 use Rattle.book.proofs.read_items.Statement.{statement}

@@ -8,9 +8,8 @@ use lib.ListN.{length, set}
 use lib.Seq.{set-out}
 use native.Mathlib.Omega.{arith}
 use Rattle.book.specs.Book.{BookSegment}
-use Rattle.book.specs.Answers.{entrySegment}
-use Rattle.book.specs.Parts.{segmentView, ReadTo}
-use Rattle.book.proofs.Whole.{closer, read-start, read-step, read-bad, read-end}
+use Rattle.book.specs.View.{entrySegment, segmentView}
+use Rattle.book.proofs.Whole.{ReadTo, closer, read-start, read-step, read-bad, read-end}
 use borrow.Author.Needs.{needs}
 use Rattle.book.proofs.read_records.Statement.{statement}
 use Rattle.book.proofs.read_records.Tie as tie
@@ -74,14 +73,14 @@ loop-again c =
     let v = c .before .before .e .given in
     let h = sym (c .before .before .before .before .read-segment .ensures) ∙ ap (segmentView s) (v .1) in
     let near = closer s (w .at) (v .0 .1 .0) (entrySegment s (v .0 .0)) h in
-    let kept : c .if1 .first ≡ set (w .first) (w .n) (v .0 .0) = ⊎-elim (λ x. x .1) (λ x. x .1 ∙ sym (set-out (w .first) (w .n) (v .0 .0) (omega (arith, w .inv .2 .size, x .0 .left)))) (c .if1 .came) in
+    let kept : c .if1 .first ≡ set (w .first) (w .n) (v .0 .0) = ⊎-elim (λ x. x .1) (λ x. x .1 ∙ sym (set-out (w .first) (w .n) (v .0 .0) (omega (arith, w .inv .2 .listed .size, x .0 .left)))) (c .if1 .came) in
     (omega arith, _, read-step s (w .at) (w .n) (w .first) (c .if1 .first) (w .inv .1) (v .0 .0) (v .0 .1 .0) (w .inv .2) h kept)
 
 returns-2 : tie.Need-returns-2 Inv-loop μ-loop
 returns-2 c =
     let s = now (c .before .before .before .before .args .s) in
     let w = c .before .loop in
-    record { bad = λ z. absurd (false≢true (sym z)); good = λ z. (w .inv .1, read-end s (w .at) (w .n) (w .first) (w .inv .1) (w .inv .2) (c .loop-test .left)) }
+    record { bad = λ z. absurd (false≢true (sym z)); good = λ z. (w .inv .1, read-end s (w .at) (w .n) (w .first) (w .inv .1) (w .inv .2) (c .loop-test .left), w .inv .2 .listed) }
 
 pub read-records-spec : {M : Type 1} → statement M
 read-records-spec =

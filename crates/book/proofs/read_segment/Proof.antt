@@ -2,13 +2,12 @@ use denote.Ref.{now}
 use mathlib.Core.Path.{_∙_, sym, ap}
 use lib.ListN.{drop}
 use native.Mathlib.Omega.{arith}
-use borrow.Author.Tests.{eq-eqb, ne-eqb}
+use borrow.Author.Tests.{not-true, not-false}
 use Rattle.wire.specs.Numbers.{bit}
-use Rattle.wire.specs.Parse.{fieldView}
+use Rattle.wire.specs.Parse.{bitMap, fieldView}
 use Rattle.wire.proofs.ReaderLaws.{field-inv}
 use Rattle.book.specs.Book.{bookPoint, zoneRecord, segmentRecord}
-use Rattle.book.specs.Answers.{pointOf, zoneOf}
-use Rattle.book.specs.Parts.{itemsView}
+use Rattle.book.specs.View.{pointOf, zoneOf, itemsView}
 use Rattle.book.proofs.Reading.{point-fixed, zone-fixed, listed-extent}
 use borrow.Author.Needs.{needs}
 use Rattle.book.proofs.read_segment.Statement.{statement}
@@ -24,18 +23,21 @@ enum-told : tie.Need-enum-told
 enum-told c = search needs
 
 returns : tie.Need-returns
-unfolding segmentRecord
+unfolding segmentRecord bitMap
 returns c =
     let s = now (c .before .before .before .before .args .s) in
     let e1 = sym (c .before .before .read-field .ensures) ∙ ap (fieldView s) (c .enum-told .given .1) in
     rw e1
 
 returns-2 : tie.Need-returns-2
-unfolding segmentRecord
+unfolding segmentRecord bitMap
 returns-2 c =
-    let s = now (c .before .before .before .before .before .before .args .s) in
-    let e1 = sym (c .before .before .before .before .read-field .ensures) ∙ ap (fieldView s) (c .before .before .map .given .1) in
-    rw (e1, ne-eqb _ _ (c .if1 .taken))
+    let s = now (c .before .before .before .before .before .before .before .args .s) in
+    let e1 = sym (c .before .before .before .before .before .read-field .ensures) ∙ ap (fieldView s) (c .before .before .before .map .given .1) in
+    rw (e1, sym (c .before .segment-map .ensures) ∙ not-true _ (c .if1 .taken))
+
+segment-map-requires : tie.Need-segment-map-requires
+segment-map-requires c κs = search needs
 
 read-field-requires-2 : tie.Need-read-field-requires-2
 read-field-requires-2 c κs = search needs
@@ -47,11 +49,11 @@ enum-told-2 : tie.Need-enum-told-2
 enum-told-2 c = search needs
 
 returns-3 : tie.Need-returns-3
-unfolding segmentRecord
+unfolding segmentRecord bitMap
 returns-3 c =
-    let s = now (c .before .before .before .before .before .before .before .before .before .args .s) in
-    let e1 = sym (c .before .before .before .before .before .before .before .read-field .ensures) ∙ ap (fieldView s) (c .before .before .before .before .before .map .given .1) in
-    let e2 = eq-eqb _ _ (c .before .before .before .if1 .left) in
+    let s = now (c .before .before .before .before .before .before .before .before .before .before .args .s) in
+    let e1 = sym (c .before .before .before .before .before .before .before .before .read-field .ensures) ∙ ap (fieldView s) (c .before .before .before .before .before .before .map .given .1) in
+    let e2 = sym (c .before .before .before .before .segment-map .ensures) ∙ not-false _ (c .before .before .before .if1 .left) in
     let e3 = sym (c .before .before .read-field2 .ensures) ∙ ap (fieldView s) (c .enum-told2 .given .1) in
     rw (e1, e2, e3)
 
@@ -65,11 +67,11 @@ enum-told-3 : tie.Need-enum-told-3
 enum-told-3 c = search needs
 
 returns-4 : tie.Need-returns-4
-unfolding segmentRecord
+unfolding segmentRecord bitMap
 returns-4 c =
-    let s = now (c .before .before .before .before .before .before .before .before .before .before .before .before .before .args .s) in
-    let e1 = sym (c .before .before .before .before .before .before .before .before .before .before .before .read-field .ensures) ∙ ap (fieldView s) (c .before .before .before .before .before .before .before .before .before .map .given .1) in
-    let e2 = eq-eqb _ _ (c .before .before .before .before .before .before .before .if1 .left) in
+    let s = now (c .before .before .before .before .before .before .before .before .before .before .before .before .before .before .args .s) in
+    let e1 = sym (c .before .before .before .before .before .before .before .before .before .before .before .before .read-field .ensures) ∙ ap (fieldView s) (c .before .before .before .before .before .before .before .before .before .before .map .given .1) in
+    let e2 = sym (c .before .before .before .before .before .before .before .before .segment-map .ensures) ∙ not-false _ (c .before .before .before .before .before .before .before .if1 .left) in
     let e3 = sym (c .before .before .before .before .before .before .read-field2 .ensures) ∙ ap (fieldView s) (c .before .before .before .before .nidc .given .1) in
     let e4 = sym (c .before .before .read-field3 .ensures) ∙ ap (fieldView s) (c .enum-told3 .given .1) in
     rw (e1, e2, e3, e4)
@@ -84,11 +86,11 @@ enum-told-4 : tie.Need-enum-told-4
 enum-told-4 c = search needs
 
 returns-5 : tie.Need-returns-5
-unfolding segmentRecord
+unfolding segmentRecord bitMap
 returns-5 c =
-    let s = now (c .before .before .before .before .before .before .before .before .before .before .before .before .before .before .before .before .before .args .s) in
-    let e1 = sym (c .before .before .before .before .before .before .before .before .before .before .before .before .before .before .before .read-field .ensures) ∙ ap (fieldView s) (c .before .before .before .before .before .before .before .before .before .before .before .before .before .map .given .1) in
-    let e2 = eq-eqb _ _ (c .before .before .before .before .before .before .before .before .before .before .before .if1 .left) in
+    let s = now (c .before .before .before .before .before .before .before .before .before .before .before .before .before .before .before .before .before .before .args .s) in
+    let e1 = sym (c .before .before .before .before .before .before .before .before .before .before .before .before .before .before .before .before .read-field .ensures) ∙ ap (fieldView s) (c .before .before .before .before .before .before .before .before .before .before .before .before .before .before .map .given .1) in
+    let e2 = sym (c .before .before .before .before .before .before .before .before .before .before .before .before .segment-map .ensures) ∙ not-false _ (c .before .before .before .before .before .before .before .before .before .before .before .if1 .left) in
     let e3 = sym (c .before .before .before .before .before .before .before .before .before .before .read-field2 .ensures) ∙ ap (fieldView s) (c .before .before .before .before .before .before .before .before .nidc .given .1) in
     let e4 = sym (c .before .before .before .before .before .before .read-field3 .ensures) ∙ ap (fieldView s) (c .before .before .before .before .nidsp .given .1) in
     let e5 = sym (c .before .before .read-field4 .ensures) ∙ ap (fieldView s) (c .enum-told4 .given .1) in
@@ -104,13 +106,13 @@ enum-told-5 : tie.Need-enum-told-5
 enum-told-5 c = search needs
 
 returns-6 : tie.Need-returns-6
-unfolding segmentRecord
+unfolding segmentRecord bitMap
 returns-6 c =
-    let s = now (c .before .before .before .before .before .before .before .before .before .before .before .before .before .before .before .before .before .before .before .before .before .args .s) in
-    let m = c .before .before .before .before .before .before .before .before .before .before .before .before .before .before .before .before .before .map .given .0 .0 in
+    let s = now (c .before .before .before .before .before .before .before .before .before .before .before .before .before .before .before .before .before .before .before .before .before .before .args .s) in
+    let m = c .before .before .before .before .before .before .before .before .before .before .before .before .before .before .before .before .before .before .map .given .0 .0 in
     let len = c .before .before .before .before .length .given .0 .0 in
-    let e1 = sym (c .before .before .before .before .before .before .before .before .before .before .before .before .before .before .before .before .before .before .before .read-field .ensures) ∙ ap (fieldView s) (c .before .before .before .before .before .before .before .before .before .before .before .before .before .before .before .before .before .map .given .1) in
-    let e2 = eq-eqb _ _ (c .before .before .before .before .before .before .before .before .before .before .before .before .before .before .before .if1 .left) in
+    let e1 = sym (c .before .before .before .before .before .before .before .before .before .before .before .before .before .before .before .before .before .before .before .before .read-field .ensures) ∙ ap (fieldView s) (c .before .before .before .before .before .before .before .before .before .before .before .before .before .before .before .before .before .before .map .given .1) in
+    let e2 = sym (c .before .before .before .before .before .before .before .before .before .before .before .before .before .before .before .before .segment-map .ensures) ∙ not-false _ (c .before .before .before .before .before .before .before .before .before .before .before .before .before .before .before .if1 .left) in
     let e3 = sym (c .before .before .before .before .before .before .before .before .before .before .before .before .before .before .read-field2 .ensures) ∙ ap (fieldView s) (c .before .before .before .before .before .before .before .before .before .before .before .before .nidc .given .1) in
     let e4 = sym (c .before .before .before .before .before .before .before .before .before .before .read-field3 .ensures) ∙ ap (fieldView s) (c .before .before .before .before .before .before .before .before .nidsp .given .1) in
     let e5 = sym (c .before .before .before .before .before .before .read-field4 .ensures) ∙ ap (fieldView s) (c .before .before .before .before .length .given .1) in
@@ -127,13 +129,13 @@ enum-told-6 : tie.Need-enum-told-6
 enum-told-6 c = search needs
 
 returns-7 : tie.Need-returns-7
-unfolding segmentRecord
+unfolding segmentRecord bitMap
 returns-7 c =
-    let s = now (c .before .before .before .before .before .before .before .before .before .before .before .before .before .before .before .before .before .before .before .before .before .before .before .before .before .args .s) in
-    let m = c .before .before .before .before .before .before .before .before .before .before .before .before .before .before .before .before .before .before .before .before .before .map .given .0 .0 in
+    let s = now (c .before .before .before .before .before .before .before .before .before .before .before .before .before .before .before .before .before .before .before .before .before .before .before .before .before .before .args .s) in
+    let m = c .before .before .before .before .before .before .before .before .before .before .before .before .before .before .before .before .before .before .before .before .before .before .map .given .0 .0 in
     let len = c .before .before .before .before .before .before .before .before .length .given .0 .0 in
-    let e1 = sym (c .before .before .before .before .before .before .before .before .before .before .before .before .before .before .before .before .before .before .before .before .before .before .before .read-field .ensures) ∙ ap (fieldView s) (c .before .before .before .before .before .before .before .before .before .before .before .before .before .before .before .before .before .before .before .before .before .map .given .1) in
-    let e2 = eq-eqb _ _ (c .before .before .before .before .before .before .before .before .before .before .before .before .before .before .before .before .before .before .before .if1 .left) in
+    let e1 = sym (c .before .before .before .before .before .before .before .before .before .before .before .before .before .before .before .before .before .before .before .before .before .before .before .before .read-field .ensures) ∙ ap (fieldView s) (c .before .before .before .before .before .before .before .before .before .before .before .before .before .before .before .before .before .before .before .before .before .before .map .given .1) in
+    let e2 = sym (c .before .before .before .before .before .before .before .before .before .before .before .before .before .before .before .before .before .before .before .before .segment-map .ensures) ∙ not-false _ (c .before .before .before .before .before .before .before .before .before .before .before .before .before .before .before .before .before .before .before .if1 .left) in
     let e3 = sym (c .before .before .before .before .before .before .before .before .before .before .before .before .before .before .before .before .before .before .read-field2 .ensures) ∙ ap (fieldView s) (c .before .before .before .before .before .before .before .before .before .before .before .before .before .before .before .before .nidc .given .1) in
     let e4 = sym (c .before .before .before .before .before .before .before .before .before .before .before .before .before .before .read-field3 .ensures) ∙ ap (fieldView s) (c .before .before .before .before .before .before .before .before .before .before .before .before .nidsp .given .1) in
     let e5 = sym (c .before .before .before .before .before .before .before .before .before .before .read-field4 .ensures) ∙ ap (fieldView s) (c .before .before .before .before .before .before .before .before .length .given .1) in
@@ -141,20 +143,20 @@ returns-7 c =
     let e7 = listed-extent (zoneRecord len) zoneOf 8 (zone-fixed len) (bit 4 m) 4 (drop (c .before .before .before .before .points .given .0 .1 .1 .0) s) _ (sym (c .before .before .read-items2 .ensures) ∙ ap (itemsView s) (c .enum-told6 .given .1)) in
     rw (e1, e2, e3, e4, e5, e6, e7)
 
-cast-t28 : tie.Need-cast-t28
-cast-t28 c =
-    let s = now (c .before .before .before .before .before .before .before .before .before .before .before .before .before .before .before .before .before .before .before .before .before .before .before .before .before .before .args .s) in
+cast-t29 : tie.Need-cast-t29
+cast-t29 c =
+    let s = now (c .before .before .before .before .before .before .before .before .before .before .before .before .before .before .before .before .before .before .before .before .before .before .before .before .before .before .before .args .s) in
     let e3 = sym (c .before .before .before .before .before .before .before .before .before .before .before .before .before .before .before .before .before .before .before .read-field2 .ensures) ∙ ap (fieldView s) (c .before .before .before .before .before .before .before .before .before .before .before .before .before .before .before .before .before .nidc .given .1) in
     omega (arith, field-inv _ _ _ _ _ _ e3 .most)
 
 returns-8 : tie.Need-returns-8
-unfolding segmentRecord
+unfolding segmentRecord bitMap
 returns-8 c =
-    let s = now (c .before .before .before .before .before .before .before .before .before .before .before .before .before .before .before .before .before .before .before .before .before .before .before .before .before .before .args .s) in
-    let m = c .before .before .before .before .before .before .before .before .before .before .before .before .before .before .before .before .before .before .before .before .before .before .map .given .0 .0 in
+    let s = now (c .before .before .before .before .before .before .before .before .before .before .before .before .before .before .before .before .before .before .before .before .before .before .before .before .before .before .before .args .s) in
+    let m = c .before .before .before .before .before .before .before .before .before .before .before .before .before .before .before .before .before .before .before .before .before .before .before .map .given .0 .0 in
     let len = c .before .before .before .before .before .before .before .before .before .length .given .0 .0 in
-    let e1 = sym (c .before .before .before .before .before .before .before .before .before .before .before .before .before .before .before .before .before .before .before .before .before .before .before .before .read-field .ensures) ∙ ap (fieldView s) (c .before .before .before .before .before .before .before .before .before .before .before .before .before .before .before .before .before .before .before .before .before .before .map .given .1) in
-    let e2 = eq-eqb _ _ (c .before .before .before .before .before .before .before .before .before .before .before .before .before .before .before .before .before .before .before .before .if1 .left) in
+    let e1 = sym (c .before .before .before .before .before .before .before .before .before .before .before .before .before .before .before .before .before .before .before .before .before .before .before .before .before .read-field .ensures) ∙ ap (fieldView s) (c .before .before .before .before .before .before .before .before .before .before .before .before .before .before .before .before .before .before .before .before .before .before .before .map .given .1) in
+    let e2 = sym (c .before .before .before .before .before .before .before .before .before .before .before .before .before .before .before .before .before .before .before .before .before .segment-map .ensures) ∙ not-false _ (c .before .before .before .before .before .before .before .before .before .before .before .before .before .before .before .before .before .before .before .before .if1 .left) in
     let e3 = sym (c .before .before .before .before .before .before .before .before .before .before .before .before .before .before .before .before .before .before .before .read-field2 .ensures) ∙ ap (fieldView s) (c .before .before .before .before .before .before .before .before .before .before .before .before .before .before .before .before .before .nidc .given .1) in
     let e4 = sym (c .before .before .before .before .before .before .before .before .before .before .before .before .before .before .before .read-field3 .ensures) ∙ ap (fieldView s) (c .before .before .before .before .before .before .before .before .before .before .before .before .before .nidsp .given .1) in
     let e5 = sym (c .before .before .before .before .before .before .before .before .before .before .before .read-field4 .ensures) ∙ ap (fieldView s) (c .before .before .before .before .before .before .before .before .before .length .given .1) in
@@ -170,6 +172,7 @@ read-segment-spec =
     enum-known-map
     enum-told
     returns
+    segment-map-requires
     returns-2
     read-field-requires-2
     enum-known-nidc
@@ -191,5 +194,5 @@ read-segment-spec =
     enum-known-zones
     enum-told-6
     returns-7
-    cast-t28
+    cast-t29
     returns-8)

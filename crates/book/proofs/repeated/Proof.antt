@@ -4,13 +4,14 @@ use mathlib.Core.Path.{_≡_, refl, _∙_, sym, ap}
 use lib.ListN.{length, drop}
 use native.Mathlib.Omega.{arith}
 use borrow.Author.Needs.{needs}
-use Rattle.book.specs.Book.{twice}
+use lib.Dec.{eqb}
+use Rattle.wire.specs.Lists.{twice}
 use Rattle.book.proofs.Entries.{number-step, number-end, or-true-left, or-false-left}
 use Rattle.book.proofs.repeated.Statement.{statement}
 use Rattle.book.proofs.repeated.Tie as tie
 
 abbrev Inv-loop : tie.InvT-loop
-Inv-loop names i₀ i = twice names ≡ twice (drop i names)
+Inv-loop names i₀ i = twice eqb names ≡ twice eqb (drop i names)
 
 abbrev μ-loop : tie.MeasureT-loop
 μ-loop names i₀ i = length names - i
@@ -35,7 +36,7 @@ returns c =
     let a = c .before .before .before .before .before .before .args in
     let w = c .before .before .before .before .loop in
     let step = number-step (now (a .names)) (w .i) (omega arith) in
-    sym (w .inv ∙ ap twice step ∙ or-true-left _ _ (sym (c .before .has-name .ensures) ∙ c .if1 .taken))
+    sym (w .inv ∙ ap (twice eqb) step ∙ or-true-left _ _ (sym (c .before .has-name .ensures) ∙ c .if1 .taken))
 
 loop-less : tie.Need-loop-less Inv-loop μ-loop
 loop-less c = search needs
@@ -45,13 +46,13 @@ loop-again c =
     let a = c .before .before .before .before .before .before .args in
     let w = c .before .before .before .before .loop in
     let step = number-step (now (a .names)) (w .i) (omega arith) in
-    w .inv ∙ ap twice step ∙ or-false-left _ _ (sym (c .before .has-name .ensures) ∙ c .if1 .left)
+    w .inv ∙ ap (twice eqb) step ∙ or-false-left _ _ (sym (c .before .has-name .ensures) ∙ c .if1 .left)
 
 returns-2 : tie.Need-returns-2 Inv-loop μ-loop
 returns-2 c =
     let a = c .before .before .before .args in
     let w = c .before .loop in
-    sym (w .inv ∙ ap twice (number-end (now (a .names)) (w .i) (c .loop-test .left)))
+    sym (w .inv ∙ ap (twice eqb) (number-end (now (a .names)) (w .i) (c .loop-test .left)))
 
 pub repeated-spec : {M : Type 1} → statement M
 repeated-spec =

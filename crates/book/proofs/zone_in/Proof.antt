@@ -4,7 +4,7 @@ use mathlib.Core.Path.{_∙_, sym, ap}
 use lib.ListN.{drop}
 use Rattle.engine_value.specs.Engine.{blankZone}
 use Rattle.wire.specs.Numbers.{number}
-use Rattle.book.specs.Answers.{zoneOf, zoneIn}
+use Rattle.book.specs.View.{zoneOf, zoneIn}
 use Rattle.book.proofs.Entries.{items-at, items-past, zone-answer}
 use borrow.Author.Needs.{needs}
 use Rattle.book.proofs.zone_in.Statement.{statement}

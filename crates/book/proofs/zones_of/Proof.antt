@@ -1,9 +1,6 @@
-use Prim.Native.Nat.{min}
-use mathlib.Core.Path.{_≡_}
-use native.Mathlib.Omega.{arith}
 use denote.Ref.{now}
 use Rattle.engine_value.specs.Engine.{blankZone}
-use Rattle.book.specs.Answers.{entrySegment, zoneIn, zonesOf}
+use Rattle.book.specs.View.{entrySegment, zoneIn, zonesOf}
 use Rattle.book.proofs.Entries.{filled-four}
 use borrow.Author.Needs.{needs}
 use Rattle.book.proofs.zones_of.Statement.{statement}
@@ -24,16 +21,8 @@ zone-in-requires-4 c κs = search needs
 returns : tie.Need-returns
 unfolding zonesOf zoneIn
 returns c =
-    let a = c .before .before .before .before .before .before .args in
-    let m : min (a .e .zones) 4 ≡ a .e .zones = omega arith in
-    rw (c .before .before .before .before .zone-in .ensures, c .before .before .before .zone-in2 .ensures, c .before .before .zone-in3 .ensures, c .before .zone-in4 .ensures, filled-four blankZone (entrySegment (now (a .s)) (a .e) .zones), m)
-
-returns-2 : tie.Need-returns-2
-unfolding zonesOf zoneIn
-returns-2 c =
-    let a = c .before .before .before .before .before .before .args in
-    let m : min (a .e .zones) 4 ≡ 4 = omega arith in
-    rw (c .before .before .before .before .zone-in .ensures, c .before .before .before .zone-in2 .ensures, c .before .before .zone-in3 .ensures, c .before .zone-in4 .ensures, filled-four blankZone (entrySegment (now (a .s)) (a .e) .zones), m)
+    let a = c .before .before .before .before .before .args in
+    rw (c .before .before .before .zone-in .ensures, c .before .before .zone-in2 .ensures, c .before .zone-in3 .ensures, c .zone-in4 .ensures, filled-four blankZone (entrySegment (now (a .s)) (a .e) .zones))
 
 pub zones-of-spec : {M : Type 1} → statement M
 zones-of-spec =
@@ -43,5 +32,4 @@ zones-of-spec =
     zone-in-requires-2
     zone-in-requires-3
     zone-in-requires-4
-    returns
-    returns-2)
+    returns)

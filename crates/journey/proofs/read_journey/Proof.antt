@@ -7,7 +7,7 @@ use borrow.Author.Tests.{not-true, not-false}
 use Rattle.wire.specs.Parse.{counted}
 use Rattle.wire.specs.Parse.Parse.{good}
 use Rattle.journey.specs.Journey.{nameRecord, pointRecord, headRecord}
-use Rattle.journey.specs.Answers.{headView}
+use Rattle.journey.specs.View.{headView}
 use Rattle.journey.proofs.Rows.{told-refused, told-accepted, names-bad, names-good, points-bad, points-good, headless, nameless, pointless, left-over, exact}
 use Rattle.journey.proofs.read_journey.Statement.{statement}
 use Rattle.journey.proofs.read_journey.Tie as tie

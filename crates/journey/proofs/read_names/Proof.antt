@@ -9,7 +9,8 @@ use Rattle.wire.specs.Parse.{fieldView, counted}
 use Rattle.wire.proofs.ReaderLaws.{field-inv}
 use Rattle.journey.specs.Journey.{nameRecord}
 use Rattle.journey.proofs.Filling.{Reading, reading-none, reading-more, reading-bad, reading-end, counted-bad, counted-good}
-use Rattle.journey.specs.Answers.{nameView, blankName}
+use Rattle.journey.specs.View.{nameView}
+use Rattle.journey.specs.Journey.{blankName}
 use Rattle.journey.proofs.read_names.Statement.{statement}
 use Rattle.journey.proofs.read_names.Tie as tie
 

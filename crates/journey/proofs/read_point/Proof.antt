@@ -1,10 +1,11 @@
-use Rattle.journey.proofs.Accepted.{optional-most}
+use Rattle.wire.proofs.Sure.{optional-most}
 use denote.Ref.{now}
 use mathlib.Core.Path.{_∙_, sym, ap}
 use native.Mathlib.Omega.{arith}
-use Rattle.wire.specs.Parse.{fieldView}
+use Rattle.wire.specs.Parse.{bitMap, fieldView}
 use Rattle.wire.proofs.ReaderLaws.{field-inv}
 use Rattle.journey.specs.Journey.{pointRecord}
+use Rattle.journey.proofs.Rows.{map-stands, map-missing}
 use borrow.Author.Needs.{needs}
 use Rattle.journey.proofs.read_point.Statement.{statement}
 use Rattle.journey.proofs.read_point.Tie as tie
@@ -19,7 +20,7 @@ enum-told : tie.Need-enum-told
 enum-told c = search needs
 
 returns : tie.Need-returns
-unfolding pointRecord
+unfolding pointRecord bitMap
 returns c =
     let s = now (c .before .before .before .before .args .s) in
     let e1 = sym (c .before .before .read-field .ensures) ∙ ap (fieldView s) (c .enum-told .given .1) in
@@ -38,13 +39,13 @@ enum-told-2 : tie.Need-enum-told-2
 enum-told-2 c = search needs
 
 returns-2 : tie.Need-returns-2
-unfolding pointRecord
+unfolding pointRecord bitMap
 returns-2 c =
     let s = now (c .before .before .before .before .before .before .before .before .before .before .args .s) in
     let e1 = sym (c .before .before .before .before .before .before .before .before .read-field .ensures) ∙ ap (fieldView s) (c .before .before .before .before .before .before .map .given .1) in
-    let e2 = sym (c .before .before .before .before .point-map .ensures) ∙ c .before .before .before .if1 .taken in
+    let e2 = map-stands (c .before .before .before .before .before .before .map .given .0 .0) (sym (c .before .before .before .before .point-map .ensures) ∙ c .before .before .before .if1 .taken) in
     let e3 = sym (c .before .before .read-field2 .ensures) ∙ ap (fieldView s) (c .enum-told2 .given .1) in
-    rw (e1, e2, e3)
+    rw (e1, e2 .0, e2 .1, e3)
 
 read-field-requires-3 : tie.Need-read-field-requires-3
 read-field-requires-3 c κs = search needs
@@ -56,14 +57,14 @@ enum-told-3 : tie.Need-enum-told-3
 enum-told-3 c = search needs
 
 returns-3 : tie.Need-returns-3
-unfolding pointRecord
+unfolding pointRecord bitMap
 returns-3 c =
     let s = now (c .before .before .before .before .before .before .before .before .before .before .before .before .before .before .args .s) in
     let e1 = sym (c .before .before .before .before .before .before .before .before .before .before .before .before .read-field .ensures) ∙ ap (fieldView s) (c .before .before .before .before .before .before .before .before .before .before .map .given .1) in
-    let e2 = sym (c .before .before .before .before .before .before .before .before .point-map .ensures) ∙ c .before .before .before .before .before .before .before .if1 .taken in
+    let e2 = map-stands (c .before .before .before .before .before .before .before .before .before .before .map .given .0 .0) (sym (c .before .before .before .before .before .before .before .before .point-map .ensures) ∙ c .before .before .before .before .before .before .before .if1 .taken) in
     let e3 = sym (c .before .before .before .before .before .before .read-field2 .ensures) ∙ ap (fieldView s) (c .before .before .before .before .tp .given .1) in
     let e4 = sym (c .before .before .read-field3 .ensures) ∙ ap (fieldView s) (c .enum-told3 .given .1) in
-    rw (e1, e2, e3, e4)
+    rw (e1, e2 .0, e2 .1, e3, e4)
 
 read-optional-requires : tie.Need-read-optional-requires
 read-optional-requires c κs = search needs
@@ -75,15 +76,15 @@ enum-told-4 : tie.Need-enum-told-4
 enum-told-4 c = search needs
 
 returns-4 : tie.Need-returns-4
-unfolding pointRecord
+unfolding pointRecord bitMap
 returns-4 c =
     let s = now (c .before .before .before .before .before .before .before .before .before .before .before .before .before .before .before .before .before .before .args .s) in
     let e1 = sym (c .before .before .before .before .before .before .before .before .before .before .before .before .before .before .before .before .read-field .ensures) ∙ ap (fieldView s) (c .before .before .before .before .before .before .before .before .before .before .before .before .before .before .map .given .1) in
-    let e2 = sym (c .before .before .before .before .before .before .before .before .before .before .before .before .point-map .ensures) ∙ c .before .before .before .before .before .before .before .before .before .before .before .if1 .taken in
+    let e2 = map-stands (c .before .before .before .before .before .before .before .before .before .before .before .before .before .before .map .given .0 .0) (sym (c .before .before .before .before .before .before .before .before .before .before .before .before .point-map .ensures) ∙ c .before .before .before .before .before .before .before .before .before .before .before .if1 .taken) in
     let e3 = sym (c .before .before .before .before .before .before .before .before .before .before .read-field2 .ensures) ∙ ap (fieldView s) (c .before .before .before .before .before .before .before .before .tp .given .1) in
     let e4 = sym (c .before .before .before .before .before .before .read-field3 .ensures) ∙ ap (fieldView s) (c .before .before .before .before .index .given .1) in
     let e5 = sym (c .before .before .read-optional .ensures) ∙ ap (fieldView s) (c .enum-told4 .given .1) in
-    rw (e1, e2, e3, e4, e5)
+    rw (e1, e2 .0, e2 .1, e3, e4, e5)
 
 read-optional-requires-2 : tie.Need-read-optional-requires-2
 read-optional-requires-2 c κs = search needs
@@ -95,16 +96,16 @@ enum-told-5 : tie.Need-enum-told-5
 enum-told-5 c = search needs
 
 returns-5 : tie.Need-returns-5
-unfolding pointRecord
+unfolding pointRecord bitMap
 returns-5 c =
     let s = now (c .before .before .before .before .before .before .before .before .before .before .before .before .before .before .before .before .before .before .before .before .before .before .args .s) in
     let e1 = sym (c .before .before .before .before .before .before .before .before .before .before .before .before .before .before .before .before .before .before .before .before .read-field .ensures) ∙ ap (fieldView s) (c .before .before .before .before .before .before .before .before .before .before .before .before .before .before .before .before .before .before .map .given .1) in
-    let e2 = sym (c .before .before .before .before .before .before .before .before .before .before .before .before .before .before .before .before .point-map .ensures) ∙ c .before .before .before .before .before .before .before .before .before .before .before .before .before .before .before .if1 .taken in
+    let e2 = map-stands (c .before .before .before .before .before .before .before .before .before .before .before .before .before .before .before .before .before .before .map .given .0 .0) (sym (c .before .before .before .before .before .before .before .before .before .before .before .before .before .before .before .before .point-map .ensures) ∙ c .before .before .before .before .before .before .before .before .before .before .before .before .before .before .before .if1 .taken) in
     let e3 = sym (c .before .before .before .before .before .before .before .before .before .before .before .before .before .before .read-field2 .ensures) ∙ ap (fieldView s) (c .before .before .before .before .before .before .before .before .before .before .before .before .tp .given .1) in
     let e4 = sym (c .before .before .before .before .before .before .before .before .before .before .read-field3 .ensures) ∙ ap (fieldView s) (c .before .before .before .before .before .before .before .before .index .given .1) in
     let e5 = sym (c .before .before .before .before .before .before .read-optional .ensures) ∙ ap (fieldView s) (c .before .before .before .before .alignment .given .1) in
     let e6 = sym (c .before .before .read-optional2 .ensures) ∙ ap (fieldView s) (c .enum-told5 .given .1) in
-    rw (e1, e2, e3, e4, e5, e6)
+    rw (e1, e2 .0, e2 .1, e3, e4, e5, e6)
 
 cast-t26 : tie.Need-cast-t26
 cast-t26 c =
@@ -122,24 +123,24 @@ cast-t28 c =
     omega (arith, optional-most _ 0 1 0 127 127 _ _ _ (omega arith) (omega arith) e)
 
 returns-6 : tie.Need-returns-6
-unfolding pointRecord
+unfolding pointRecord bitMap
 returns-6 c =
     let s = now (c .before .before .before .before .before .before .before .before .before .before .before .before .before .before .before .before .before .before .before .before .before .before .before .args .s) in
     let e1 = sym (c .before .before .before .before .before .before .before .before .before .before .before .before .before .before .before .before .before .before .before .before .before .read-field .ensures) ∙ ap (fieldView s) (c .before .before .before .before .before .before .before .before .before .before .before .before .before .before .before .before .before .before .before .map .given .1) in
-    let e2 = sym (c .before .before .before .before .before .before .before .before .before .before .before .before .before .before .before .before .before .point-map .ensures) ∙ c .before .before .before .before .before .before .before .before .before .before .before .before .before .before .before .before .if1 .taken in
+    let e2 = map-stands (c .before .before .before .before .before .before .before .before .before .before .before .before .before .before .before .before .before .before .before .map .given .0 .0) (sym (c .before .before .before .before .before .before .before .before .before .before .before .before .before .before .before .before .before .point-map .ensures) ∙ c .before .before .before .before .before .before .before .before .before .before .before .before .before .before .before .before .if1 .taken) in
     let e3 = sym (c .before .before .before .before .before .before .before .before .before .before .before .before .before .before .before .read-field2 .ensures) ∙ ap (fieldView s) (c .before .before .before .before .before .before .before .before .before .before .before .before .before .tp .given .1) in
     let e4 = sym (c .before .before .before .before .before .before .before .before .before .before .before .read-field3 .ensures) ∙ ap (fieldView s) (c .before .before .before .before .before .before .before .before .before .index .given .1) in
     let e5 = sym (c .before .before .before .before .before .before .before .read-optional .ensures) ∙ ap (fieldView s) (c .before .before .before .before .before .alignment .given .1) in
     let e6 = sym (c .before .before .before .read-optional2 .ensures) ∙ ap (fieldView s) (c .before .stopping .given .1) in
-    rw (e1, e2, e3, e4, e5, e6)
+    rw (e1, e2 .0, e2 .1, e3, e4, e5, e6)
 
 returns-7 : tie.Need-returns-7
-unfolding pointRecord
+unfolding pointRecord bitMap
 returns-7 c =
     let s = now (c .before .before .before .before .before .before .before .args .s) in
     let e1 = sym (c .before .before .before .before .before .read-field .ensures) ∙ ap (fieldView s) (c .before .before .before .map .given .1) in
     let e2 = sym (c .before .point-map .ensures) ∙ c .if1 .left in
-    rw (e1, e2)
+    rw e1 (map-missing (c .before .before .before .map .given .0 .0) _ _ e2)
 
 pub read-point-spec : {M : Type 1} → statement M
 read-point-spec =

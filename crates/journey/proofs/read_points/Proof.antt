@@ -9,7 +9,8 @@ use Rattle.wire.specs.Parse.{fieldView, counted}
 use Rattle.wire.proofs.ReaderLaws.{field-inv}
 use Rattle.journey.specs.Journey.{pointRecord}
 use Rattle.journey.proofs.Filling.{Reading, reading-none, reading-more, reading-bad, reading-end, counted-bad, counted-good}
-use Rattle.journey.specs.Answers.{pointView, blankJourneyPoint}
+use Rattle.journey.specs.View.{pointView}
+use Rattle.journey.specs.Journey.{blankJourneyPoint}
 use Rattle.journey.proofs.read_points.Statement.{statement}
 use Rattle.journey.proofs.read_points.Tie as tie
 

@@ -3,7 +3,8 @@ use mathlib.Core.Path.{_≡_}
 use lib.ListN.{drop}
 use native.Mathlib.Omega.{arith}
 use borrow.Author.Needs.{needs}
-use Rattle.journey.specs.Answers.{pointsIn, blankJourneyPoint}
+use Rattle.journey.specs.View.{pointsIn}
+use Rattle.journey.specs.Journey.{blankJourneyPoint}
 use Rattle.route.specs.Route.{endingOf}
 use Rattle.route.proofs.Loops.{left-more, left-none}
 use Rattle.route.proofs.end_index.Statement.{statement}

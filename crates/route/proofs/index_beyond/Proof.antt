@@ -1,17 +1,25 @@
-use Prim.Native.Nat.{_-_, _<_, _≤_, min}
+use Prim.Native.Nat.{ℕ, _-_, _<_, _≤_, min}
 use mathlib.Core.Path.{_≡_, refl, sym, _∙_}
 use lib.ListN.{length, drop, getD, length-take}
 use native.Mathlib.Omega.{arith}
 use borrow.Author.Needs.{needs}
 use borrow.Author.Tests.{le-leb, lt-leb}
-use Rattle.journey.specs.Answers.{namesIn, pointsIn, blankJourneyPoint}
-use Rattle.route.specs.Table.{indexBeyond}
+use Rattle.journey.specs.View.{namesIn, pointsIn}
+use Rattle.journey.specs.Journey.{blankJourneyPoint}
+use mathlib.Core.List.{List}
+use mathlib.Core.Bool.{Bool}
+use lib.Dec.{leb}
+use Rattle.wire.specs.Lists.{any}
+use Rattle.journey.specs.declared.JourneyPoint.{JourneyPoint}
 use Rattle.route.proofs.Loops.{left-more, left-none}
 use Rattle.route.proofs.index_beyond.Statement.{statement}
 use Rattle.route.proofs.index_beyond.Tie as tie
 
+abbrev beyond : ℕ → List JourneyPoint → Bool
+beyond n ps = any (λ p. leb n (p .index)) ps
+
 abbrev Inv-loop : tie.InvT-loop
-Inv-loop j segments n i₀ i = indexBeyond (length (namesIn j)) (pointsIn j) ≡ indexBeyond (length (namesIn j)) (drop i (pointsIn j))
+Inv-loop j segments n i₀ i = beyond (length (namesIn j)) (pointsIn j) ≡ beyond (length (namesIn j)) (drop i (pointsIn j))
 
 abbrev μ-loop : tie.MeasureT-loop
 μ-loop j segments n i₀ i = n - i

@@ -4,14 +4,16 @@ use lib.ListN.{drop}
 use native.Mathlib.Omega.{arith}
 use borrow.Author.Needs.{needs}
 use borrow.Author.Tests.{lt-ltb, le-ltb}
-use Rattle.journey.specs.Answers.{pointsIn, blankJourneyPoint}
-use Rattle.route.specs.Table.{indexFalls}
+use Rattle.journey.specs.View.{pointsIn}
+use Rattle.journey.specs.Journey.{blankJourneyPoint}
+use Rattle.wire.proofs.ListLaws.{fallsFrom, falls-from}
+use Rattle.route.specs.Table.{indices}
 use Rattle.route.proofs.Loops.{left-more, left-none}
 use Rattle.route.proofs.index_falls.Statement.{statement}
 use Rattle.route.proofs.index_falls.Tie as tie
 
 abbrev Inv-loop : tie.InvT-loop
-Inv-loop j n last₀ i₀ last i = indexFalls 0 (pointsIn j) ≡ indexFalls last (drop i (pointsIn j))
+Inv-loop j n last₀ i₀ last i = fallsFrom 0 (indices (pointsIn j)) ≡ fallsFrom last (indices (drop i (pointsIn j)))
 
 abbrev μ-loop : tie.MeasureT-loop
 μ-loop j n last₀ i₀ last i = n - i
@@ -32,7 +34,7 @@ returns : tie.Need-returns Inv-loop μ-loop
 returns c =
     let w = c .before .before .before .before .loop in
     let j = c .before .before .before .before .before .before .args .t1 in
-    sym (w .inv ∙ rw (left-more blankJourneyPoint (min (j .«point_count») 64) (w .i) (j .points) (omega arith) (omega arith), lt-ltb _ _ (c .if1 .taken)))
+    sym (w .inv ∙ rw (left-more blankJourneyPoint (min (j .«point_count») 64) (w .i) (j .points) (omega arith) (omega arith), lt-ltb _ _ (c .if1 .taken))) ∙ falls-from (indices (pointsIn j))
 
 add-i : tie.Need-add-i Inv-loop μ-loop
 add-i c = omega arith
@@ -50,7 +52,7 @@ returns-2 : tie.Need-returns-2 Inv-loop μ-loop
 returns-2 c =
     let w = c .before .loop in
     let j = c .before .before .before .args .t1 in
-    sym (w .inv ∙ rw (left-none blankJourneyPoint (min (j .«point_count») 64) (w .i) (j .points) (omega arith)))
+    sym (w .inv ∙ rw (left-none blankJourneyPoint (min (j .«point_count») 64) (w .i) (j .points) (omega arith))) ∙ falls-from (indices (pointsIn j))
 
 pub index-falls-spec : {M : Type 1} → statement M
 index-falls-spec =

@@ -2,7 +2,7 @@ use denote.Ref.{now}
 use Rattle.book.specs.Book.{lookupPoint}
 use mathlib.Core.Path.{sym, ap, _∙_}
 use borrow.Author.Tests.{not-true, not-false}
-use Rattle.book.specs.Answers.{entrySegment, pointView}
+use Rattle.book.specs.View.{entrySegment, pointView}
 use Rattle.route.proofs.Placed.{unbooked-lacks, booked-lacks}
 use borrow.Author.Needs.{needs}
 use Rattle.route.proofs.lacks.Statement.{statement}

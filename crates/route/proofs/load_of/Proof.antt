@@ -1,7 +1,7 @@
 use mathlib.Core.Path.{_≡_}
 use native.Mathlib.Omega.{arith}
 use lib.ListN.{length, length-take}
-use Rattle.journey.specs.Answers.{namesIn, pointsIn}
+use Rattle.journey.specs.View.{namesIn, pointsIn}
 use borrow.Author.Needs.{needs}
 use Rattle.route.proofs.load_of.Statement.{statement}
 use Rattle.route.proofs.load_of.Tie as tie

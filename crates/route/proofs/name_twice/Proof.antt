@@ -3,14 +3,16 @@ use mathlib.Core.Path.{_≡_, refl, sym, _∙_}
 use lib.ListN.{drop}
 use native.Mathlib.Omega.{arith}
 use borrow.Author.Needs.{needs}
-use Rattle.journey.specs.Answers.{namesIn, blankName}
-use Rattle.route.specs.Table.{nameTwice}
+use Rattle.journey.specs.View.{namesIn}
+use Rattle.journey.specs.Journey.{blankName}
+use Rattle.wire.specs.Lists.{twice}
+use Rattle.route.specs.Table.{sameName}
 use Rattle.route.proofs.Loops.{left-more, left-none}
 use Rattle.route.proofs.name_twice.Statement.{statement}
 use Rattle.route.proofs.name_twice.Tie as tie
 
 abbrev Inv-loop : tie.InvT-loop
-Inv-loop j n i₀ i = nameTwice (namesIn j) ≡ nameTwice (drop i (namesIn j))
+Inv-loop j n i₀ i = twice sameName (namesIn j) ≡ twice sameName (drop i (namesIn j))
 
 abbrev μ-loop : tie.MeasureT-loop
 μ-loop j n i₀ i = n - i

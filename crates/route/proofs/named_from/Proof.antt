@@ -3,14 +3,16 @@ use lib.ListN.{drop}
 use mathlib.Core.Path.{_≡_, refl, sym, _∙_}
 use native.Mathlib.Omega.{arith}
 use borrow.Author.Needs.{needs}
-use Rattle.journey.specs.Answers.{namesIn, blankName}
-use Rattle.route.specs.Table.{named}
+use Rattle.journey.specs.View.{namesIn}
+use Rattle.journey.specs.Journey.{blankName}
+use Rattle.wire.specs.Lists.{any}
+use Rattle.route.specs.View.{isNamed}
 use Rattle.route.proofs.Loops.{left-more, left-none}
 use Rattle.route.proofs.named_from.Statement.{statement}
 use Rattle.route.proofs.named_from.Tie as tie
 
 abbrev Inv-loop : tie.InvT-loop
-Inv-loop from nidc nidsp j n i₀ i = named nidc nidsp (drop from (namesIn j)) ≡ named nidc nidsp (drop i (namesIn j))
+Inv-loop from nidc nidsp j n i₀ i = any (isNamed nidc nidsp) (drop from (namesIn j)) ≡ any (isNamed nidc nidsp) (drop i (namesIn j))
 
 abbrev μ-loop : tie.MeasureT-loop
 μ-loop from nidc nidsp j n i₀ i = n - i

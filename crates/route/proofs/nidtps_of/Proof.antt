@@ -4,7 +4,8 @@ use mathlib.Core.List.{_++_}
 use lib.ListN.{length, getD, drop, take, length-set}
 use native.Mathlib.Omega.{arith}
 use borrow.Author.Needs.{needs}
-use Rattle.journey.specs.Answers.{pointsIn, blankJourneyPoint}
+use Rattle.journey.specs.View.{pointsIn}
+use Rattle.journey.specs.Journey.{blankJourneyPoint}
 use Rattle.route.specs.Table.{nidtps}
 use Rattle.route.proofs.Loops.{left-more, left-none}
 use Rattle.route.proofs.Placed.{nidtps-more, nidtps-all}

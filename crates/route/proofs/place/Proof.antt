@@ -7,35 +7,31 @@ use lib.ListN.{length, length-take}
 use native.Mathlib.Omega.{arith}
 use borrow.Author.Needs.{needs}
 use Rattle.book.specs.Book.{BookSegment}
-use Rattle.book.specs.Answers.{segmentsIn}
+use Rattle.book.specs.View.{segmentsIn}
 use Rattle.journey.specs.Journey.{JourneyValue}
-use Rattle.journey.specs.Answers.{namesIn, pointsIn, valueIn}
-use Rattle.route.specs.Placing.{segmentsOf, recordPoints, pointsOf}
-use Rattle.route.specs.Table.{mismatched, disordered}
-use Rattle.route.proofs.Placed.{index-fits}
-use Rattle.route.proofs.Rows.{mismatched-same, points-are, disordered-same, row-10, row-11, row-12, no-row, told-refused, told-loaded}
+use Rattle.journey.specs.View.{pointsIn, valueIn}
+use Rattle.route.specs.Placing.{pointsOf}
+use Rattle.wire.proofs.ListLaws.{or-false}
+use Rattle.route.proofs.Rows.{eleven, twelve, twelve-same, row-10, row-11, row-12, no-row, told-refused, told-loaded}
 use Rattle.route.proofs.place.Statement.{statement}
 use Rattle.route.proofs.place.Tie as tie
 
-abbrev bookAt : tie.After-mismatched → List BookSegment
+abbrev bookAt : tie.After-row-11 → List BookSegment
 bookAt c = segmentsIn (now (c .before .before .before .before .args .s)) (c .before .before .before .before .args .b)
 
-abbrev valueAt : tie.After-mismatched → JourneyValue
+abbrev valueAt : tie.After-row-11 → JourneyValue
 valueAt c = valueIn (c .before .before .before .before .args .j)
 
-few : (c : tie.After-mismatched) → length (namesIn (c .before .before .before .before .args .j)) ≤ 40
-few c = rw length-take (omega arith)
-
-most : (c : tie.After-mismatched) → length (pointsIn (c .before .before .before .before .args .j)) ≤ 64
+most : (c : tie.After-row-11) → length (pointsIn (c .before .before .before .before .args .j)) ≤ 64
 most c = rw length-take (omega arith)
 
-mismatch-is : (c : tie.After-mismatched) → mismatched (segmentsOf (bookAt c) (valueAt c .names)) (recordPoints (bookAt c) (valueAt c .names)) (valueAt c) ≡ c .mismatched .result
-mismatch-is c = sym (mismatched-same _ (bookAt c) (valueAt c) _ (few c) (c .before .before .place-segments .ensures)) ∙ sym (c .mismatched .ensures)
+eleven-is : (c : tie.After-row-11) → eleven (bookAt c) (valueAt c) ≡ c .row-11 .result
+eleven-is c = sym (c .row-11 .ensures (bookAt c) (c .before .before .place-segments .ensures))
 
-disorder-is : (c : tie.After-disordered) → disordered (pointsOf (bookAt (c .before .before .before .before)) (valueAt (c .before .before .before .before) .names) (valueAt (c .before .before .before .before) .points)) (valueAt (c .before .before .before .before)) ≡ c .disordered .result
-disorder-is c =
+twelve-is : (c : tie.After-row-12) → twelve (pointsOf (bookAt (c .before .before .before .before)) (valueAt (c .before .before .before .before))) (valueAt (c .before .before .before .before)) ≡ c .row-12 .result
+twelve-is c =
     let k = c .before .before .before .before in
-    sym (disordered-same _ (bookAt k) (valueAt k) _ (few k) (k .before .before .place-segments .ensures) _ (c .before .place-points .ensures) (most k)) ∙ sym (c .disordered .ensures)
+    sym (twelve-same (bookAt k) (valueAt k) _ (c .before .place-points .ensures (bookAt k) (k .before .before .place-segments .ensures)) (most k)) ∙ sym (c .row-12 .ensures)
 
 place-segments-requires : tie.Need-place-segments-requires
 place-segments-requires c κs = c .before .pre
@@ -43,8 +39,8 @@ place-segments-requires c κs = c .before .pre
 name-twice-requires : tie.Need-name-twice-requires
 name-twice-requires c κs = search needs
 
-mismatched-requires : tie.Need-mismatched-requires
-mismatched-requires c κs = search needs
+row-11-requires : tie.Need-row-11-requires
+row-11-requires c κs = search needs
 
 refused-requires : tie.Need-refused-requires
 refused-requires c κs = search needs
@@ -60,15 +56,15 @@ refused-requires-2 c κs = search needs
 returns-2 : tie.Need-returns-2
 returns-2 c =
     let k = c .before .before .before in
-    told-refused _ 11 _ refl (c .refused2 .ensures) (row-11 (bookAt k) (valueAt k) (sym (k .before .name-twice .ensures) ∙ c .before .before .if1 .left) (mismatch-is k ∙ c .before .if2 .taken))
+    told-refused _ 11 _ refl (c .refused2 .ensures) (row-11 (bookAt k) (valueAt k) (sym (k .before .name-twice .ensures) ∙ c .before .before .if1 .left) (eleven-is k ∙ c .before .if2 .taken))
 
 place-points-requires : tie.Need-place-points-requires
 place-points-requires c κs =
     let k = c .before .before in
-    (index-fits _ _ (valueAt k) (sym (k .mismatched .ensures) ∙ c .if2 .left), k .before .before .place-segments .ensures .fit)
+    (or-false _ _ (eleven-is k ∙ c .if2 .left) .0, k .before .before .place-segments .ensures .fit)
 
-disordered-requires : tie.Need-disordered-requires
-disordered-requires c κs = search needs
+row-12-requires : tie.Need-row-12-requires
+row-12-requires c κs = search needs
 
 refused-requires-3 : tie.Need-refused-requires-3
 refused-requires-3 c κs = search needs
@@ -77,7 +73,7 @@ returns-3 : tie.Need-returns-3
 returns-3 c =
     let d = c .before .before in
     let k = d .before .before .before .before in
-    told-refused _ 12 _ refl (c .refused3 .ensures) (row-12 (bookAt k) (valueAt k) (sym (k .before .name-twice .ensures) ∙ d .before .before .before .if1 .left) (mismatch-is k ∙ d .before .before .if2 .left) (disorder-is d ∙ c .before .if3 .taken))
+    told-refused _ 12 _ refl (c .refused3 .ensures) (row-12 (bookAt k) (valueAt k) (sym (k .before .name-twice .ensures) ∙ d .before .before .before .if1 .left) (eleven-is k ∙ d .before .before .if2 .left) (twelve-is d ∙ c .before .if3 .taken))
 
 load-of-requires : tie.Need-load-of-requires
 load-of-requires c κs = search needs
@@ -87,8 +83,8 @@ returns-4 c =
     let d = c .before .before .before .before in
     let k = d .before .before .before .before in
     let m = k .before .before .place-segments in
-    told-loaded (bookAt k) (valueAt k) _ _ _ (c .before .before .load-of .ensures) (points-are _ (bookAt k) (valueAt k) _ (few k) (m .ensures) _ (d .before .place-points .ensures) (most k)) (m .ensures .segments)
-    (no-row (bookAt k) (valueAt k) (sym (k .before .name-twice .ensures) ∙ d .before .before .before .if1 .left) (mismatch-is k ∙ d .before .before .if2 .left) (disorder-is d ∙ c .before .before .before .if3 .left))
+    told-loaded (bookAt k) (valueAt k) _ _ _ (c .before .before .load-of .ensures) (d .before .place-points .ensures (bookAt k) (m .ensures)) (m .ensures .segments)
+    (no-row (bookAt k) (valueAt k) (sym (k .before .name-twice .ensures) ∙ d .before .before .before .if1 .left) (eleven-is k ∙ d .before .before .if2 .left) (twelve-is d ∙ c .before .before .before .if3 .left))
 
 pub place-spec : {M : Type 1} → statement M
 place-spec =
@@ -96,13 +92,13 @@ place-spec =
     (tie.spec
     place-segments-requires
     name-twice-requires
-    mismatched-requires
+    row-11-requires
     refused-requires
     returns
     refused-requires-2
     returns-2
     place-points-requires
-    disordered-requires
+    row-12-requires
     refused-requires-3
     returns-3
     load-of-requires

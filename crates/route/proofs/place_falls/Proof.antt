@@ -3,7 +3,7 @@ use mathlib.Core.Path.{_≡_, refl, sym, _∙_}
 use lib.ListN.{length, drop, take}
 use native.Mathlib.Omega.{arith}
 use borrow.Author.Needs.{needs}
-use Rattle.route.specs.Table.{placeFalls}
+use Rattle.route.proofs.Loops.{placeFalls, places-fall}
 use Rattle.route.proofs.Loops.{left-more, left-none}
 use Rattle.engine_value.specs.Engine.{blankPoint}
 use Rattle.route.proofs.place_falls.Statement.{statement}
@@ -23,7 +23,7 @@ returns c =
     let w = c .before .before .loop in
     let a = c .before .before .before .args in
     let z : length (a .t1) ≡ 64 = c .before .before .before .good .0 .1 .0 .1 in
-    sym (w .inv ∙ rw (left-none blankPoint (min (a .n) 64) (w .i) (a .t1) (omega arith)))
+    sym (w .inv ∙ rw (left-none blankPoint (min (a .n) 64) (w .i) (a .t1) (omega arith))) ∙ places-fall (take (min (a .n) 64) (a .t1))
 
 mul-p : tie.Need-mul-p Inv-loop μ-loop
 mul-p c = omega arith
@@ -39,7 +39,7 @@ returns-2 c =
     let w = c .before .before .before .before .before .loop in
     let a = c .before .before .before .before .before .before .args in
     let z : length (a .t1) ≡ 64 = c .before .before .before .before .before .before .good .0 .1 .0 .1 in
-    sym (w .inv ∙ rw (left-more blankPoint (min (a .n) 64) (w .i) (a .t1) (omega arith) (omega arith), sym (c .before .falls .ensures) ∙ c .if2 .taken))
+    sym (w .inv ∙ rw (left-more blankPoint (min (a .n) 64) (w .i) (a .t1) (omega arith) (omega arith), sym (c .before .falls .ensures) ∙ c .if2 .taken)) ∙ places-fall (take (min (a .n) 64) (a .t1))
 
 least-after-requires : tie.Need-least-after-requires Inv-loop μ-loop
 least-after-requires c κs = search needs
@@ -62,7 +62,7 @@ returns-3 c =
     let w = c .before .loop in
     let a = c .before .before .args in
     let z : length (a .t1) ≡ 64 = c .before .before .good .0 .1 .0 .1 in
-    sym (w .inv ∙ rw (left-none blankPoint (min (a .n) 64) (w .i) (a .t1) (omega arith)))
+    sym (w .inv ∙ rw (left-none blankPoint (min (a .n) 64) (w .i) (a .t1) (omega arith))) ∙ places-fall (take (min (a .n) 64) (a .t1))
 
 pub place-falls-spec : {M : Type 1} → statement M
 place-falls-spec =

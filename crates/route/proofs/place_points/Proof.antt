@@ -1,15 +1,16 @@
 use Prim.Native.Nat.{_-_, _<_, _≤_, min}
-use mathlib.Core.Path.{_≡_, refl, sym, _∙_}
+use mathlib.Core.Path.{_≡_, refl, sym, ap, _∙_}
 use lib.ListN.{length, getD, drop, length-map, length-take}
 use native.Mathlib.Omega.{arith}
 use denote.Ref.{now}
 use borrow.Author.Needs.{needs}
-use Rattle.engine_value.specs.Engine.{blankSegment}
-use Rattle.book.specs.Answers.{blankEntry}
-use Rattle.journey.specs.Answers.{pointsIn, blankJourneyPoint}
+use Rattle.engine_value.specs.Engine.{blankSegment, blankPoint, filled}
+use Rattle.book.specs.View.{blankEntry}
+use Rattle.journey.specs.View.{namesIn, pointsIn, valueIn}
+use Rattle.journey.specs.Journey.{blankJourneyPoint}
 use Rattle.route.proofs.Loops.{left-more, left-none, getD-there}
-use Rattle.route.specs.Answers.{recordsIn}
-use Rattle.route.proofs.Placed.{index-below, entry-point, point-fits, point-is, PlacedPoints, points-none, points-more, points-end}
+use Rattle.route.specs.View.{recordsIn}
+use Rattle.route.proofs.Placed.{index-below, entry-point, point-fits, point-is, points-same, PlacedPoints, points-none, points-more, points-end}
 use Rattle.route.proofs.place_points.Statement.{statement}
 use Rattle.route.proofs.place_points.Tie as tie
 
@@ -106,7 +107,9 @@ returns c =
     let w = c .before .loop in
     let a = c .before .before .before .before .before .args in
     let j = a .t1 in
-    points-end (a .t2 .segments) (recordsIn (now (a .s)) (a .t2)) (pointsIn j) (w .i) (w .points) (left-none blankJourneyPoint (min (j .«point_count») 64) (w .i) (j .points) (omega arith)) (w .inv)
+    let few : length (namesIn j) ≤ 40 = rw length-take (omega arith) in
+    λ book h. points-end (a .t2 .segments) (recordsIn (now (a .s)) (a .t2)) (pointsIn j) (w .i) (w .points) (left-none blankJourneyPoint (min (j .«point_count») 64) (w .i) (j .points) (omega arith)) (w .inv)
+    ∙ ap (filled 64 blankPoint) (points-same (now (a .s)) book (valueIn j) (a .t2) few h (c .before .before .before .before .before .pre .0))
 
 pub place-points-spec : {M : Type 1} → statement M
 place-points-spec =

@@ -1,20 +1,23 @@
 use Prim.Native.Nat.{_-_, _<_, _≤_, min}
+use mathlib.Core.Path.{sym}
 use lib.ListN.{length, getD, length-take}
+use lib.Seq.{getD-take}
 use native.Mathlib.Omega.{arith}
 use borrow.Author.Needs.{needs}
-use Rattle.journey.specs.Answers.{namesIn, blankName}
+use Rattle.journey.specs.View.{namesIn}
+use Rattle.journey.specs.Journey.{blankName}
 use Rattle.route.proofs.Loops.{left-more, left-none}
 use denote.Ref.{now}
-use Rattle.book.specs.Answers.{segmentsIn}
+use Rattle.book.specs.View.{segmentsIn}
 use Rattle.route.proofs.Placed.{Placed, placed-none, placed-more, placed-end, next-length}
 use Rattle.route.proofs.place_segments.Statement.{statement}
 use Rattle.route.proofs.place_segments.Tie as tie
 
 abbrev Inv-loop : tie.InvT-loop
-Inv-loop b s j n m₀ before₀ start₀ i₀ m before start i = Placed s (segmentsIn s b) (namesIn j) i (m .segments) (m .entries) before start
+Inv-loop b s j n m₀ placed₀ start₀ i₀ m placed start i = Placed s (segmentsIn s b) (namesIn j) i (m .segments) (m .entries) placed start
 
 abbrev μ-loop : tie.MeasureT-loop
-μ-loop b s j n m₀ before₀ start₀ i₀ m before start i = n - i
+μ-loop b s j n m₀ placed₀ start₀ i₀ m placed start i = n - i
 
 name-count-requires : tie.Need-name-count-requires Inv-loop μ-loop
 name-count-requires c κs = search needs
@@ -41,6 +44,9 @@ record-of-requires c κs = search needs
 entry-in-requires : tie.Need-entry-in-requires Inv-loop μ-loop
 entry-in-requires c κs = search needs
 
+goes-on-requires : tie.Need-goes-on-requires Inv-loop μ-loop
+goes-on-requires c κs = search needs
+
 segment-of-requires : tie.Need-segment-of-requires Inv-loop μ-loop
 segment-of-requires c κs = search needs
 
@@ -55,9 +61,6 @@ mul-e c = omega arith
 
 element-set-from-e : tie.Need-element-set-from-e Inv-loop μ-loop
 element-set-from-e c = omega arith
-
-goes-on-requires : tie.Need-goes-on-requires Inv-loop μ-loop
-goes-on-requires c κs = search needs
 
 add-start : tie.Need-add-start Inv-loop μ-loop
 add-start c =
@@ -82,8 +85,8 @@ loop-again c =
     let j = a .t1 in
     let s = now (a .s) in
     let n : w .i < length (namesIn j) = rw length-take (omega arith) in
-    placed-more s (segmentsIn s (a .b)) (namesIn j) (w .i) (w .m .segments) (w .m .entries) (w .before) (w .start) (getD (j .names) (w .i) blankName) (c .before .before .before .before .record-of .result) _ _ _ (c .before .before .before .before .before .before .before .before .before .before .before .pre) n
-    (left-more blankName (min (j .«name_count») 40) (w .i) (j .names) (omega arith) (omega arith)) (c .before .before .before .before .record-of .ensures s) (c .before .before .before .entry-in .ensures) (c .before .before .segment-of .ensures) (c .before .goes-on .ensures s) (w .inv)
+    placed-more s (segmentsIn s (a .b)) (namesIn j) (w .i) (w .m .segments) (w .m .entries) (w .placed) (w .start) (getD (j .names) (w .i) blankName) (c .before .before .before .before .record-of .result) _ _ _ (c .before .before .before .before .before .before .before .before .before .before .before .pre) n
+    (left-more blankName (min (j .«name_count») 40) (w .i) (j .names) (omega arith) (omega arith)) (sym (getD-take (min (j .«name_count») 40) (j .names) (w .i) blankName (omega arith))) (c .before .before .before .before .record-of .ensures s) (c .before .before .before .entry-in .ensures) (c .before .before .goes-on .ensures s) (c .before .segment-of .ensures) (w .inv)
 
 returns : tie.Need-returns Inv-loop μ-loop
 returns c =
@@ -92,7 +95,7 @@ returns c =
     let j = a .t1 in
     let s = now (a .s) in
     let n : length (namesIn j) ≤ w .i = rw length-take (omega arith) in
-    placed-end s (segmentsIn s (a .b)) (namesIn j) (w .i) (w .m .segments) (w .m .entries) (w .before) (w .start) (c .before .before .before .before .before .pre) n (left-none blankName (min (j .«name_count») 40) (w .i) (j .names) (omega arith)) (w .inv)
+    placed-end s (segmentsIn s (a .b)) (namesIn j) (w .i) (w .m .segments) (w .m .entries) (w .placed) (w .start) (c .before .before .before .before .before .pre) n (left-none blankName (min (j .«name_count») 40) (w .i) (j .names) (omega arith)) (w .inv)
 
 pub place-segments-spec : {M : Type 1} → statement M
 place-segments-spec =
@@ -107,12 +110,12 @@ place-segments-spec =
     element-copy-out-name
     record-of-requires
     entry-in-requires
+    goes-on-requires
     segment-of-requires
     mul-g
     element-set-from-g
     mul-e
     element-set-from-e
-    goes-on-requires
     add-start
     add-i
     loop-less

@@ -2,8 +2,9 @@ use Prim.Native.Nat.{ℕ, min}
 use mathlib.Core.Path.{ap, _∙_}
 use lib.ListN.{length, take, length-map, length-take}
 use native.Mathlib.Omega.{arith}
-use Rattle.book.specs.Book.{twice}
-use Rattle.journey.specs.Answers.{pointsIn}
+use lib.Dec.{eqb}
+use Rattle.wire.specs.Lists.{twice}
+use Rattle.journey.specs.View.{pointsIn}
 use Rattle.journey.specs.declared.JourneyPoint.{JourneyPoint}
 use borrow.Author.Needs.{needs}
 use Rattle.route.proofs.point_twice.Statement.{statement}
@@ -31,7 +32,7 @@ repeated-requires c κs = search needs
 returns : tie.Need-returns
 returns c =
     let n = c .before .before .before .point-count in
-    c .repeated .ensures ∙ ap twice (ap (λ (k : ℕ). take k (c .before .before .nidtps-of .result)) (n .ensures .0) ∙ c .before .before .nidtps-of .ensures)
+    c .repeated .ensures ∙ ap (twice eqb) (ap (λ (k : ℕ). take k (c .before .before .nidtps-of .result)) (n .ensures .0) ∙ c .before .before .nidtps-of .ensures)
 
 pub point-twice-spec : {M : Type 1} → statement M
 point-twice-spec =

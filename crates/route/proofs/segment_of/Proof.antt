@@ -18,7 +18,7 @@ returns : tie.Need-returns
 returns c = rw (c .before .before .r .given .1) (c .booked-segment .ensures)
 
 returns-2 : tie.Need-returns-2
-returns-2 c = rw (c .before .enum-told .given .1) (c .missing-segment .ensures _ _)
+returns-2 c = rw (c .before .enum-told .given .1) (c .missing-segment .ensures)
 
 pub segment-of-spec : {M : Type 1} → statement M
 segment-of-spec =

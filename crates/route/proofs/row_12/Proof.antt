@@ -2,17 +2,15 @@ use mathlib.Core.Path.{_≡_, sym, _∙_}
 use native.Mathlib.Omega.{arith}
 use Prim.Native.Nat.{min}
 use lib.ListN.{length, length-take}
-use Rattle.journey.specs.Answers.{pointsIn}
-use Rattle.route.specs.Table.{disordered}
+use Rattle.journey.specs.View.{pointsIn}
 use borrow.Author.Needs.{needs}
-use Rattle.route.proofs.disordered.Statement.{statement}
-use Rattle.route.proofs.disordered.Tie as tie
+use Rattle.route.proofs.row_12.Statement.{statement}
+use Rattle.route.proofs.row_12.Tie as tie
 
 index-falls-requires : tie.Need-index-falls-requires
 index-falls-requires c κs = search needs
 
 returns : tie.Need-returns
-unfolding disordered
 returns c = rw (sym (c .before .index-falls .ensures) ∙ c .if1 .taken)
 
 point-count-requires : tie.Need-point-count-requires
@@ -22,13 +20,12 @@ place-falls-requires : tie.Need-place-falls-requires
 place-falls-requires c κs = search needs
 
 returns-2 : tie.Need-returns-2
-unfolding disordered
 returns-2 c =
     let a = c .before .before .before .before .args in
     let n : length (pointsIn (a .j)) ≡ min (c .before .point-count .result) 64 = rw length-take (omega arith) in
     rw (sym (c .before .before .before .index-falls .ensures) ∙ c .before .before .if1 .left, n) (c .place-falls .ensures)
 
-pub disordered-spec : {M : Type 1} → statement M
-disordered-spec =
+pub row-12-spec : {M : Type 1} → statement M
+row-12-spec =
     tie.close
     (tie.spec index-falls-requires returns point-count-requires place-falls-requires returns-2)

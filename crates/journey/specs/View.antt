@@ -1,8 +1,8 @@
--- What the answers of the journey's functions say of the bytes s.
+-- What the values of the code say of the journey's bytes s.
 use Prim.Native.Nat.{ℕ, _≤_, min}
 use mathlib.Core.Path.{_≡_}
 use mathlib.Core.List.{List}
-use mathlib.Core.Bool.{true, false}
+use mathlib.Core.Bool.{true}
 use lib.ListN.{length, drop, take, replicate}
 use lib.Dec.{eqb}
 use Rattle.wire.specs.Numbers.{if_then_else_}
@@ -10,7 +10,7 @@ use Rattle.wire.specs.Parse.{Parse, counted}
 use Rattle.wire.specs.Parse.Parse.{bad, good}
 use Rattle.wire.specs.Judged.{Judged}
 use Rattle.wire.specs.Judged.Judged.{refuse, accept}
-use Rattle.journey.specs.Journey.{JourneyValue, nameRecord, pointRecord, journeyValue}
+use Rattle.journey.specs.Journey.{blankName, blankJourneyPoint, blankHead, JourneyValue, nameRecord, pointRecord, journeyValue}
 use Rattle.journey.specs.declared.Name.{Name}
 use Rattle.journey.specs.declared.JourneyPoint.{JourneyPoint}
 use Rattle.journey.specs.declared.Head.{Head}
@@ -33,14 +33,6 @@ pointView s PointRead.Bad = bad
 abbrev pub headView : List ℕ → HeadRead → Parse Head
 headView s (HeadRead.Read h next) = good h (drop next s)
 headView s HeadRead.Bad = bad
-
--- ---- what stands in the arrays beyond the counts
-
-abbrev pub blankName : Name
-blankName = record { nidc = 0; nidsp = 0 }
-
-abbrev pub blankJourneyPoint : JourneyPoint
-blankJourneyPoint = record { nidtp = 0; index = 0; alignment = 0; stopping = 0; stop = false; trackside = false; end = false }
 
 abbrev pub namesView : List ℕ → Names → Parse (List Name)
 namesView s r = if r .ok then good (take (r .count) (r .names)) (drop (r .next) s) else bad
@@ -72,9 +64,6 @@ valueIn j = record { head = j .head; names = namesIn j; points = pointsIn j }
 
 abbrev pub journeyView : Journey → Judged JourneyValue
 journeyView j = if eqb (j .number) 0 then accept (valueIn j) else refuse (j .number)
-
-abbrev pub blankHead : Head
-blankHead = record { operational = 0; date = 0; seconds = 0; counter = 0; atots = 0 }
 
 -- "Every refusal returns the number only"
 abbrev pub refusedBy : ℕ → Journey
