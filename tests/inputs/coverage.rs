@@ -1,9 +1,10 @@
 //! Counts what the lists of calls bring up.
 
 use model::calls::Call;
-use model::engine::{Answer, Engine};
-use model::events::UNDEFINED;
+use model::engine::{Answer, Engine, EG};
+use model::events::{LOAD, POSITION_REPORT, UNDEFINED};
 use model::packets::{split_packets, Content, Packet};
+use model::route::Segment;
 use model::words::STATES;
 use std::collections::BTreeMap;
 
@@ -37,13 +38,13 @@ impl Coverage {
     /// Situations that document 01's edges lie in.
     fn count_situations(&mut self, kind: u8, before: &Engine, after: &Engine) {
         let (was, now) = (&before.now, &after.now);
-        let (load, report) = (kind == 11, kind == 9);
+        let (load, report) = (kind == LOAD, kind == POSITION_REPORT);
         let points = after.route.points().len() as u8;
         let segment = now.segment.map(|k| after.route.segments()[usize::from(k)]);
-        let beyond = |s: &model::route::Segment| s.booked && now.position.offset > s.length;
+        let beyond = |s: &Segment| s.booked && now.position.offset > s.length;
         let mut note = |name, holds: bool| *self.situations.entry(name).or_default() += usize::from(holds);
         note("load at a reached stop", load && was.reached);
-        note("load in EG", load && was.state == 5);
+        note("load in EG", load && was.state == EG);
         note("load puts points behind", load && now.first > 0);
         note("load leaves none", load && now.first == points);
         note(
@@ -52,7 +53,7 @@ impl Coverage {
         );
         note("several points passed in a report", report && now.first >= was.first + 2);
         note("departed and passed more", report && was.reached && now.first >= was.first + 2);
-        note("stop reached in EG", report && was.state == 5 && now.reached && !was.reached);
+        note("stop reached in EG", report && was.state == EG && now.reached && !was.reached);
         note("End of Journey not the last point", load && after.route.end + 1 < points);
         note("End of Journey reached as a stop", report && now.reached && now.first == after.route.end && !was.reached);
         note("target not placed", now.loaded && now.first < points && now.first >= after.route.placed_points);
@@ -64,7 +65,7 @@ impl Coverage {
         );
         note("within a zone", now.conditions & 0x80 == 0);
         note("driver skip in force", now.skips != 0);
-        note("reached stop held in EG", now.reached && now.state == 5);
+        note("reached stop held in EG", now.reached && now.state == EG);
     }
 
     fn count_packet(&mut self, bytes: &[u8]) {

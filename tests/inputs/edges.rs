@@ -7,7 +7,7 @@ use crate::script::{Script, Start, STARTS};
 use crate::trials::all_trials;
 use model::calls::Call;
 use model::engine::behind_front;
-use model::events::UNDEFINED;
+use model::events::{LOAD, POSITION_REPORT, REVOKE, SKIP, UNDEFINED};
 use model::values::JourneyPoint;
 
 /// Trials P1 to P8 of document 01.
@@ -27,10 +27,10 @@ fn kinds_in_states(script: &mut Script) {
         for event in &events {
             script.start(start);
             match event[0] {
-                11 => script.load(&p_journey()),
-                9 => script.at(20_100, 7),
-                12 => script.skip(7001),
-                13 => script.revoke(7001),
+                LOAD => script.load(&p_journey()),
+                POSITION_REPORT => script.at(20_100, 7),
+                SKIP => script.skip(7001),
+                REVOKE => script.revoke(7001),
                 _ => script.call(Call::of(event.clone())),
             };
             script.off();

@@ -53,7 +53,7 @@ fn single_faults() -> Vec<Trial> {
     trials
 }
 
-/// Two faults of neighbouring rows: the row above refuses. The lower fault is put in first or last.
+/// Two faults of neighbouring rows: the row above refuses, though its fault is put in last.
 fn pairs() -> Vec<Trial> {
     let all: Vec<&Fault> = BOOK_FAULTS.iter().chain(JOURNEY_FAULTS).collect();
     let mut trials = Vec::new();

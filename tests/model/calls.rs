@@ -1,6 +1,7 @@
 //! The player's input as a list of calls, and the player's lines for an answer.
 
 use crate::engine::{Answer, Engine};
+use crate::events::{LOAD, POSITION_REPORT, REVOKE, SKIP};
 use crate::numbers::Numbers;
 use crate::packets::split_packets;
 use crate::words::hex;
@@ -11,7 +12,7 @@ pub const MEMORY: usize = 4096;
 #[derive(Clone, PartialEq, Eq, Debug, Default)]
 pub struct Call {
     pub event: Vec<u8>,
-    /// Lent after kind 11 only.
+    /// Lent after the kind of a load only.
     pub journey: Vec<u8>,
     pub book: Vec<u8>,
 }
@@ -55,7 +56,7 @@ impl Call {
     }
 
     pub fn position(nidc: u16, nidsp: u32, offset: u32, speed: u16) -> Call {
-        let mut event = vec![9];
+        let mut event = vec![POSITION_REPORT];
         event.extend(nidc.to_be_bytes());
         event.extend(nidsp.to_be_bytes());
         event.extend(offset.to_be_bytes());
@@ -68,15 +69,20 @@ impl Call {
     }
 
     pub fn load(journey: Vec<u8>, book: Vec<u8>) -> Call {
-        Call { event: vec![11], journey, book }
+        Call { event: vec![LOAD], journey, book }
     }
 
     pub fn skip(nidtp: u32) -> Call {
-        Call::with_number(12, nidtp)
+        Call::with_number(SKIP, nidtp)
     }
 
     pub fn revoke(nidtp: u32) -> Call {
-        Call::with_number(13, nidtp)
+        Call::with_number(REVOKE, nidtp)
+    }
+
+    /// A load of wrong length still brings its profiles.
+    pub fn lends_profiles(&self) -> bool {
+        self.event.first() == Some(&LOAD)
     }
 
     fn with_number(kind: u8, value: u32) -> Call {
@@ -91,11 +97,11 @@ fn read_bytes(from: &mut Numbers) -> Option<Vec<u8>> {
 
 /// `None` where the input is cut short.
 fn read_call(from: &mut Numbers) -> Option<Call> {
-    let event = read_bytes(from)?;
-    if event.first() != Some(&11) {
-        return Some(Call::of(event));
+    let mut call = Call::of(read_bytes(from)?);
+    if call.lends_profiles() {
+        (call.journey, call.book) = (read_bytes(from)?, read_bytes(from)?);
     }
-    Some(Call { event, journey: read_bytes(from)?, book: read_bytes(from)? })
+    Some(call)
 }
 
 pub fn read_calls(input: &[u8]) -> Vec<Call> {
@@ -109,7 +115,7 @@ fn write_call(call: &Call, to: &mut Vec<u8>) {
         to.extend(bytes);
     };
     put(&call.event);
-    if call.event.first() == Some(&11) {
+    if call.lends_profiles() {
         put(&call.journey);
         put(&call.book);
     }

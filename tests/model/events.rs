@@ -4,6 +4,12 @@ use crate::numbers::{within, Numbers};
 
 pub const UNDEFINED: u32 = 16_777_215;
 
+/// Kinds of events that are looked for by their number.
+pub const POSITION_REPORT: u8 = 9;
+pub const LOAD: u8 = 11;
+pub const SKIP: u8 = 12;
+pub const REVOKE: u8 = 13;
+
 #[derive(Clone, Copy, PartialEq, Eq, Debug)]
 pub struct Position {
     pub nidc: u16,
@@ -32,10 +38,10 @@ pub enum Event {
 pub fn read_event(bytes: &[u8]) -> Result<Event, u8> {
     let (&kind, fields) = bytes.split_first().ok_or(1)?;
     let size = match kind {
-        1..=4 | 8 | 11 => 0,
+        1..=4 | 8 | LOAD => 0,
         5..=7 => 1,
-        9 => 12,
-        10 | 12 | 13 => 4,
+        POSITION_REPORT => 12,
+        10 | SKIP | REVOKE => 4,
         _ => return Err(1),
     };
     if fields.len() != size {
@@ -55,15 +61,15 @@ fn read_fields(kind: u8, mut fields: Numbers) -> Option<Event> {
         6 => Event::Mode(within(fields.u8()?, 0, 1)?),
         7 => Event::Lever(within(fields.u8()?, 0, 2)?),
         8 => Event::Press,
-        9 => {
+        POSITION_REPORT => {
             let nidc = within(fields.u16()?, 0, 1023)?;
             let nidsp = fields.u32()?;
             let offset = within(fields.u32()?, 0, UNDEFINED)?;
             Event::Report(Position { nidc, nidsp, offset }, fields.u16()?)
         }
         10 => Event::Length(within(fields.u32()?, 1, 100_000)?),
-        11 => Event::Load,
-        12 => Event::Skip(fields.u32()?),
+        LOAD => Event::Load,
+        SKIP => Event::Skip(fields.u32()?),
         _ => Event::Revoke(fields.u32()?),
     })
 }

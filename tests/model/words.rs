@@ -102,7 +102,7 @@ fn record_in_words(record: &Record) -> String {
 pub fn call_in_words(call: &Call) -> Vec<String> {
     let event = read_event(&call.event).map_or(format!("bytes {}", hex(&call.event)), event_in_words);
     let mut lines = vec![event];
-    if call.event.first() != Some(&11) {
+    if !call.lends_profiles() {
         return lines;
     }
     match Journey::read(&call.journey) {
