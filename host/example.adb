@@ -23,24 +23,26 @@ procedure Example is
    function Hex (N : Unsigned_32; Width : Natural) return String is
      (if Width = 0 then "" else Hex (N / 16, Width - 1) & Symbols (Natural (N mod 16) + 1));
 
+   function Text (Kind : Unsigned_8; H : Hollwern.Packet_Header) return String is
+     ("" & Kind & " at " & H.Nidc & "/" & H.Nidsp & " " & H.Offset & " speed " & H.Speed & " operational " & Hex (H.Operational, 8));
+
    procedure Show_Packet (Packet : Bytes) is
-      P : constant Hollwern.Packet_Fields := Hollwern.Read (Packet'Address, Packet'Length);
-      H : Hollwern.Packet_Header renames P.Header;
+      Fields : constant Hollwern.Packet_Fields := Hollwern.Read (Packet'Address, Packet'Length);
+      P : Hollwern.Packet_62 renames Fields.Timing_Point;
+      R : Hollwern.Packet_65 renames Fields.Jp_Received;
+      S : Hollwern.Packet_68 renames Fields.Ato_Status;
    begin
-      if not P.Accepted then
-         Put_Line ("R " & P.Number);
-         return;
-      end if;
-      Put ("" & P.Kind & " at " & H.Nidc & "/" & H.Nidsp & " " & H.Offset & " speed " & H.Speed & " operational " & Hex (H.Operational, 8));
-      case P.Kind is
+      case Fields.Kind is
          when 62 =>
-            Put_Line (": point " & P.Nidc & "/" & P.Nidtp & " qeoj " & P.Qeoj & " alignment " & P.Alignment
+            Put_Line (Text (62, P.Header) & ": point " & P.Nidc & "/" & P.Nidtp & " qeoj " & P.Q_Eoj_Reached & " alignment " & P.Alignment
                       & " status " & P.Status & " stopping " & P.Stopping);
          when 65 =>
-            Put_Line (": nidc " & P.Nidc & " atots " & P.Atots & " date " & P.Date & " seconds " & P.Seconds
-                      & " counter " & P.Counter & " status " & P.Status);
+            Put_Line (Text (65, R.Header) & ": nidc " & R.Nidc & " atots " & R.Atots & " date " & R.Date & " seconds " & R.Seconds
+                      & " counter " & R.Counter & " status " & R.Status);
+         when 68 =>
+            Put_Line (Text (68, S.Header) & ": state " & S.State & " conditions " & Hex (Unsigned_32 (S.Conditions), 3));
          when others =>
-            Put_Line (": state " & P.State & " conditions " & Hex (Unsigned_32 (P.Conditions), 3));
+            Put_Line ("R " & Fields.Number);
       end case;
    end Show_Packet;
 
@@ -72,10 +74,14 @@ procedure Example is
    end Position;
 
    procedure Show is
+      S : constant Hollwern.Shown := Hollwern.Show (E);
    begin
-      Put_Line ("state " & Hollwern.State (E) & " request " & Unsigned_8 (C_bool'Pos (Hollwern.Request (E)))
-                & " conditions " & Hex (Unsigned_32 (Hollwern.Conditions (E)), 3)
-                & " points " & Hollwern.Standing (E, 0) & " " & Hollwern.Standing (E, 1));
+      Put ("state " & S.State & " request " & Unsigned_8 (C_bool'Pos (S.Request)) & " conditions " & Hex (Unsigned_32 (S.Conditions), 3)
+           & " points");
+      for K in 0 .. Natural (S.Point_Count) - 1 loop
+         Put (" " & S.Standings (K));
+      end loop;
+      New_Line;
    end Show;
 begin
    Hollwern.Fresh (E);

@@ -17,6 +17,15 @@ package Hollwern is
       Bytes : size_t;
    end record with Convention => C_Pass_By_Copy, Object_Size => 8 * 16;
 
+   type Standing_Codes is array (0 .. 63) of Unsigned_8;
+   type Shown is record
+      State : Unsigned_8;
+      Request : C_bool;
+      Conditions : Unsigned_16;
+      Point_Count : Unsigned_8;
+      Standings : Standing_Codes;
+   end record with Convention => C_Pass_By_Copy, Object_Size => 8 * 70;
+
    type Packet_Header is record
       Nidc : Unsigned_16;
       Nidsp, Offset : Unsigned_32;
@@ -24,28 +33,40 @@ package Hollwern is
       Operational : Unsigned_32;
    end record with Convention => C_Pass_By_Copy, Object_Size => 8 * 20;
 
+   type Packet_62 is record
+      Header : Packet_Header;
+      Nidc : Unsigned_16;
+      Nidtp : Unsigned_32;
+      Q_Eoj_Reached, Alignment, Status, Stopping : Unsigned_8;
+   end record with Convention => C_Pass_By_Copy, Object_Size => 8 * 32;
+
+   type Packet_65 is record
+      Header : Packet_Header;
+      Nidc, Atots, Date : Unsigned_16;
+      Seconds : Unsigned_32;
+      Counter, Status : Unsigned_8;
+   end record with Convention => C_Pass_By_Copy, Object_Size => 8 * 36;
+
+   type Packet_68 is record
+      Header : Packet_Header;
+      State : Unsigned_8;
+      Conditions : Unsigned_16;
+   end record with Convention => C_Pass_By_Copy, Object_Size => 8 * 24;
+
    type Packet_Fields is record
       Accepted : C_bool;
       Number, Kind : Unsigned_8;
       Size : size_t;
-      Header : Packet_Header;
-      Nidc : Unsigned_16;
-      Nidtp : Unsigned_32;
-      Qeoj, Alignment, Status, Stopping : Unsigned_8;
-      Atots, Date : Unsigned_16;
-      Seconds : Unsigned_32;
-      Counter, State : Unsigned_8;
-      Conditions : Unsigned_16;
-   end record with Convention => C_Pass_By_Copy, Object_Size => 8 * 64;
+      Timing_Point : Packet_62;
+      Jp_Received : Packet_65;
+      Ato_Status : Packet_68;
+   end record with Convention => C_Pass_By_Copy, Object_Size => 8 * 112;
 
    procedure Fresh (E : in out Engine) with Import, Convention => C, External_Name => "hollwern_fresh";
    function Step
      (E : in out Engine; Event : Address; Event_N : size_t; Journey : Address; Journey_N : size_t;
       Book : Address; Book_N : size_t; Output : Address; Output_N : size_t) return Answer
       with Import, Convention => C, External_Name => "hollwern_step";
-   function State (E : Engine) return Unsigned_8 with Import, Convention => C, External_Name => "hollwern_state";
-   function Request (E : Engine) return C_bool with Import, Convention => C, External_Name => "hollwern_request";
-   function Conditions (E : Engine) return Unsigned_16 with Import, Convention => C, External_Name => "hollwern_conditions";
-   function Standing (E : Engine; K : Unsigned_8) return Unsigned_8 with Import, Convention => C, External_Name => "hollwern_standing";
+   function Show (E : Engine) return Shown with Import, Convention => C, External_Name => "hollwern_show";
    function Read (Bytes : Address; N : size_t) return Packet_Fields with Import, Convention => C, External_Name => "hollwern_read";
 end Hollwern;

@@ -2,12 +2,15 @@
  * `rt staticlib host` writes. Each promise below is proved: crates/host/src/lib.rt has it as a contract.
  *
  * The host keeps to this, and to nothing else:
- * - every pointer is valid, aligned and not null, also where its count is 0; behind it stand as many bytes as the count says, set to some value;
- * - during a call the engine, `out` and the lent event, journey, book and packet are touched by nobody else, and neither engine nor `out` overlaps any of them;
+ * - every pointer is valid, aligned and not null, also where its count is 0; behind it stand as many bytes as the count says, set to
+ *   some value;
+ * - during a call the engine, `out` and the lent event, journey, book and packet are touched by nobody else, and neither engine nor
+ *   `out` overlaps any of them;
  * - an engine's memory is all zero before hollwern_fresh, and from then on is changed by these calls alone.
  * Everything else is refused by number: any bytes, of any length, may be lent as event, journey, book and packet.
- * There is no hidden state: a host may keep several engines, copy them, and use each from its own thread. Beside memcpy nothing is linked in.
- * A call took up to 84 KB of stack (measured, not proved): provide 128. */
+ * There is no hidden state: a host may keep several engines, copy them, and use each from its own thread. Beside memcpy nothing is
+ * linked in.
+ * A load took 40,864 bytes of stack, another event 19,840 (measured, not proved): provide 64 KB. */
 #ifndef HOLLWERN_H
 #define HOLLWERN_H
 #include <assert.h>
@@ -18,14 +21,14 @@
 extern "C" {
 #endif
 
-/* Layouts as in crates/data/src/lib.rt; a host need not look inside. */
+/* Layouts as in crates/engine_value/src/lib.rt; a host need not look inside. */
 typedef struct { uint32_t start, end; } Zone;
 typedef struct {
     uint16_t nidc;
     uint32_t nidsp;
     bool booked, placed;
     uint32_t start, length;
-    uint8_t zonecount;
+    uint8_t zone_count;
     Zone zones[4];
 } Segment;
 typedef struct {
@@ -39,7 +42,7 @@ typedef struct {
 typedef struct {
     bool valid;
     uint32_t operational;
-    uint8_t ending, pointcount, segmentcount;
+    uint8_t ending, point_count, segment_count;
 } Load;
 typedef struct { uint8_t next; bool reached; } Progress;
 typedef struct {
@@ -67,35 +70,59 @@ typedef struct {
     size_t bytes;
 } Answer;
 
+/* What an engine shows. `standings` has where each point of the journey in force stands, in the journey's order: 0 not used,
+ * 1 targeted, 2 reached, 3 passed; from `point_count` on it is 0. */
+typedef struct {
+    uint8_t state;       /* 0 NP, 1 CO, 2 NA, 3 AV, 4 RE, 5 EG, 6 DE, 7 FA */
+    bool request;        /* whether AD is requested */
+    uint16_t conditions; /* condition 0 the least significant bit; 511 where all nine stand */
+    uint8_t point_count;
+    uint8_t standings[64];
+} Shown;
+
+/* The packets' values, as in crates/packets/src. */
 typedef struct {
     uint16_t nidc;
     uint32_t nidsp, offset;
     uint16_t speed;
     uint32_t operational;
 } Header;
+typedef struct {
+    Header header;
+    uint16_t nidc;
+    uint32_t nidtp;
+    uint8_t q_eoj_reached, alignment, status, stopping;
+} TimingPoint; /* 62 */
+typedef struct {
+    Header header;
+    uint16_t nidc, atots, date;
+    uint32_t seconds;
+    uint8_t counter, status;
+} JpReceived; /* 65 */
+typedef struct {
+    Header header;
+    uint8_t state;
+    uint16_t conditions;
+} AtoStatus; /* 68 */
 
-/* Where accepted: number 0, `kind` the packet's number, `size` its bytes, and header and fields: 62 has nidc, nidtp, qeoj (Q_EOJ_REACHED), alignment, status,
- * stopping (data); 65 has nidc, atots, date, seconds, counter, status; 68 has state, conditions; all else 0. Where refused: the number, all else 0. */
+/* Where accepted: number 0, `kind` the packet's number, `size` its bytes, and the values of the packet of that kind, all else 0.
+ * Where refused: the number, all else 0. */
 typedef struct {
     bool accepted;
     uint8_t number, kind;
     size_t size;
-    Header header;
-    uint16_t nidc;
-    uint32_t nidtp;
-    uint8_t qeoj, alignment, status, stopping;
-    uint16_t atots, date;
-    uint32_t seconds;
-    uint8_t counter, state;
-    uint16_t conditions;
+    TimingPoint timing_point;
+    JpReceived jp_received;
+    AtoStatus ato_status;
 } PacketFields;
 
 static_assert(sizeof(bool) == 1 && sizeof(size_t) == 8, "x86-64");
 static_assert(sizeof(Segment) == 56 && sizeof(Point) == 20 && sizeof(Load) == 12 && sizeof(Train) == 20, "layout");
 static_assert(offsetof(Engine, load) == 3584 && offsetof(Engine, control) == 3620 && sizeof(Engine) == 3628, "layout");
 static_assert(offsetof(Answer, request) == 3 && offsetof(Answer, bytes) == 8 && sizeof(Answer) == 16, "layout");
-static_assert(sizeof(Header) == 20 && offsetof(PacketFields, size) == 8 && offsetof(PacketFields, header) == 16, "layout");
-static_assert(offsetof(PacketFields, nidtp) == 40 && offsetof(PacketFields, conditions) == 58 && sizeof(PacketFields) == 64, "layout");
+static_assert(offsetof(Shown, conditions) == 2 && offsetof(Shown, standings) == 5 && sizeof(Shown) == 70, "layout");
+static_assert(sizeof(Header) == 20 && sizeof(TimingPoint) == 32 && sizeof(JpReceived) == 36 && sizeof(AtoStatus) == 24, "layout");
+static_assert(offsetof(PacketFields, timing_point) == 16 && offsetof(PacketFields, ato_status) == 84 && sizeof(PacketFields) == 112, "layout");
 
 /* Makes the engine fresh, whatever it was: NP, no journey, no press, no request.
  * To be called once before the first event; power off does the same. */
@@ -106,21 +133,9 @@ void hollwern_fresh(Engine *e);
 Answer hollwern_step(Engine *e, const uint8_t *event, size_t event_n, const uint8_t *journey, size_t journey_n,
                      const uint8_t *book, size_t book_n, uint8_t *out, size_t out_n);
 
-/* The state: 0 NP, 1 CO, 2 NA, 3 AV, 4 RE, 5 EG, 6 DE, 7 FA.
- * It is the one that the last accepted event answered. */
-uint8_t hollwern_state(const Engine *e);
-
-/* Whether AD is requested.
- * It is what the last accepted event answered. */
-bool hollwern_request(const Engine *e);
-
-/* The nine conditions, condition 0 the least significant bit; 511 where all nine stand.
- * Packet 68 carries 16 times this number plus the state. */
-uint16_t hollwern_conditions(const Engine *e);
-
-/* Where point k of the journey in force stands, counted from 0: 0 not used, 1 targeted, 2 reached, 3 passed.
- * 0 too where the journey has no such point. */
-uint8_t hollwern_standing(const Engine *e, uint8_t k);
+/* What the engine shows. State and request are those that the last accepted event answered.
+ * Packet 68 carries 16 times the conditions plus the state. */
+Shown hollwern_show(const Engine *e);
 
 /* Reads one packet, exactly: any bytes, of any length, are read or refused. 17: empty, or for 62, 65, 68 not 25, 29, 19 bytes;
  * 18: another number; 19: a value out of its range. What hollwern_step wrote is read, packet by packet. */

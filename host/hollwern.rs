@@ -1,8 +1,6 @@
 //! The calls of hollwern.h for a host in Rust. The borrows give what the header asks: valid memory that nobody else touches.
 
-#![allow(dead_code)]
-
-/// The engine's size in bytes, by the layout in `crates/data`.
+/// The engine's size in bytes, by the layout in `crates/engine_value`.
 pub const SIZE: usize = 3_628;
 
 /// `Engine` of hollwern.h, which a host need not look into.
@@ -19,6 +17,18 @@ pub struct Answer {
     pub bytes: usize,
 }
 
+/// What an engine shows: the state by its code, whether AD is requested, the conditions with condition 0 as the least significant
+/// bit, and where each point of the journey in force stands: 0 not used, 1 targeted, 2 reached, 3 passed.
+#[repr(C)]
+#[derive(Clone, Copy, PartialEq, Eq, Debug)]
+pub struct Shown {
+    pub state: u8,
+    pub request: bool,
+    pub conditions: u16,
+    pub point_count: u8,
+    pub standings: [u8; 64],
+}
+
 #[repr(C)]
 #[derive(Clone, Copy, PartialEq, Eq, Debug, Default)]
 pub struct Header {
@@ -29,7 +39,43 @@ pub struct Header {
     pub operational: u32,
 }
 
-/// Where accepted: `kind` (62, 65, 68), `size` in bytes, and the fields that the kind has. Where refused: the number. All else is 0.
+/// Packet 62.
+#[repr(C)]
+#[derive(Clone, Copy, PartialEq, Eq, Debug, Default)]
+pub struct TimingPoint {
+    pub header: Header,
+    pub nidc: u16,
+    pub nidtp: u32,
+    pub q_eoj_reached: u8,
+    pub alignment: u8,
+    pub status: u8,
+    pub stopping: u8,
+}
+
+/// Packet 65.
+#[repr(C)]
+#[derive(Clone, Copy, PartialEq, Eq, Debug, Default)]
+pub struct JpReceived {
+    pub header: Header,
+    pub nidc: u16,
+    pub atots: u16,
+    pub date: u16,
+    pub seconds: u32,
+    pub counter: u8,
+    pub status: u8,
+}
+
+/// Packet 68.
+#[repr(C)]
+#[derive(Clone, Copy, PartialEq, Eq, Debug, Default)]
+pub struct AtoStatus {
+    pub header: Header,
+    pub state: u8,
+    pub conditions: u16,
+}
+
+/// Where accepted: `kind` (62, 65, 68), `size` in bytes, and the values of the packet of that kind. Where refused: the number. All
+/// else is 0.
 #[repr(C)]
 #[derive(Clone, Copy, PartialEq, Eq, Debug, Default)]
 pub struct PacketFields {
@@ -37,19 +83,9 @@ pub struct PacketFields {
     pub number: u8,
     pub kind: u8,
     pub size: usize,
-    pub header: Header,
-    pub nidc: u16,
-    pub nidtp: u32,
-    pub qeoj: u8,
-    pub alignment: u8,
-    pub status: u8,
-    pub stopping: u8,
-    pub atots: u16,
-    pub date: u16,
-    pub seconds: u32,
-    pub counter: u8,
-    pub state: u8,
-    pub conditions: u16,
+    pub timing_point: TimingPoint,
+    pub jp_received: JpReceived,
+    pub ato_status: AtoStatus,
 }
 
 extern "C" {
@@ -65,10 +101,7 @@ extern "C" {
         out: *mut u8,
         out_n: usize,
     ) -> Answer;
-    fn hollwern_state(e: *const Engine) -> u8;
-    fn hollwern_request(e: *const Engine) -> bool;
-    fn hollwern_conditions(e: *const Engine) -> u16;
-    fn hollwern_standing(e: *const Engine, k: u8) -> u8;
+    fn hollwern_show(e: *const Engine) -> Shown;
     fn hollwern_read(bytes: *const u8, n: usize) -> PacketFields;
 }
 
@@ -89,20 +122,7 @@ impl Engine {
         unsafe { hollwern_step(self, event.as_ptr(), event.len(), journey.as_ptr(), journey.len(), book.as_ptr(), book.len(), lent, n) }
     }
 
-    pub fn state(&self) -> u8 {
-        unsafe { hollwern_state(self) }
-    }
-
-    pub fn request(&self) -> bool {
-        unsafe { hollwern_request(self) }
-    }
-
-    pub fn conditions(&self) -> u16 {
-        unsafe { hollwern_conditions(self) }
-    }
-
-    /// 0 not used, 1 targeted, 2 reached, 3 passed.
-    pub fn standing(&self, k: u8) -> u8 {
-        unsafe { hollwern_standing(self, k) }
+    pub fn show(&self) -> Shown {
+        unsafe { hollwern_show(self) }
     }
 }

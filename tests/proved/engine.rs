@@ -1,6 +1,6 @@
 //! The proved engine, called and answering as the model is and does.
 
-use crate::hollwern;
+use crate::hollwern::{self, Shown};
 use model::calls::Call;
 use model::engine::{Answer, Engine};
 
@@ -27,7 +27,13 @@ impl Proved {
     /// State, request, conditions and the standing of every point are the model's.
     pub fn shows(&self, model: &Engine) -> bool {
         let now = &model.now;
-        (self.0.state(), self.0.request(), self.0.conditions()) == (now.state, now.request, now.conditions)
-            && model.standings().zip(0..).all(|(standing, k)| self.0.standing(k) == standing as u8)
+        let mut standings = [0; 64];
+        let mut point_count = 0;
+        for (code, standing) in standings.iter_mut().zip(model.standings()) {
+            *code = standing as u8;
+            point_count += 1;
+        }
+        let (state, request, conditions) = (now.state, now.request, now.conditions);
+        self.0.show() == Shown { state, request, conditions, point_count, standings }
     }
 }

@@ -1,6 +1,6 @@
 //! The proved packet reader beside the model's: every string of bytes must be read or refused alike.
 
-use crate::hollwern::{read, Header, PacketFields};
+use crate::hollwern::{read, AtoStatus, Header, JpReceived, PacketFields, TimingPoint};
 use model::packets::{self, split_packets, Content, Packet};
 
 /// How many strings were read, and how many refused by 17, 18 and 19.
@@ -14,15 +14,20 @@ fn expected(bytes: &[u8]) -> PacketFields {
     };
     let packets::Header { nidc, nidsp, offset, speed, operational } = packet.header;
     let header = Header { nidc, nidsp, offset, speed, operational };
-    let common = PacketFields { accepted: true, size: packet.size(), header, ..PacketFields::default() };
+    let read = |kind| PacketFields { accepted: true, kind, size: packet.size(), ..PacketFields::default() };
     match packet.content {
         Content::Point { nidc, nidtp, eoj, alignment, status, stopping } => {
-            PacketFields { kind: 62, nidc, nidtp, qeoj: eoj, alignment, status, stopping, ..common }
+            let timing_point = TimingPoint { header, nidc, nidtp, q_eoj_reached: eoj, alignment, status, stopping };
+            PacketFields { timing_point, ..read(62) }
         }
         Content::Load { nidc, atots, date, seconds, counter, status } => {
-            PacketFields { kind: 65, nidc, atots, date, seconds, counter, status, ..common }
+            let jp_received = JpReceived { header, nidc, atots, date, seconds, counter, status };
+            PacketFields { jp_received, ..read(65) }
         }
-        Content::State { state, conditions } => PacketFields { kind: 68, state, conditions, ..common },
+        Content::State { state, conditions } => {
+            let ato_status = AtoStatus { header, state, conditions };
+            PacketFields { ato_status, ..read(68) }
+        }
     }
 }
 

@@ -1,33 +1,43 @@
 -- Laws of what an engine shows, and of a call by the rows that it went through.
-use Prim.Native.Nat.{ℕ, _≤_, _<_, min}
+use Prim.Native.Nat.{ℕ, _+_, _≤_, _<_}
 use mathlib.Core.Path.{_≡_, refl}
+use mathlib.Core.List.{List}
 use mathlib.Core.Bool.{Bool, true, false}
 use native.Mathlib.Omega.{arith}
-use lib.ListN.{length, length-append, length-drop}
+use native.Mathlib.Numerals.{add-one}
+use lib.ListN.{length, take, set, length-append, length-drop}
+use lib.Seq.{take-suc-set}
 use lib.Dec.{ltb}
 use borrow.Author.Tests.{lt-ltb, le-ltb, ltb-false}
 use Rattle.wire.specs.Judged.{Judged, thenJudge, row}
 use Rattle.wire.specs.Judged.Judged.{refuse, accept}
+use Rattle.engine_value.specs.Engine.{routeIn}
 use Rattle.engine_value.specs.declared.Engine.{Engine}
 use Rattle.event.specs.Events.{eventOf}
 use Rattle.event.specs.Kinds.{kindOf}
 use Rattle.event.specs.declared.Event.{Event}
 use Rattle.packets.specs.Packets.{joined}
+use Rattle.timing.specs.Position.{pointCount}
 use Rattle.timing.specs.Standing.{standing, standingCode}
 use Rattle.control.specs.Codes.{stateAt}
 use Rattle.control.specs.Numbers.{powerRows, stateRow}
 use Rattle.call.specs.Effect.{Effect, effect}
 use Rattle.call.specs.Call.{Call, Step, stepBy, judged, outcomeOf, stepOf}
-use Rattle.call.specs.Shown.{standingIn}
+use Rattle.call.specs.Shown.{standingIn, standingsIn}
 
 -- ---- standings
 
 module _ (e : Engine) (k : ℕ) where
-  pub standing-there : k < 64 → k < e .load .«point_count» → standingCode (standing (e .progress) k) ≡ standingIn e k
-  standing-there h l = rw (lt-ltb k (min (e .load .«point_count») 64) (omega arith))
+  pub standing-there : k < pointCount (routeIn e) → standingCode (standing (e .progress) k) ≡ standingIn e k
+  standing-there h = rw (lt-ltb k (pointCount (routeIn e)) h)
 
-  pub standing-past : min (e .load .«point_count») 64 ≤ k → 0 ≡ standingIn e k
-  standing-past h = rw (le-ltb k (min (e .load .«point_count») 64) h)
+  pub standing-past : pointCount (routeIn e) ≤ k → 0 ≡ standingIn e k
+  standing-past h = rw (le-ltb k (pointCount (routeIn e)) h)
+
+  -- the standings one by one: those of the first k points stand in l
+  pub standings-more : (l : List ℕ) (s : ℕ) → k < length l → take k l ≡ standingsIn e k → s ≡ standingIn e k → take (k + 1) (set l k s) ≡ standingsIn e (k + 1)
+  unfolding standingsIn
+  standings-more l s h t d = rw (add-one k, take-suc-set l k s h, t, d)
 
 -- ---- a call by the rows
 

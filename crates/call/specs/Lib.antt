@@ -3,4 +3,5 @@ pub mod Packets
 pub mod Effect
 pub mod Call
 pub mod Shown
+pub mod View
 pub mod Trials

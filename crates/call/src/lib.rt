@@ -2,8 +2,10 @@
 use engine_value::Engine;
 ghost use mathlib.Core.Path.{_≡_};
 ghost use Prim.Native.Nat.{_≤_};
-ghost use Rattle.call.specs.Call.{conditionsIn};
-ghost use Rattle.call.specs.Shown.{stateIn, requestIn, standingIn};
+ghost use Rattle.engine_value.specs.Engine.{routeIn};
+ghost use Rattle.timing.specs.Position.{pointCount};
+ghost use Rattle.call.specs.Shown.{standingIn, standingsIn};
+ghost use Rattle.call.specs.View.{shownView};
 
 // State, request and bytes written, or the number of the row that refuses.
 pub enum Answer {
@@ -15,36 +17,61 @@ pub enum Answer {
     Refused(u8),
 }
 
-// The state's code.
-pub fn state(e: Engine) -> u8
-    ensures { λ r. ⌜ r ≡ stateIn e ⌝ }
-{
-    e.control.state
+// What an engine shows: the state's code, whether AD is requested, the nine conditions as a number (condition 0 the least
+// significant bit), how many points the journey has, and where each stands: 0 not used, 1 targeted, 2 reached, 3 passed.
+#[repr(C)]
+pub struct Shown {
+    pub state: u8,
+    pub request: bool,
+    pub conditions: u16,
+    pub point_count: u8,
+    pub standings: [u8; 64],
 }
 
-// Whether AD is requested.
-pub fn request(e: Engine) -> bool
-    ensures { λ r. ⌜ r ≡ requestIn e ⌝ }
+fn point_count(e: Engine) -> u8
+    ensures { λ r. ⌜ r ≡ pointCount (routeIn e) ⌝ }
 {
-    e.control.request
+    let n = e.load.point_count;
+    if n < 64 { n } else { 64 }
 }
 
-// The nine conditions as a number, condition 0 the least significant bit.
-pub fn conditions(e: Engine) -> u16
-    ensures { λ r. ⌜ (r ≡ conditionsIn e) × (r ≤ 511) ⌝ }
-{
-    control::conditions(e)
-}
-
-// Where point k stands: 0 not used, 1 targeted, 2 reached, 3 passed.
-pub fn standing(e: Engine, k: u8) -> u8
+// Where point k stands.
+fn standing(e: Engine, k: u8) -> u8
     ensures { λ r. ⌜ r ≡ standingIn e k ⌝ }
 {
-    if k < 64 {
-        if k < e.load.point_count {
-            let s = timing::standing_of(e.progress, k);
-            return timing::standing_code(s);
-        }
+    let n = point_count(e);
+    if k < n {
+        let s = timing::standing_of(e.progress, k);
+        return timing::standing_code(s);
     }
     0
+}
+
+// Where each point stands.
+fn standings(e: Engine) -> [u8; 64]
+    ensures { λ r. ⌜ r ≡ standingsIn e 64 ⌝ }
+{
+    let mut codes = [0; 64];
+    let mut k: u8 = 0;
+    while k < 64 {
+        let code = standing(e, k);
+        codes[k as usize] = code;
+        k += 1;
+    }
+    codes
+}
+
+pub fn show(e: Engine) -> Shown
+    ensures { λ r. ⌜ (r ≡ shownView e) × (r .conditions ≤ 511) ⌝ }
+{
+    let conditions = control::conditions(e);
+    let points = point_count(e);
+    let standings = standings(e);
+    Shown {
+        state: e.control.state,
+        request: e.control.request,
+        conditions: conditions,
+        point_count: points,
+        standings: standings,
+    }
 }

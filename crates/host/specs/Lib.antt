@@ -1,4 +1,2 @@
--- A call's answer as one plain struct.
-pub mod Plain
--- A packet's fields as one plain struct.
-pub mod Fields
+-- Answers as plain structs.
+pub mod View

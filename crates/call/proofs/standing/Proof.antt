@@ -6,6 +6,9 @@ use Rattle.call.proofs.Rows.{standing-there, standing-past}
 use Rattle.call.proofs.standing.Statement.{statement}
 use Rattle.call.proofs.standing.Tie as tie
 
+point-count-requires : tie.Need-point-count-requires
+point-count-requires c κs = search needs
+
 standing-of-requires : tie.Need-standing-of-requires
 standing-of-requires c κs = search needs
 
@@ -14,14 +17,11 @@ standing-code-requires c κs = search needs
 
 returns : tie.Need-returns
 returns c =
-    let a = c .before .before .before .before .before .args in
-    c .standing-code .ensures ∙ ap standingCode (c .before .standing-of .ensures) ∙ standing-there (a .e) (a .k) (omega arith) (omega arith)
+    let a = c .before .before .before .before .args in
+    c .standing-code .ensures ∙ ap standingCode (c .before .standing-of .ensures) ∙ standing-there (a .e) (a .k) (omega arith)
 
 returns-2 : tie.Need-returns-2
-returns-2 c = let a = c .before .before .before .args in standing-past (a .e) (a .k) (omega arith)
-
-returns-3 : tie.Need-returns-3
-returns-3 c = let a = c .before .args in standing-past (a .e) (a .k) (omega arith)
+returns-2 c = let a = c .before .before .args in standing-past (a .e) (a .k) (omega arith)
 
 pub standing-spec : {M : Type 1} → statement M
-standing-spec = tie.close (tie.spec standing-of-requires standing-code-requires returns returns-2 returns-3)
+standing-spec = tie.close (tie.spec point-count-requires standing-of-requires standing-code-requires returns returns-2)

@@ -2,7 +2,7 @@ use mathlib.Core.Path.{sym, ap, _∙_}
 use borrow.Author.Needs.{needs}
 use Rattle.packet_reader.specs.declared.PacketRead.{PacketRead}
 use Rattle.packet_reader.specs.View.{readView}
-use Rattle.host.specs.Fields.{plainPacket}
+use Rattle.host.specs.View.{fieldsView}
 use Rattle.host.proofs.hollwern_read.Statement.{statement}
 use Rattle.host.proofs.hollwern_read.Tie as tie
 
@@ -22,10 +22,10 @@ refused-requires : tie.Need-refused-requires
 refused-requires c κs = search needs
 
 returns : tie.Need-returns
-returns c = c .packet-fields .ensures ∙ ap (λ (x : PacketRead). plainPacket (readView x)) (sym (c .before .before .answer .given .1)) ∙ ap plainPacket (c .before .before .before .before .read-packet .ensures)
+returns c = c .packet-fields .ensures ∙ ap (λ (x : PacketRead). fieldsView (readView x)) (sym (c .before .before .answer .given .1)) ∙ ap fieldsView (c .before .before .before .before .read-packet .ensures)
 
 returns-2 : tie.Need-returns-2
-returns-2 c = c .refused .ensures ∙ ap (λ (x : PacketRead). plainPacket (readView x)) (sym (c .before .before .answer2 .given .1)) ∙ ap plainPacket (c .before .before .before .before .read-packet .ensures)
+returns-2 c = c .refused .ensures ∙ ap (λ (x : PacketRead). fieldsView (readView x)) (sym (c .before .before .answer2 .given .1)) ∙ ap fieldsView (c .before .before .before .before .read-packet .ensures)
 
 pub hollwern-read-spec : {M : Type 1} → statement M
 hollwern-read-spec =

@@ -43,7 +43,7 @@ use denote.Exit.{yes}
 use Rattle.engine_value.specs.declared.Engine.{Engine}
 use Rattle.host.specs.declared.Answer.{Answer}
 use Rattle.host.specs.declared.Stepped.{Stepped}
-use Rattle.host.specs.Plain.{plainStep, memoryAfter}
+use Rattle.host.specs.View.{stepView, memoryAfter}
 use Rattle.engine_value.proofs.Engine as T
 use Rattle.engine_value.proofs.Engine.Laws as T′
 use Rattle.host.proofs.Answer as N
@@ -77,7 +77,7 @@ val s = sliceVal (s .ptr) (length (s .now))
 
 -- what the callee says, of the engine h and the rest ss
 abbrev answered : Engine → Rest → Stepped
-answered h ss = plainStep h (ss .0 .now) (ss .1 .0 .now) (ss .1 .1 .0 .now) (ss .1 .1 .1 .0 .now)
+answered h ss = stepView h (ss .0 .now) (ss .1 .0 .now) (ss .1 .1 .0 .now) (ss .1 .1 .1 .0 .now)
 
 abbrev wrote₁ : Engine → Rest → List ℕ
 wrote₁ h ss = memoryAfter h (ss .0 .now) (ss .1 .0 .now) (ss .1 .1 .0 .now) (ss .1 .1 .1 .0 .now)

@@ -1,0 +1,22 @@
+use mathlib.Core.Path.{_≡_}
+use borrow.Author.Needs.{needs}
+use Rattle.call.specs.Call.{conditionsIn}
+use Rattle.call.specs.View.{shownView}
+use Rattle.call.proofs.show.Statement.{statement}
+use Rattle.call.proofs.show.Tie as tie
+
+conditions-requires : tie.Need-conditions-requires
+conditions-requires c κs = search needs
+
+point-count-requires : tie.Need-point-count-requires
+point-count-requires c κs = search needs
+
+standings-requires : tie.Need-standings-requires
+standings-requires c κs = search needs
+
+returns : tie.Need-returns
+unfolding conditionsIn
+returns c = (rw (c .before .before .conditions .ensures .0, c .before .point-count .ensures, c .standings .ensures), c .before .before .conditions .ensures .1)
+
+pub show-spec : {M : Type 1} → statement M
+show-spec = tie.close (tie.spec conditions-requires point-count-requires standings-requires returns)
