@@ -1,7 +1,9 @@
 // The engine as a value: the journey in force, the train, how far it has come, and the ATO state. Numbers, bools and arrays of
 // plain structs, so that a host in C can hold it.
 ghost use mathlib.Core.Path.{_≡_};
-ghost use Rattle.engine_value.specs.Engine.{blankSegment, blankPoint, noLoad, freshTrain, freshControl, fresh};
+ghost use mathlib.Core.Bool.{false};
+ghost use lib.ListN.{replicate};
+ghost use Rattle.engine_value.specs.Engine.{maxPoints, maxSegments, blankSegment, blankPoint, progress, noSkips, noLoad, freshTrain, freshControl, fresh};
 
 // The most points and segments of a journey, and the most zones of a segment.
 pub const MAX_POINTS: usize = 64;
@@ -188,15 +190,19 @@ pub fn fresh_control() -> Control
     }
 }
 
-// The fresh engine.
-pub fn fresh() -> Engine
-    ensures { λ r. ⌜ r ≡ fresh ⌝ }
+// The arrays of an engine.
+struct Arrays {
+    points: [Point; MAX_POINTS],
+    segments: [Segment; MAX_SEGMENTS],
+}
+
+// The engine that is fresh but for its arrays.
+fn with_arrays(a: Arrays) -> Engine
+    ensures { λ r. ⌜ r ≡ record { points = a .points; skips = noSkips; segments = a .segments; load = noLoad; progress = progress 0 false; train = freshTrain; control = freshControl } ⌝ }
 {
-    let point = blank_point();
-    let segment = blank_segment();
-    let points = [point; MAX_POINTS];
+    let points = a.points;
+    let segments = a.segments;
     let skips = [false; MAX_POINTS];
-    let segments = [segment; MAX_SEGMENTS];
     let progress = Progress {
         next: 0,
         reached: false,
@@ -210,4 +216,47 @@ pub fn fresh() -> Engine
         train: fresh_train(),
         control: fresh_control(),
     }
+}
+
+// The fresh engine.
+pub fn fresh() -> Engine
+    ensures { λ r. ⌜ r ≡ fresh ⌝ }
+{
+    let point = blank_point();
+    let segment = blank_segment();
+    let points = [point; MAX_POINTS];
+    let segments = [segment; MAX_SEGMENTS];
+    with_arrays(Arrays {
+        points: points,
+        segments: segments,
+    })
+}
+
+// One loop clears both arrays: two short ones would be unrolled into single stores.
+fn blank_arrays(e: Engine) -> Arrays
+    ensures { λ r. ⌜ (r .points ≡ replicate maxPoints blankPoint) × (r .segments ≡ replicate maxSegments blankSegment) ⌝ }
+{
+    let mut points = e.points;
+    let mut segments = e.segments;
+    let point = blank_point();
+    let segment = blank_segment();
+    let mut k: usize = 0;
+    while k < MAX_POINTS {
+        points[k] = point;
+        if k < MAX_SEGMENTS {
+            segments[k] = segment;
+        }
+        k += 1;
+    }
+    Arrays {
+        points: points,
+        segments: segments,
+    }
+}
+
+// "Power off returns to fresh", in the arrays of e.
+pub fn cleared(e: Engine) -> Engine
+    ensures { λ r. ⌜ r ≡ fresh ⌝ }
+{
+    with_arrays(blank_arrays(e))
 }

@@ -6,8 +6,8 @@ use Rattle.wire.specs.Parse.{Parse}
 use Rattle.wire.specs.Parse.Parse.{bad, good}
 use Rattle.engine_value.specs.declared.Engine.{Engine}
 use Rattle.call.specs.Call.{Call, Outcome, stepOf}
-use Rattle.player.specs.Calls.{Given, call}
-use Rattle.player.specs.Lines.{lines, Put}
+use Rattle.player_text.specs.Calls.{Given, call}
+use Rattle.player_text.specs.Lines.{lines, Put}
 use Rattle.player.specs.declared.Played.{Played}
 
 abbrev pub lent : Given → List ℕ → Call

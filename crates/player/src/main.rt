@@ -1,19 +1,18 @@
 // The player: reads events from standard input, hands each to the engine, and writes the lines of its answer.
-mod calls;
-mod lines;
-mod parts;
-
 ghost use Prim.Native.Nat.{_+_, _≤_};
 ghost use mathlib.Core.Path.{_≡_};
 ghost use lib.ListN.{length, take, drop};
 ghost use Rattle.call.specs.Call.{stepOf};
-ghost use Rattle.player.specs.Calls.{givenIn};
+ghost use Rattle.player_text.specs.Calls.{givenIn};
 ghost use Rattle.player.specs.Played.{lent, Plays, left};
 ghost use Rattle.player.specs.Played.{run as Played·run};
-use calls::Call;
-use calls::CallRead;
 use engine_value::Engine;
-use parts::Part;
+use player_text::calls;
+use player_text::calls::Call;
+use player_text::calls::CallRead;
+use player_text::lines;
+use player_text::parts;
+use player_text::parts::Part;
 
 // An engine, and a position.
 struct Played {
@@ -43,7 +42,7 @@ fn flush(text: &[u8], used: usize) {
     io::write_all(libc::STDOUT_FILENO, parts::front(text, used));
 }
 
-// The lines of an event, 16,384 bytes at most (`lines-fit` of proofs/Room.antt), fit behind the text, or else it is written out first.
+// The lines of an event, 16,384 bytes at most (`lines-fit` of player_text/proofs/Room.antt), fit behind the text, or else it is written out first.
 fn with_room(text: &[u8], used: usize) -> usize
     ensures { λ r. ⌜ (16384 ≤ length (now (text .entry)) → r + 16384 ≤ length (now (text .entry))) ⌝ }
 {
@@ -112,7 +111,7 @@ fn run(input: &mut [u8], memory: &mut [u8], text: &mut [u8]) {
     }
 }
 
-// An event with its profiles has 196,611 bytes at most (`call-there` of proofs/Room.antt), so that there is always room to read on.
+// An event with its profiles has 196,611 bytes at most (`call-there` of player_text/proofs/Room.antt), so that there is always room to read on.
 fn main() {
     let mut input = [0u8; 262144];
     let mut memory = [0u8; 4096];

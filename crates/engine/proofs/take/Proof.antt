@@ -2,11 +2,8 @@ use denote.Ref.{now}
 use mathlib.Core.Path.{_≡_, ap₂, _∙_}
 use Rattle.event.specs.Kinds.{kindOf}
 use Rattle.control.specs.Codes.{stateAt}
-use Rattle.control.specs.Seen.{viewBy}
-use Rattle.control.proofs.Laws.{view-is}
 use Rattle.control.specs.Numbers.{stateRows}
 use Rattle.wire.specs.View.{verdictView}
-use Rattle.engine.specs.View.{viewOf}
 use Rattle.engine.proofs.Rows.{rows-number, rows-effect, rows-output, steps-refused, steps-by}
 use borrow.Author.Needs.{needs}
 use Rattle.engine.proofs.take.Statement.{statement}
@@ -14,12 +11,6 @@ use Rattle.engine.proofs.take.Tie as tie
 
 judged : (c : tie.After-state-rows) → let a = c .before .before .before .before .before .before .args in verdictView (c .state-rows .result) ≡ stateRows (stateAt (a .e .control .state)) (kindOf (a .v))
 judged c = c .state-rows .ensures ∙ ap₂ stateRows (c .before .before .state-at .ensures) (c .before .kind-of .ensures)
-
-viewed : (c : tie.After-view-by) → let a = c .before .before .before .before .before .before .before .before .before .before .before .args in c .view-by .result ≡ viewOf (a .e)
-viewed c =
-    let s = c .before .before in
-    let e = s .before .before .before .before .before .before .before .before .before .args .e in
-    c .view-by .ensures ∙ ap₂ (λ g b. viewBy g (e .train .position) b) (s .segment-named .ensures) (c .before .placed-at .ensures) ∙ view-is _ _ (e .progress)
 
 state-at-requires : tie.Need-state-at-requires
 state-at-requires c κs = search needs
@@ -45,17 +36,8 @@ returns c =
 enum-told : tie.Need-enum-told
 enum-told c = search needs
 
-segment-named-requires : tie.Need-segment-named-requires
-segment-named-requires c κs = search needs
-
-placed-at-requires : tie.Need-placed-at-requires
-placed-at-requires c κs = search needs
-
-view-by-requires : tie.Need-view-by-requires
-view-by-requires c κs = search needs
-
 effect-of-requires : tie.Need-effect-of-requires
-effect-of-requires c κs = viewed c
+effect-of-requires c κs = search needs
 
 refused-requires-2 : tie.Need-refused-requires-2
 refused-requires-2 c κs = search needs
@@ -63,14 +45,14 @@ refused-requires-2 c κs = search needs
 returns-2 : tie.Need-returns-2
 returns-2 c =
     let f = c .before .before .before in
-    let p = f .before .before .before .before .before .before in
+    let p = f .before .before .before in
     let a = p .before .before .before .before .before .before .args in
     steps-refused (a .e) (now (a .out)) _ _ _
-    (rows-effect (a .e) (a .v) (now (a .journey)) (now (a .book)) (now (a .out)) _ (judged p) (f .effect-of .result) (f .before .before .before .before .enum-told .given .1) (f .effect-of .ensures .effect) (c .before .if1 .taken))
+    (rows-effect (a .e) (a .v) (now (a .journey)) (now (a .book)) (now (a .out)) _ (judged p) (f .effect-of .result) (f .before .enum-told .given .1) (f .effect-of .ensures .effect) (c .before .if1 .taken))
     (c .refused2 .ensures)
 
 conclude-requires : tie.Need-conclude-requires
-conclude-requires c κs = let f = c .before .before .before in (viewed (f .before), f .effect-of .ensures .view)
+conclude-requires c κs = let g = c .before .before .before .effect-of .ensures in (g .before, g .after)
 
 same-length : tie.Need-same-length
 same-length c = search needs
@@ -80,10 +62,10 @@ returns-3 c =
     let o = c .before .before in
     let i = o .before .before in
     let f = i .before .before in
-    let p = f .before .before .before .before .before .before in
+    let p = f .before .before .before in
     let a = p .before .before .before .before .before .before .args in
     steps-by (a .e) (now (a .out)) _ _ _ _
-    (rows-output (a .e) (a .v) (now (a .journey)) (now (a .book)) (now (a .out)) _ (judged p) (f .effect-of .result) (f .before .before .before .before .enum-told .given .1) (f .effect-of .ensures .effect) (i .if1 .left))
+    (rows-output (a .e) (a .v) (now (a .journey)) (now (a .book)) (now (a .out)) _ (judged p) (f .effect-of .result) (f .before .enum-told .given .1) (f .effect-of .ensures .effect) (i .if1 .left))
     (o .conclude .ensures)
 
 pub take-spec : {M : Type 1} → statement M
@@ -97,9 +79,6 @@ take-spec =
     refused-requires
     returns
     enum-told
-    segment-named-requires
-    placed-at-requires
-    view-by-requires
     effect-of-requires
     refused-requires-2
     returns-2

@@ -8,32 +8,11 @@ blank-point-requires c κs = search needs
 blank-segment-requires : tie.Need-blank-segment-requires
 blank-segment-requires c κs = search needs
 
-no-load-requires : tie.Need-no-load-requires
-no-load-requires c κs = search needs
-
-fresh-train-requires : tie.Need-fresh-train-requires
-fresh-train-requires c κs = search needs
-
-fresh-control-requires : tie.Need-fresh-control-requires
-fresh-control-requires c κs = search needs
+with-arrays-requires : tie.Need-with-arrays-requires
+with-arrays-requires c κs = search needs
 
 returns : tie.Need-returns
-returns c =
-    rw (
-      c .before .before .before .before .blank-point .ensures,
-      c .before .before .before .blank-segment .ensures,
-      c .before .before .no-load .ensures,
-      c .before .fresh-train .ensures,
-      c .fresh-control .ensures,
-    )
+returns c = rw (c .with-arrays .ensures, c .before .before .blank-point .ensures, c .before .blank-segment .ensures)
 
 pub fresh-spec : {M : Type 1} → statement M
-fresh-spec =
-    tie.close
-    (tie.spec
-    blank-point-requires
-    blank-segment-requires
-    no-load-requires
-    fresh-train-requires
-    fresh-control-requires
-    returns)
+fresh-spec = tie.close (tie.spec blank-point-requires blank-segment-requires with-arrays-requires returns)

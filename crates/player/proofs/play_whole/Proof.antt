@@ -4,9 +4,10 @@ use mathlib.Core.Path.{_≡_, refl, sym, ap, _∙_}
 use denote.Ref.{now}
 use lib.ListN.{length, drop, length-drop}
 use native.Mathlib.Omega.{arith}
-use Rattle.player.specs.Calls.{callView}
+use Rattle.player_text.specs.Calls.{callView}
 use Rattle.player.specs.Played.{run}
-use Rattle.player.proofs.Laws.{call-shorter, run-end, run-next}
+use Rattle.player_text.proofs.Laws.{call-shorter}
+use Rattle.player.proofs.Laws.{run-end, run-next}
 use borrow.Author.Needs.{needs}
 use Rattle.player.proofs.play_whole.Statement.{statement}
 use Rattle.player.proofs.play_whole.Tie as tie

@@ -1,0 +1,44 @@
+use mathlib.Core.Path.{refl, sym, ap, subst, _∙_}
+use Rattle.timing.specs.Position.{IndexBelow}
+use Rattle.call.specs.Effect.{skipEffect}
+use Rattle.effects.specs.View.{Gives}
+use Rattle.effects.proofs.Laws.{gives-number}
+use borrow.Author.Needs.{needs}
+use Rattle.effects.proofs.skip.Statement.{statement}
+use Rattle.effects.proofs.skip.Tie as tie
+
+find-stop-requires : tie.Need-find-stop-requires
+find-stop-requires c κs = search needs
+
+enum-known-k : tie.Need-enum-known-k
+enum-known-k c = search needs
+
+enum-told : tie.Need-enum-told
+enum-told c = search needs
+
+plain-requires : tie.Need-plain-requires
+plain-requires c κs = search needs
+
+returns : tie.Need-returns
+unfolding skipEffect
+returns c = let s = c .before .before .before in let b = s .before in
+    gives-number (b .args .e) 14 (b .args .view) _ _ refl (c .plain .ensures) (b .pre) (sym (ap (skipEffect _ _) (sym (s .find-stop .ensures .0) ∙ c .before .enum-told .given .1)))
+
+skip-at-requires : tie.Need-skip-at-requires
+skip-at-requires c κs = let s = c .before .before .before in (subst (IndexBelow 64) (c .before .k .given .1) (s .find-stop .ensures .1), s .before .pre)
+
+returns-2 : tie.Need-returns-2
+returns-2 c = let k = c .before .before in
+    subst (λ x. Gives (k .before .before .before .args .e) x (c .skip-at .result)) (sym (ap (skipEffect _ _) (sym (k .before .before .find-stop .ensures .0) ∙ k .k .given .1))) (c .skip-at .ensures)
+
+pub skip-spec : {M : Type 1} → statement M
+skip-spec =
+    tie.close
+    (tie.spec
+    find-stop-requires
+    enum-known-k
+    enum-told
+    plain-requires
+    returns
+    skip-at-requires
+    returns-2)

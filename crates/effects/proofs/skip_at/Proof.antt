@@ -1,0 +1,77 @@
+use Prim.Native.Nat.{ℕ}
+use mathlib.Core.Path.{refl, sym, ap, _∙_}
+use Rattle.effects.specs.View.{oneChange}
+use Rattle.effects.proofs.Laws.{gives-number, skip-behind, skip-same, skip-taken}
+use borrow.Author.Needs.{needs}
+use Rattle.effects.proofs.skip_at.Statement.{statement}
+use Rattle.effects.proofs.skip_at.Tie as tie
+
+cast-index : tie.Need-cast-index
+cast-index c = search needs
+
+is-behind-requires : tie.Need-is-behind-requires
+is-behind-requires c κs = search needs
+
+plain-requires : tie.Need-plain-requires
+plain-requires c κs = search needs
+
+returns : tie.Need-returns
+returns c = let b = c .before .before in let s = b .before in
+    gives-number (s .args .e) 15 (s .args .view) _ _ refl (c .plain .ensures) (s .pre .1) (sym (skip-behind _ _ _ (sym (b .is-behind .ensures) ∙ c .before .if1 .taken)))
+
+array-read-given : tie.Need-array-read-given
+array-read-given c = search needs
+
+same-requires : tie.Need-same-requires
+same-requires c κs = search needs
+
+plain-requires-2 : tie.Need-plain-requires-2
+plain-requires-2 c κs = search needs
+
+returns-2 : tie.Need-returns-2
+returns-2 c =
+    let s = c .before .before in
+    let i = s .before .before in
+    let b = i .before .before in
+    gives-number (b .args .e) 15 (b .args .view) _ _ refl (c .plain2 .ensures) (b .pre .1)
+    (sym (skip-same _ _ _ (sym (i .before .is-behind .ensures) ∙ i .if1 .left) (sym (s .same .ensures) ∙ c .before .if2 .taken)))
+
+with-skip-requires : tie.Need-with-skip-requires
+with-skip-requires c κs = search needs
+
+no-head-requires : tie.Need-no-head-requires
+no-head-requires c κs = search needs
+
+skip-status-requires : tie.Need-skip-status-requires
+skip-status-requires c κs = search needs
+
+one-change-requires : tie.Need-one-change-requires
+one-change-requires c κs = search needs
+
+returns-3 : tie.Need-returns-3
+returns-3 c =
+    let t = c .before in
+    let w = t .before .before in
+    let s = w .before .before in
+    let i = s .before .before in
+    let b = i .before .before in
+    skip-taken (b .args .e) (b .args .k) (b .args .on) _ _ (t .before .no-head .result) (sym (i .before .is-behind .ensures) ∙ i .if1 .left) (sym (s .same .ensures) ∙ w .before .if2 .left) (w .with-skip .ensures)
+    (c .one-change .ensures ∙ ap (λ (n : ℕ). oneChange (b .args .k) n (b .args .e .progress)) (t .skip-status .ensures)) _ (b .pre .1)
+
+pub skip-at-spec : {M : Type 1} → statement M
+skip-at-spec =
+    tie.close
+    (tie.spec
+    cast-index
+    is-behind-requires
+    plain-requires
+    returns
+    array-read-given
+    same-requires
+    plain-requires-2
+    returns-2
+    with-skip-requires
+    no-head-requires
+    skip-status-requires
+    one-change-requires
+    returns-3)

@@ -1,0 +1,72 @@
+-- What the code's answers stand for.
+use Prim.Native.Nat.{ℕ}
+use mathlib.Core.Path.{_≡_}
+use mathlib.Core.Bool.{Bool, true, false, not, _&&_}
+use mathlib.Core.Option.{none, some}
+use lib.Dec.{eqb}
+use Rattle.wire.specs.Numbers.{if_then_else_}
+use Rattle.wire.specs.Judged.{Judged}
+use Rattle.wire.specs.Judged.Judged.{refuse, accept}
+use Rattle.engine_value.specs.Engine.{Route, routeIn, undefined, progress}
+use Rattle.engine_value.specs.declared.Position.{Position}
+use Rattle.engine_value.specs.declared.Progress.{Progress}
+use Rattle.engine_value.specs.declared.Engine.{Engine}
+use Rattle.journey.specs.Journey.{blankHead}
+use Rattle.timing.specs.Changes.{statusDeparted, statusSkipped, statusRevoked}
+use Rattle.timing.specs.declared.Named.{Named}
+use Rattle.timing.specs.declared.Reported.{Reported}
+use Rattle.control.specs.Conditions.{tooFar}
+use Rattle.control.specs.Seen.{viewIn}
+use Rattle.control.specs.declared.View.{View}
+use Rattle.route.specs.declared.Loaded.{Loaded}
+use Rattle.event_packets.specs.View.{changesIn}
+use Rattle.event_packets.specs.declared.Changes.{Changes}
+use Rattle.call.specs.Effect as model
+use Rattle.effects.specs.declared.Effect.{Effect}
+
+abbrev pub noChanges : Changes
+noChanges = record { first = false; index = 0; status = 0; after = progress 0 false; from = 0; to = 0; stopped = false }
+
+abbrev pub oneChange : ℕ → ℕ → Progress → Changes
+oneChange k s p = record { first = true; index = k; status = s; after = p; from = 0; to = 0; stopped = false }
+
+-- the changes of a report; `k` is the first point not passed before it
+abbrev pub changesOf : ℕ → Reported → Changes
+changesOf k t =
+    record { first = t .departed; index = k; status = statusDeparted; after = progress (t .from) false; from = t .from; to = t .progress .next; stopped = t .reached }
+
+abbrev pub skipStatus : Bool → ℕ
+skipStatus on = if on then statusSkipped else statusRevoked
+
+abbrev pub routeView : Loaded → Route
+routeView l = record { load = l .load; points = l .points; segments = l .segments }
+
+-- what the conditions look up in an engine
+abbrev pub viewOf : Engine → View
+viewOf e = viewIn (routeIn e) (e .train .position) (e .progress)
+
+-- 13, by the segment that a position names
+abbrev pub beyondBy : Named → Position → Bool
+beyondBy s x = not (eqb (x .offset) undefined) && (s .found && tooFar x (s .segment))
+
+abbrev pub plainEffect : Engine → ℕ → View → View → Effect
+plainEffect e n before after =
+    record { engine = e; number = n; loaded = false; head = blankHead; changes = noChanges; reached = false; before = before; after = after }
+
+abbrev pub effectIn : Effect → model.Effect
+effectIn f = record {
+  engine = f .engine;
+  loaded = if f .loaded then some (f .head) else none;
+  changes = changesIn (f .changes) (f .engine .progress);
+  reached = f .reached;
+}
+
+-- an effect, or the number of the row that refuses
+abbrev pub effectView : Effect → Judged model.Effect
+effectView f = if eqb (f .number) 0 then accept (effectIn f) else refuse (f .number)
+
+-- such an effect on engine e, and what the conditions look up before and after it
+pub record Gives (e : Engine) (x : Judged model.Effect) (f : Effect) : Type 0 where
+  pub effect : effectView f ≡ x
+  pub before : f .before ≡ viewOf e
+  pub after : f .after ≡ viewOf (f .engine)

@@ -1,0 +1,387 @@
+// What an event does before the rows of the states.
+use control::View;
+use engine_value::Engine;
+use engine_value::Position;
+use engine_value::Progress;
+use engine_value::Train;
+use event::Event;
+use event_packets::Changes;
+use journey::Head;
+use route::Loaded;
+use timing::Found;
+use timing::Named;
+use timing::Reported;
+use timing::Standing;
+ghost use mathlib.Core.Path.{_≡_};
+ghost use mathlib.Core.Bool.{false};
+ghost use Prim.Native.Nat.{_<_};
+ghost use lib.ListN.{set};
+ghost use Rattle.engine_value.specs.Engine.{routeIn, fresh, progress, withPosition, withRoute, withSkips, withProgress};
+ghost use Rattle.journey.specs.Journey.{blankHead};
+ghost use Rattle.timing.specs.Position.{placed};
+ghost use Rattle.timing.specs.Standing.{standing, behind};
+ghost use Rattle.timing.specs.Skips.{stopNamed};
+ghost use Rattle.timing.specs.Load.{target};
+ghost use Rattle.timing.specs.declared.Found.the-variants.{At};
+ghost use Rattle.event.specs.Kinds.{mode, lever, reports, trainLength, number, bringing};
+ghost use Rattle.call.specs.Effect.{taking, positionEffect, loadEffect, sameBool, skipEffect, effect};
+ghost use Rattle.effects.specs.View.{noChanges, oneChange, changesOf, skipStatus, routeView, viewOf, beyondBy, plainEffect, Gives};
+
+// The engine with the event's values, the head of a journey that was loaded, the points that changed, whether one became reached, and what the
+// conditions look up before and after it. `number` is 0, or that of the row that refuses.
+pub struct Effect {
+    pub engine: Engine,
+    pub number: u8,
+    pub loaded: bool,
+    pub head: Head,
+    pub changes: Changes,
+    pub reached: bool,
+    pub before: View,
+    pub after: View,
+}
+
+fn no_head() -> Head
+    ensures { λ r. ⌜ r ≡ blankHead ⌝ }
+{
+    Head {
+        operational: 0,
+        date: 0,
+        seconds: 0,
+        counter: 0,
+        atots: 0,
+    }
+}
+
+fn no_changes() -> Changes
+    ensures { λ r. ⌜ r ≡ noChanges ⌝ }
+{
+    let after = Progress {
+        next: 0,
+        reached: false,
+    };
+    Changes {
+        first: false,
+        index: 0,
+        status: 0,
+        after: after,
+        from: 0,
+        to: 0,
+        stopped: false,
+    }
+}
+
+fn one_change(index: u8, status: u8, after: Progress) -> Changes
+    ensures { λ r. ⌜ r ≡ oneChange index status after ⌝ }
+{
+    Changes {
+        first: true,
+        index: index,
+        status: status,
+        after: after,
+        from: 0,
+        to: 0,
+        stopped: false,
+    }
+}
+
+// An engine with nothing loaded and no point changed; the engine does not count where a row refuses.
+fn plain(e: Engine, number: u8, before: View, after: View) -> Effect
+    ensures { λ r. ⌜ r ≡ plainEffect e number before after ⌝ }
+{
+    let head = no_head();
+    let changes = no_changes();
+    Effect {
+        engine: e,
+        number: number,
+        loaded: false,
+        head: head,
+        changes: changes,
+        reached: false,
+        before: before,
+        after: after,
+    }
+}
+
+fn with_mode(e: Engine, n: u8) -> Engine
+    ensures { λ r. ⌜ r ≡ taking e (bringing (number mode n)) ⌝ }
+{
+    let mut m = e;
+    m.control.mode = n;
+    m
+}
+
+fn with_lever(e: Engine, n: u8) -> Engine
+    ensures { λ r. ⌜ r ≡ taking e (bringing (number lever n)) ⌝ }
+{
+    let mut m = e;
+    m.control.lever = n;
+    m
+}
+
+fn with_reports(e: Engine, n: u8) -> Engine
+    ensures { λ r. ⌜ r ≡ taking e (bringing (number reports n)) ⌝ }
+{
+    let mut m = e;
+    m.control.reports = n;
+    m
+}
+
+fn with_length(e: Engine, n: u32) -> Engine
+    ensures { λ r. ⌜ r ≡ taking e (bringing (number trainLength n)) ⌝ }
+{
+    let mut m = e;
+    m.train.length = n;
+    m
+}
+
+fn with_position(e: Engine, x: Position) -> Engine
+    ensures { λ r. ⌜ r ≡ withPosition e x ⌝ }
+{
+    let train = Train {
+        position: x,
+        length: e.train.length,
+    };
+    let mut m = e;
+    m.train = train;
+    m
+}
+
+// 13, by the segment that a position names.
+fn offset_beyond(s: Named, x: Position) -> bool
+    ensures { λ r. ⌜ r ≡ beyondBy s x ⌝ }
+{
+    if x.offset == 16777215 {
+        return false;
+    }
+    if !s.found {
+        return false;
+    }
+    if s.segment.booked {
+        s.segment.length < x.offset
+    } else {
+        false
+    }
+}
+
+fn changes_of(index: u8, t: Reported) -> Changes
+    ensures { λ r. ⌜ r ≡ changesOf index t ⌝ }
+{
+    let after = Progress {
+        next: t.from,
+        reached: false,
+    };
+    Changes {
+        first: t.departed,
+        index: index,
+        status: 2,
+        after: after,
+        from: t.from,
+        to: t.progress.next,
+        stopped: t.reached,
+    }
+}
+
+// Whether the first point not passed is placed, from before the report on.
+fn placed_after(m: Engine, next: u8, before: bool) -> bool
+    requires { ⌜ before ≡ placed (routeIn m) (m .progress .next) ⌝ }
+    ensures { λ r. ⌜ r ≡ placed (routeIn m) next ⌝ }
+{
+    if next == m.progress.next {
+        before
+    } else {
+        control::placed_at(m, next)
+    }
+}
+
+// A position report.
+fn position(e: Engine, x: Position, view: View) -> Effect
+    requires { ⌜ view ≡ viewOf e ⌝ }
+    ensures { λ r. ⌜ Gives e (positionEffect (withPosition e x)) r ⌝ }
+{
+    let mut m = with_position(e, x);
+    let t = timing::report(m);
+    let segment = t.segment;
+    if offset_beyond(segment, x) {
+        return plain(e, 13, view, view);
+    }
+    let head = no_head();
+    let changes = changes_of(m.progress.next, t);
+    let progress = t.progress;
+    let placed = placed_after(m, progress.next, view.placed);
+    let after = control::view_by(segment, x, placed);
+    m.progress = progress;
+    Effect {
+        engine: m,
+        number: 0,
+        loaded: false,
+        head: head,
+        changes: changes,
+        reached: t.reached,
+        before: view,
+        after: after,
+    }
+}
+
+// The route of a load in force, with no driver skip.
+fn with_route(e: Engine, l: Loaded) -> Engine
+    ensures { λ r. ⌜ r ≡ withRoute e (routeView l) ⌝ }
+{
+    let mut m = e;
+    let points = l.points;
+    let segments = l.segments;
+    let load = l.load;
+    let none = [false; 64];
+    m.points = points;
+    m.segments = segments;
+    m.load = load;
+    m.skips = none;
+    m
+}
+
+// The point that a load targets.
+fn with_target(e: Engine) -> Engine
+    ensures { λ r. ⌜ r ≡ withProgress e (progress (target (routeIn e) (e .train .position) (e .train .length)) false) ⌝ }
+{
+    let next = timing::target(e);
+    let progress = Progress {
+        next: next,
+        reached: false,
+    };
+    let mut m = e;
+    m.progress = progress;
+    m
+}
+
+fn load(e: Engine, journey: &[u8], book: &[u8], view: View) -> Effect
+    requires { ⌜ view ≡ viewOf e ⌝ }
+    ensures { λ r. ⌜ Gives e (loadEffect e (now (journey .entry)) (now (book .entry))) r ⌝ }
+{
+    let l = route::load_route(journey, book);
+    if l.number != 0 {
+        return plain(e, l.number, view, view);
+    }
+    let m = with_target(with_route(e, l));
+    let head = l.head;
+    let changes = no_changes();
+    let after = control::view_of(m);
+    Effect {
+        engine: m,
+        number: 0,
+        loaded: true,
+        head: head,
+        changes: changes,
+        reached: false,
+        before: view,
+        after: after,
+    }
+}
+
+// Point k is reached or passed.
+fn is_behind(p: Progress, k: u8) -> bool
+    ensures { λ r. ⌜ r ≡ behind (standing p k) ⌝ }
+{
+    match timing::standing_of(p, k) {
+        Standing::Unused => false,
+        Standing::Targeted => false,
+        Standing::Reached => true,
+        Standing::Passed => true,
+    }
+}
+
+fn same(a: bool, b: bool) -> bool
+    ensures { λ r. ⌜ r ≡ sameBool a b ⌝ }
+{
+    if a { b } else { !b }
+}
+
+fn skip_status(on: bool) -> u8
+    ensures { λ r. ⌜ r ≡ skipStatus on ⌝ }
+{
+    if on { 5 } else { 6 }
+}
+
+fn with_skip(e: Engine, k: usize, on: bool) -> Engine
+    requires { ⌜ k < 64 ⌝ }
+    ensures { λ r. ⌜ r ≡ withSkips e (set (e .skips) k on) ⌝ }
+{
+    let mut skips = e.skips;
+    skips[k] = on;
+    let mut m = e;
+    m.skips = skips;
+    m
+}
+
+// A driver skip of point k, or its revocation.
+fn skip_at(e: Engine, k: usize, on: bool, view: View) -> Effect
+    requires { ⌜ (k < 64) × (view ≡ viewOf e) ⌝ }
+    ensures { λ r. ⌜ Gives e (skipEffect e on (At k)) r ⌝ }
+{
+    let index = k as u8;
+    if is_behind(e.progress, index) {
+        return plain(e, 15, view, view);
+    }
+    let skips = e.skips;
+    let given = skips[k];
+    if same(given, on) {
+        return plain(e, 15, view, view);
+    }
+    let m = with_skip(e, k, on);
+    let head = no_head();
+    let changes = one_change(index, skip_status(on), e.progress);
+    Effect {
+        engine: m,
+        number: 0,
+        loaded: false,
+        head: head,
+        changes: changes,
+        reached: false,
+        before: view,
+        after: view,
+    }
+}
+
+fn skip(e: Engine, nidtp: u32, on: bool, view: View) -> Effect
+    requires { ⌜ view ≡ viewOf e ⌝ }
+    ensures { λ r. ⌜ Gives e (skipEffect e on (stopNamed (routeIn e) nidtp)) r ⌝ }
+{
+    let Found::At(k) = timing::find_stop(e, nidtp) else {
+        return plain(e, 14, view, view);
+    };
+    skip_at(e, k, on, view)
+}
+
+// What the conditions look up in the fresh engine.
+fn fresh_view() -> View
+    ensures { λ r. ⌜ r ≡ viewOf fresh ⌝ }
+{
+    View {
+        located: false,
+        outside: true,
+        placed: false,
+    }
+}
+
+// The effect of an event, by its kind.
+pub fn effect_of(e: Engine, v: Event, journey: &[u8], book: &[u8]) -> Effect
+    ensures { λ r. ⌜ Gives e (effect e (now (journey .entry)) (now (book .entry)) v) r ⌝ }
+{
+    // control::view_of, written out: a call of it would copy the engine once more
+    let s = timing::segment_named(e);
+    let placed = control::placed_at(e, e.progress.next);
+    let view = control::view_by(s, e.train.position, placed);
+    match v {
+        Event::PowerOn => plain(e, 0, view, view),
+        Event::Configured => plain(e, 0, view, view),
+        Event::PowerOff => plain(engine_value::cleared(e), 0, view, fresh_view()),
+        Event::Fault => plain(e, 0, view, view),
+        Event::Reports(n) => plain(with_reports(e, n), 0, view, view),
+        Event::Mode(n) => plain(with_mode(e, n), 0, view, view),
+        Event::Lever(n) => plain(with_lever(e, n), 0, view, view),
+        Event::Press => plain(e, 0, view, view),
+        Event::PositionReport(x) => position(e, x, view),
+        Event::Length(n) => plain(with_length(e, n), 0, view, view),
+        Event::Load => load(e, journey, book, view),
+        Event::Skip(t) => skip(e, t, true, view),
+        Event::Revoke(t) => skip(e, t, false, view),
+    }
+}

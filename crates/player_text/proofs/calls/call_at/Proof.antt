@@ -1,0 +1,52 @@
+use mathlib.Core.Path.{sym, ap, _∙_}
+use denote.Ref.{now}
+use Rattle.player_text.specs.Calls.{call, profiles, blockView}
+use borrow.Author.Needs.{needs}
+use Rattle.player_text.proofs.calls.call_at.Statement.{statement}
+use Rattle.player_text.proofs.calls.call_at.Tie as tie
+
+block-at-requires : tie.Need-block-at-requires
+block-at-requires c κs = search needs
+
+enum-known-event : tie.Need-enum-known-event
+enum-known-event c = search needs
+
+enum-told : tie.Need-enum-told
+enum-told c = search needs
+
+returns : tie.Need-returns
+unfolding call
+returns c = rw (sym (c .before .before .block-at .ensures) ∙ ap (blockView (now (c .before .before .before .before .args .s))) (c .enum-told .given .1))
+
+is-load-requires : tie.Need-is-load-requires
+is-load-requires c κs = search needs
+
+load-at-requires : tie.Need-load-at-requires
+load-at-requires c κs = search needs
+
+returns-2 : tie.Need-returns-2
+unfolding call
+returns-2 c =
+    let s = now (c .before .before .before .before .before .before .before .before .args .s) in
+    let e = sym (c .before .before .before .before .before .before .block-at .ensures) ∙ ap (blockView s) (c .before .before .before .before .event .given .1) in
+    rw (e, sym (c .before .before .is-load .ensures) ∙ c .before .if1 .taken) (c .load-at .ensures)
+
+returns-3 : tie.Need-returns-3
+unfolding call profiles
+returns-3 c =
+    let s = now (c .before .before .before .before .before .before .before .args .s) in
+    let e = sym (c .before .before .before .before .before .block-at .ensures) ∙ ap (blockView s) (c .before .before .before .event .given .1) in
+    rw (e, sym (c .before .is-load .ensures) ∙ c .if1 .left)
+
+pub call-at-spec : {M : Type 1} → statement M
+call-at-spec =
+    tie.close
+    (tie.spec
+    block-at-requires
+    enum-known-event
+    enum-told
+    returns
+    is-load-requires
+    load-at-requires
+    returns-2
+    returns-3)
