@@ -13,29 +13,13 @@ use Rattle.engine_value.specs.declared.Zone.{Zone}
 use Rattle.wire.specs.Numbers.{number}
 use Rattle.book.specs.Book.{BookPoint, lookupPoint}
 use Rattle.book.specs.Table.{sameSegment}
-use Rattle.book.specs.View.{items, pointOf, zoneOf, entrySegment, blankEntry, isNamed, indexFrom, pointView}
+use Rattle.book.specs.View.{items, pointOf, zoneOf, entryView, blankEntry, isNamed, indexFrom, pointView}
 use Rattle.wire.specs.Lists.{All, any}
 use Rattle.book.proofs.Accepted.{SegmentFits}
 use Rattle.book.specs.declared.Entry.{Entry}
 use Rattle.book.specs.declared.Found.{Found}
 use Rattle.book.specs.declared.PointFound.{PointFound}
 use Rattle.engine_value.specs.Engine.{filled}
-
-pub or-true-left : (a b : Bool) → a ≡ true → (a || b) ≡ true
-or-true-left a b e = rw e
-
-pub or-false-left : (a b : Bool) → a ≡ false → (a || b) ≡ b
-or-false-left a b e = rw e
-
--- the first n of the entries es, i of them behind
-module _ (n : ℕ) (es : List Entry) (d : Entry) where
-  pub entry-step : (i : ℕ) → i < n → n ≤ length es → drop i (take n es) ≡ getD es i d ∷ drop (i + 1) (take n es)
-  entry-step i h k =
-      let m : i < length (take n es) = rw length-take (omega arith) in
-      rw (add-one, drop-cons (take n es) i d m, getD-take n es i d h)
-
-  pub entry-end : (i : ℕ) → n ≤ i → drop i (take n es) ≡ []
-  entry-end i h = let m : length (take n es) ≤ i = rw length-take (omega arith) in drop-of-length-le (take n es) m
 
 -- a list of numbers, i of them behind
 pub number-step : (l : List ℕ) (i : ℕ) → i < length l → drop i l ≡ getD l i 0 ∷ drop (i + 1) l
@@ -66,7 +50,7 @@ named-test c sp i (e ∷ es) = go (isNamed c sp e) (named-test c sp (i + 1) es)
     go false ih = ih
 
 -- an entry's record is the same segment as one of others, by their names
-pub same-named : (s : List ℕ) (e : Entry) (es : List Entry) → any (λ g. sameSegment g (entrySegment s e)) (map (entrySegment s) es) ≡ any (isNamed (e .nidc) (e .nidsp)) es
+pub same-named : (s : List ℕ) (e : Entry) (es : List Entry) → any (λ g. sameSegment g (entryView s e)) (map (entryView s) es) ≡ any (isNamed (e .nidc) (e .nidsp)) es
 same-named s e [] = refl
 same-named s e (x ∷ es) = ap (λ (b : Bool). isNamed (e .nidc) (e .nidsp) x || b) (same-named s e es)
 
@@ -121,7 +105,7 @@ items-past v k d (suc n) (suc i) l h = items-past v k d n i (drop k l) (omega ar
 
 -- an entry whose record fits has 16 points at most
 module _ (s : List ℕ) where
-  pub few-points : (es : List Entry) → All SegmentFits (map (entrySegment s) es) → (i : ℕ) → getD es i blankEntry .points ≤ 16
+  pub few-points : (es : List Entry) → All SegmentFits (map (entryView s) es) → (i : ℕ) → getD es i blankEntry .points ≤ 16
   few-points [] f i = omega arith
   few-points (e ∷ es) f zero = omega (arith, f .0 .«point_count», items-length pointOf 10 (e .points) (drop (e .«points_at») s))
   few-points (e ∷ es) f (suc i) = few-points es (f .1) i

@@ -9,7 +9,7 @@ use lib.Seq.{getD-take}
 use native.Mathlib.Nat.{add-zero}
 use native.Mathlib.Omega.{arith}
 use Rattle.book.specs.Book.{lookup}
-use Rattle.book.specs.View.{entrySegment, entriesIn, segmentsIn, blankEntry, isNamed, indexFrom, foundView}
+use Rattle.book.specs.View.{entryView, entriesView, segmentsView, blankEntry, isNamed, indexFrom, foundView}
 use Rattle.book.specs.declared.Entry.{Entry}
 use Rattle.book.specs.declared.Book.{Book}
 use Rattle.book.specs.declared.Found.{Found}
@@ -27,33 +27,33 @@ index-below c sp i j (x ∷ es) e = go (isNamed c sp x) e (index-below c sp (i +
 -- the record of the index is the record of the name
 module _ (s : List ℕ) (b : Book) (c sp : ℕ) where
   found-from : (i : ℕ) (es : List Entry) → ((k : ℕ) → k < length es → getD (b .entries) (i + k) blankEntry ≡ getD es k blankEntry)
-      → foundView s b (indexFrom c sp i es) ≡ lookup c sp (map (entrySegment s) es)
+      → foundView s b (indexFrom c sp i es) ≡ lookup c sp (map (entryView s) es)
   found-from i [] h = refl
   found-from i (x ∷ es) h = go (isNamed c sp x) (found-from (i + 1) es (λ k l. ap (λ (n : ℕ). getD (b .entries) n blankEntry) (step k) ∙ h (suc k) (omega arith)))
     where
       step : (k : ℕ) → i + 1 + k ≡ i + suc k
       step k = omega arith
 
-      go : (t : Bool) → foundView s b (indexFrom c sp (i + 1) es) ≡ lookup c sp (map (entrySegment s) es)
-          → foundView s b (cond t (Found.At i) (indexFrom c sp (i + 1) es)) ≡ cond t (some (entrySegment s x)) (lookup c sp (map (entrySegment s) es))
-      go true ih = ap (λ (e : Entry). some (entrySegment s e)) (ap (λ (n : ℕ). getD (b .entries) n blankEntry) (sym (add-zero i)) ∙ h 0 (omega arith))
+      go : (t : Bool) → foundView s b (indexFrom c sp (i + 1) es) ≡ lookup c sp (map (entryView s) es)
+          → foundView s b (cond t (Found.At i) (indexFrom c sp (i + 1) es)) ≡ cond t (some (entryView s x)) (lookup c sp (map (entryView s) es))
+      go true ih = ap (λ (e : Entry). some (entryView s e)) (ap (λ (n : ℕ). getD (b .entries) n blankEntry) (sym (add-zero i)) ∙ h 0 (omega arith))
       go false ih = ih
 
-  pub found-lookup : foundView s b (indexFrom c sp 0 (entriesIn b)) ≡ lookup c sp (segmentsIn s b)
-  found-lookup = found-from 0 (entriesIn b) (λ k h. ap (λ (n : ℕ). getD (b .entries) n blankEntry) (zero-plus k) ∙ sym (getD-take (min (b .count) 40) (b .entries) k blankEntry (below k h)))
+  pub found-lookup : foundView s b (indexFrom c sp 0 (entriesView b)) ≡ lookup c sp (segmentsView s b)
+  found-lookup = found-from 0 (entriesView b) (λ k h. ap (λ (n : ℕ). getD (b .entries) n blankEntry) (zero-plus k) ∙ sym (getD-take (min (b .count) 40) (b .entries) k blankEntry (below k h)))
     where
       zero-plus : (k : ℕ) → 0 + k ≡ k
       zero-plus k = omega arith
 
-      below : (k : ℕ) → k < length (entriesIn b) → k < min (b .count) 40
+      below : (k : ℕ) → k < length (entriesView b) → k < min (b .count) 40
       below k h = omega (arith, length-take (min (b .count) 40) (b .entries))
 
   -- the two cases
-  pub lookup-at : (i : ℕ) → indexFrom c sp 0 (entriesIn b) ≡ Found.At i → lookup c sp (segmentsIn s b) ≡ some (entrySegment s (getD (b .entries) i blankEntry))
+  pub lookup-at : (i : ℕ) → indexFrom c sp 0 (entriesView b) ≡ Found.At i → lookup c sp (segmentsView s b) ≡ some (entryView s (getD (b .entries) i blankEntry))
   lookup-at i e = sym found-lookup ∙ ap (foundView s b) e
 
-  pub lookup-missing : indexFrom c sp 0 (entriesIn b) ≡ Found.Missing → lookup c sp (segmentsIn s b) ≡ none
+  pub lookup-missing : indexFrom c sp 0 (entriesView b) ≡ Found.Missing → lookup c sp (segmentsView s b) ≡ none
   lookup-missing e = sym found-lookup ∙ ap (foundView s b) e
 
-pub found-below : (b : Book) (c sp i : ℕ) → indexFrom c sp 0 (entriesIn b) ≡ Found.At i → i < min (b .count) 40
-found-below b c sp i e = omega (arith, index-below c sp 0 i (entriesIn b) e .1, length-take (min (b .count) 40) (b .entries))
+pub found-below : (b : Book) (c sp i : ℕ) → indexFrom c sp 0 (entriesView b) ≡ Found.At i → i < min (b .count) 40
+found-below b c sp i e = omega (arith, index-below c sp 0 i (entriesView b) e .1, length-take (min (b .count) 40) (b .entries))

@@ -13,7 +13,7 @@ use Rattle.wire.specs.Parse.{Parse, Reader, andThen, field, free, mapFits, bitM
 use Rattle.wire.specs.Parse.Parse.{bad, good}
 use Rattle.wire.proofs.ReaderLaws.{then-inv, FieldRead, field-inv}
 use Rattle.book.specs.Book.{BookPoint, maxLength, maxRecordPoints, maxReach, bookPoint, zoneRecord, segmentRecord}
-use Rattle.book.specs.View.{items, pointOf, zoneOf, bare, checked, skip, most, Extent, extent}
+use Rattle.book.specs.View.{items, pointOf, zoneOf, bare, bareReader, skip, most, Extent, extent}
 use Rattle.book.specs.declared.Kind.{Kind}
 use Rattle.book.specs.declared.Kind.the-variants.{Points, Zones}
 
@@ -79,16 +79,16 @@ module _ {A : Type 0} (p : Reader A) (v : List ℕ → A) (k : ℕ) (fixed : Fix
   many-cons bad a xs = refl
   many-cons (good u r) a xs = refl
 
-  many-skip : (n : ℕ) (l : List ℕ) → many n p l ≡ andThen (skip n (checked p) l) (λ u r. good (items v k n l) r)
+  many-skip : (n : ℕ) (l : List ℕ) → many n p l ≡ andThen (skip n (bareReader p) l) (λ u r. good (items v k n l) r)
   unfolding many skip
   many-skip zero l = refl
   many-skip (suc n) l = go (p l) refl (λ r. many-skip n r)
     where
-      go : (x : Parse A) → p l ≡ x → ((r : List ℕ) → many n p r ≡ andThen (skip n (checked p) r) (λ u r′. good (items v k n r) r′))
+      go : (x : Parse A) → p l ≡ x → ((r : List ℕ) → many n p r ≡ andThen (skip n (bareReader p) r) (λ u r′. good (items v k n r) r′))
           → andThen x (λ a r. andThen (many n p r) (λ rest r′. good (a ∷ rest) r′))
-          ≡ andThen (andThen (bare x) (λ a r. skip n (checked p) r)) (λ u r. good (v l ∷ items v k n (drop k l)) r)
+          ≡ andThen (andThen (bare x) (λ a r. skip n (bareReader p) r)) (λ u r. good (v l ∷ items v k n (drop k l)) r)
       go bad e ih = refl
-      go (good a r) e ih = let x = fixed l a r e in rw (ih r, many-cons (skip n (checked p) r) a (items v k n r), x .0, x .1)
+      go (good a r) e ih = let x = fixed l a r e in rw (ih r, many-cons (skip n (bareReader p) r) a (items v k n r), x .0, x .1)
 
   -- the values of a list from its count and its place
   abbrev pub valued : Parse Extent → Parse (List A)
@@ -99,15 +99,15 @@ module _ {A : Type 0} (p : Reader A) (v : List ℕ → A) (k : ℕ) (fixed : Fix
   from-skip bad n r = refl
   from-skip (good u r′) n r = refl
 
-  pub listed-extent : (present : Bool) (high : ℕ) (l : List ℕ) (x : Parse Extent) → extent present high (checked p) l ≡ x → listed present high p l ≡ valued x
+  pub listed-extent : (present : Bool) (high : ℕ) (l : List ℕ) (x : Parse Extent) → extent present high (bareReader p) l ≡ x → listed present high p l ≡ valued x
   unfolding listed counted extent
   listed-extent false high l x e = ap valued e
   listed-extent true high l x e = go (field 1 1 high l) ∙ ap valued e
     where
       go : (y : Parse ℕ) → andThen y (λ n r. many n p r)
-          ≡ valued (andThen y (λ n r. andThen (skip n (checked p) r) (λ u r′. good (record { count = n; from = r }) r′)))
+          ≡ valued (andThen y (λ n r. andThen (skip n (bareReader p) r) (λ u r′. good (record { count = n; from = r }) r′)))
       go bad = refl
-      go (good n r) = many-skip n r ∙ from-skip (skip n (checked p) r) n r
+      go (good n r) = many-skip n r ∙ from-skip (skip n (bareReader p) r) n r
 
 -- a reader takes k bytes at least
 abbrev pub Takes : {A : Type 0} → ℕ → Reader A → Type 0

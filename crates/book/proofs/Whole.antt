@@ -16,7 +16,7 @@ use Rattle.wire.proofs.Sure.{sure-of}
 use Rattle.engine_value.specs.Engine.{maxSegments}
 use Rattle.book.specs.Book.{BookSegment, segmentRecord, records}
 use Rattle.book.specs.Table.{sameSegment, nidtpTwice, bookOf}
-use Rattle.book.specs.View.{entrySegment, segmentsIn, bookView, blankEntry, BookRead, allRecords, Listed, refusedBook}
+use Rattle.book.specs.View.{entryView, segmentsView, bookView, blankEntry, BookRead, allRecords, Listed, refusedBook}
 use Rattle.book.proofs.Accepted.{SegmentFits, records-fit}
 use Rattle.book.specs.declared.Entry.{Entry}
 use Rattle.book.specs.declared.Book.{Book}
@@ -118,13 +118,13 @@ module _ (s : List ℕ) where
   read-start es e = record { all = before-none (allRecords s); listed = record { count = refl; size = ap length e; first = refl; blank = e } }
 
   pub read-step : (p n : ℕ) (es es′ : List Entry) (gs : List BookSegment) (e : Entry) (q : ℕ) → ReadTo s p n es gs
-      → segmentRecord (drop p s) ≡ good (entrySegment s e) (drop q s) → es′ ≡ set es n e → ReadTo s q (n + 1) es′ (gs ++ (entrySegment s e ∷ []))
+      → segmentRecord (drop p s) ≡ good (entryView s e) (drop q s) → es′ ≡ set es n e → ReadTo s q (n + 1) es′ (gs ++ (entryView s e ∷ []))
   read-step p n es es′ gs e q g h x = record {
-    all = g .all ∙ ap (before gs) (all-good (drop p s) (entrySegment s e) (drop q s) h) ∙ before-more gs (entrySegment s e) (allRecords (drop q s));
+    all = g .all ∙ ap (before gs) (all-good (drop p s) (entryView s e) (drop q s) h) ∙ before-more gs (entryView s e) (allRecords (drop q s));
     listed = record {
-      count = length-append gs (entrySegment s e ∷ []) ∙ ap (λ (k : ℕ). k + 1) (g .listed .count);
+      count = length-append gs (entryView s e ∷ []) ∙ ap (λ (k : ℕ). k + 1) (g .listed .count);
       size = ap length x ∙ length-set es n e ∙ g .listed .size;
-      first = rw x (kept-first (entrySegment s) n es gs e (g .listed .count) (g .listed .size) (g .listed .first));
+      first = rw x (kept-first (entryView s) n es gs e (g .listed .count) (g .listed .size) (g .listed .first));
       blank = rw x (kept-blank n es e (g .listed .size) (g .listed .blank));
     };
   }
@@ -168,21 +168,21 @@ module _ (s : List ℕ) where
     abbrev pub book : Book
     book = record { number = 0; count = n; entries = es }
 
-    few : gs ≡ segmentsIn s book
+    few : gs ≡ segmentsView s book
     few = sym (take-all 40 gs (omega (arith, g .count))) ∙ g .first
 
-    pub book-fit : All SegmentFits (segmentsIn s book)
+    pub book-fit : All SegmentFits (segmentsView s book)
     book-fit = subst (All SegmentFits) few (all-fit gs [] a)
 
-    judged : (b : Bool) → (twice sameSegment (segmentsIn s book) || (any nidtpTwice (segmentsIn s book) || false)) ≡ b → bookOf s ≡ cond b (refuse 8) (accept (segmentsIn s book))
+    judged : (b : Bool) → (twice sameSegment (segmentsView s book) || (any nidtpTwice (segmentsView s book) || false)) ≡ b → bookOf s ≡ cond b (refuse 8) (accept (segmentsView s book))
     judged b t = book-read gs [] b a (rw (le-ltb maxSegments (length gs) (omega (arith, g .count)), few) t) ∙ ap (λ (x : List BookSegment). cond b (refuse 8) (accept x)) few
 
-    pub book-segment : twice sameSegment (segmentsIn s book) ≡ true → bookOf s ≡ refuse 8
+    pub book-segment : twice sameSegment (segmentsView s book) ≡ true → bookOf s ≡ refuse 8
     book-segment t = judged true (rw t)
 
-    pub book-point : twice sameSegment (segmentsIn s book) ≡ false → any nidtpTwice (segmentsIn s book) ≡ true → bookOf s ≡ refuse 8
+    pub book-point : twice sameSegment (segmentsView s book) ≡ false → any nidtpTwice (segmentsView s book) ≡ true → bookOf s ≡ refuse 8
     book-point t u = judged true (rw (t, u))
 
-    pub book-good : twice sameSegment (segmentsIn s book) ≡ false → any nidtpTwice (segmentsIn s book) ≡ false → BookRead s book
+    pub book-good : twice sameSegment (segmentsView s book) ≡ false → any nidtpTwice (segmentsView s book) ≡ false → BookRead s book
     unfolding bookView
     book-good t u = record { seen = sym (judged false (rw (t, u))); few = h; none = λ z. absurd (false≢true (sym z)); blank = let m : min n 40 ≡ n = omega arith in rw m at (g .blank) }

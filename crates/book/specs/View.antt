@@ -40,8 +40,8 @@ pointOf l = record { nidtp = number 4 l; place = number 4 (drop 4 l); reach = nu
 unfoldable pub zoneOf : List ℕ → Zone
 zoneOf l = record { start = number 4 l; end = number 4 (drop 4 l) }
 
-abbrev pub entrySegment : List ℕ → Entry → BookSegment
-entrySegment s e = record {
+abbrev pub entryView : List ℕ → Entry → BookSegment
+entryView s e = record {
   nidc = e .nidc;
   nidsp = e .nidsp;
   length = e .length;
@@ -50,14 +50,14 @@ entrySegment s e = record {
 }
 
 -- the records that the answer lists; safe for every value of the struct
-abbrev pub entriesIn : Book → List Entry
-entriesIn b = take (min (b .count) 40) (b .entries)
+abbrev pub entriesView : Book → List Entry
+entriesView b = take (min (b .count) 40) (b .entries)
 
-abbrev pub segmentsIn : List ℕ → Book → List BookSegment
-segmentsIn s b = map (entrySegment s) (entriesIn b)
+abbrev pub segmentsView : List ℕ → Book → List BookSegment
+segmentsView s b = map (entryView s) (entriesView b)
 
 unfoldable pub bookView : List ℕ → Book → Judged (List BookSegment)
-bookView s b = if eqb (b .number) 0 then accept (segmentsIn s b) else refuse (b .number)
+bookView s b = if eqb (b .number) 0 then accept (segmentsView s b) else refuse (b .number)
 
 -- what stands in the array beyond the count
 abbrev pub blankEntry : Entry
@@ -81,7 +81,7 @@ indexFrom c sp i (e ∷ es) = if isNamed c sp e then Found.At i else indexFrom c
 
 -- the record of the index that was found
 abbrev pub foundView : List ℕ → Book → Found → Option BookSegment
-foundView s b (Found.At i) = some (entrySegment s (getD (b .entries) i blankEntry))
+foundView s b (Found.At i) = some (entryView s (getD (b .entries) i blankEntry))
 foundView s b Found.Missing = none
 
 -- the point of the name t that was found
@@ -89,11 +89,11 @@ abbrev pub pointView : ℕ → PointFound → Option BookPoint
 pointView t (PointFound.Found p r) = some (record { nidtp = t; place = p; reach = r })
 pointView t PointFound.Missing = none
 
-unfoldable pub zoneIn : List ℕ → Entry → ℕ → Zone
-zoneIn s e k = getD (entrySegment s e .zones) k blankZone
+unfoldable pub zoneView : List ℕ → Entry → ℕ → Zone
+zoneView s e k = getD (entryView s e .zones) k blankZone
 
-unfoldable pub zonesOf : List ℕ → Entry → Zones
-zonesOf s e = record { count = e .zones; zones = filled 4 blankZone (entrySegment s e .zones) }
+unfoldable pub zonesView : List ℕ → Entry → Zones
+zonesView s e = record { count = e .zones; zones = filled 4 blankZone (entryView s e .zones) }
 
 -- ---- inner functions: readers that keep no list, and what their answers say
 
@@ -101,8 +101,8 @@ zonesOf s e = record { count = e .zones; zones = filled 4 blankZone (entrySegmen
 abbrev pub bare : {A : Type 0} → Parse A → Parse (Unit {0})
 bare x = andThen x (λ a r. good tt r)
 
-abbrev pub checked : {A : Type 0} → Reader A → Reader (Unit {0})
-checked p l = bare (p l)
+abbrev pub bareReader : {A : Type 0} → Reader A → Reader (Unit {0})
+bareReader p l = bare (p l)
 
 -- n items one after the other, without their values
 unfoldable pub skip : ℕ → Reader (Unit {0}) → Reader (Unit {0})
@@ -111,8 +111,8 @@ skip (suc n) p = p >> skip n p
 
 -- an item of a record's lists, and the greatest count
 abbrev pub item : Kind → ℕ → Reader (Unit {0})
-item Kind.Points len = checked (bookPoint len)
-item Kind.Zones len = checked (zoneRecord len)
+item Kind.Points len = bareReader (bookPoint len)
+item Kind.Zones len = bareReader (zoneRecord len)
 
 abbrev pub most : Kind → ℕ
 most Kind.Points = maxRecordPoints
@@ -138,7 +138,7 @@ itemsView s (Items.Read n p next) = good (record { count = n; from = drop p s })
 itemsView s Items.Bad = bad
 
 abbrev pub segmentView : List ℕ → SegmentRead → Parse BookSegment
-segmentView s (SegmentRead.Record e next) = good (entrySegment s e) (drop next s)
+segmentView s (SegmentRead.Record e next) = good (entryView s e) (drop next s)
 segmentView s SegmentRead.Bad = bad
 
 -- the records of a whole book
@@ -149,7 +149,7 @@ allRecords l = records (suc (length l)) l
 pub record Listed (s : List ℕ) (n : ℕ) (es : List Entry) (gs : List BookSegment) : Type 0 where
   pub count : length gs ≡ n
   pub size : length es ≡ 40
-  pub first : take 40 gs ≡ map (entrySegment s) (take (min n 40) es)
+  pub first : take 40 gs ≡ map (entryView s) (take (min n 40) es)
   pub blank : drop (min n 40) es ≡ replicate (40 - min n 40) blankEntry
 
 -- the answer of the pass over the book

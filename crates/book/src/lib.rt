@@ -13,7 +13,7 @@ ghost use Rattle.wire.specs.Lists.{any, twice};
 ghost use Rattle.wire.specs.Parse.{mapFits};
 ghost use Rattle.book.specs.Book.{segmentRecord, lookupPoint};
 ghost use Rattle.book.specs.Table.{sameSegment, nidtpTwice};
-ghost use Rattle.book.specs.View.{items, entrySegment, segmentsIn, blankEntry, entriesIn, isNamed, indexFrom, pointView, zoneIn, zonesOf, BookRead};
+ghost use Rattle.book.specs.View.{items, entryView, segmentsView, blankEntry, entriesView, isNamed, indexFrom, pointView, zoneView, zonesView, BookRead};
 ghost use Rattle.book.specs.View.{item, most, skip, extent, endsView, itemsView, segmentView, RecordsRead, refusedBook};
 
 // A segment record that was read: its numbers, and where its lists stand in the book's bytes.
@@ -288,7 +288,7 @@ fn is_named(e: Entry, nidc: u16, nidsp: u32) -> bool
 
 // The first entry from an index on that has the name.
 fn find_from(b: Book, from: usize, nidc: u16, nidsp: u32) -> Found
-    ensures { λ r. ⌜ r ≡ indexFrom nidc nidsp from (drop from (entriesIn b)) ⌝ }
+    ensures { λ r. ⌜ r ≡ indexFrom nidc nidsp from (drop from (entriesView b)) ⌝ }
 {
     let n = count_of(b.count);
     let mut i = from;
@@ -304,13 +304,13 @@ fn find_from(b: Book, from: usize, nidc: u16, nidsp: u32) -> Found
 
 // The entry of a segment, which NID_C and NID_SP name together.
 pub fn find_segment(b: Book, nidc: u16, nidsp: u32) -> Found
-    ensures { λ r. ⌜ r ≡ indexFrom nidc nidsp 0 (entriesIn b) ⌝ }
+    ensures { λ r. ⌜ r ≡ indexFrom nidc nidsp 0 (entriesView b) ⌝ }
 {
     find_from(b, 0, nidc, nidsp)
 }
 
 fn has_from(b: Book, from: usize, nidc: u16, nidsp: u32) -> bool
-    ensures { λ r. ⌜ r ≡ any (isNamed nidc nidsp) (drop from (entriesIn b)) ⌝ }
+    ensures { λ r. ⌜ r ≡ any (isNamed nidc nidsp) (drop from (entriesView b)) ⌝ }
 {
     match find_from(b, from, nidc, nidsp) {
         Found::At(_) => true,
@@ -320,7 +320,7 @@ fn has_from(b: Book, from: usize, nidc: u16, nidsp: u32) -> bool
 
 // Two entries have one name.
 fn segment_twice(b: Book) -> bool
-    ensures { λ r. ⌜ ((s : List ℕ) → r ≡ twice sameSegment (segmentsIn s b)) ⌝ }
+    ensures { λ r. ⌜ ((s : List ℕ) → r ≡ twice sameSegment (segmentsView s b)) ⌝ }
 {
     let n = count_of(b.count);
     let mut i: usize = 0;
@@ -404,8 +404,8 @@ fn name_twice(s: &[u8], at: usize, n: u8) -> bool
 
 // In one record two points have one name.
 fn point_twice(s: &[u8], b: Book) -> bool
-    requires { ⌜ ((i : ℕ) → getD (entriesIn b) i blankEntry .points ≤ 16) ⌝ }
-    ensures { λ r. ⌜ r ≡ any nidtpTwice (segmentsIn (now (s .entry)) b) ⌝ }
+    requires { ⌜ ((i : ℕ) → getD (entriesView b) i blankEntry .points ≤ 16) ⌝ }
+    ensures { λ r. ⌜ r ≡ any nidtpTwice (segmentsView (now (s .entry)) b) ⌝ }
 {
     let n = count_of(b.count);
     let mut i: usize = 0;
@@ -461,7 +461,7 @@ pub fn read_book(s: &[u8]) -> Book
 
 // Place and reached distance of a record's point.
 pub fn find_point(s: &[u8], e: Entry, nidtp: u32) -> PointFound
-    ensures { λ r. ⌜ pointView nidtp r ≡ lookupPoint nidtp (entrySegment (now (s .entry)) e .points) ⌝ }
+    ensures { λ r. ⌜ pointView nidtp r ≡ lookupPoint nidtp (entryView (now (s .entry)) e .points) ⌝ }
 {
     let n = e.points;
     let mut p = e.points_at;
@@ -483,7 +483,7 @@ pub fn find_point(s: &[u8], e: Entry, nidtp: u32) -> PointFound
 
 // The zone of an index, blank where the record has none.
 fn zone_in(s: &[u8], e: Entry, k: u8) -> Zone
-    ensures { λ r. ⌜ r ≡ zoneIn (now (s .entry)) e k ⌝ }
+    ensures { λ r. ⌜ r ≡ zoneView (now (s .entry)) e k ⌝ }
 {
     if k < e.zones {
         let a = after(s, e.zones_at, 8 * (k as usize));
@@ -499,7 +499,7 @@ fn zone_in(s: &[u8], e: Entry, k: u8) -> Zone
 
 // The zones of a record; one that was read has at most four.
 pub fn zones_of(s: &[u8], e: Entry) -> Zones
-    ensures { λ r. ⌜ r ≡ zonesOf (now (s .entry)) e ⌝ }
+    ensures { λ r. ⌜ r ≡ zonesView (now (s .entry)) e ⌝ }
 {
     let a = zone_in(s, e, 0);
     let b = zone_in(s, e, 1);

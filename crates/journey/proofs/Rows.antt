@@ -14,7 +14,7 @@ use Rattle.wire.specs.Parse.Parse.{bad, good}
 use Rattle.wire.specs.Judged.Judged.{refuse, accept}
 use Rattle.journey.specs.Journey.{nameRecord, pointRecord, headRecord, journeyRecord, journeyValue}
 use Rattle.journey.proofs.Filling.{filled-length}
-use Rattle.journey.specs.View.{namesView, pointsView, refusedBy, JourneyRead}
+use Rattle.journey.specs.View.{namesReadView, pointsReadView, refusedJourney, JourneyRead}
 use Rattle.journey.specs.Journey.{blankName, blankJourneyPoint}
 use Rattle.journey.specs.declared.Name.{Name}
 use Rattle.journey.specs.declared.JourneyPoint.{JourneyPoint}
@@ -43,19 +43,19 @@ map-missing {A} m l f = go (pointBits m) (skipsStop m) refl
     go true false q e = rw q
     go false b q e = refl
 
-pub told-refused : (s : List ℕ) (r : Journey) → r ≡ refusedBy 9 → refuse 9 ≡ journeyValue s → JourneyRead s r
+pub told-refused : (s : List ℕ) (r : Journey) → r ≡ refusedJourney 9 → refuse 9 ≡ journeyValue s → JourneyRead s r
 told-refused s r e q = rw e record { seen = q; held = refl }
 
-pub names-bad : (s : List ℕ) (r : Names) → r .ok ≡ false → namesView s r ≡ bad
+pub names-bad : (s : List ℕ) (r : Names) → r .ok ≡ false → namesReadView s r ≡ bad
 names-bad s r q = rw q
 
-pub names-good : (s : List ℕ) (r : Names) → r .ok ≡ true → namesView s r ≡ good (take (r .count) (r .names)) (drop (r .next) s)
+pub names-good : (s : List ℕ) (r : Names) → r .ok ≡ true → namesReadView s r ≡ good (take (r .count) (r .names)) (drop (r .next) s)
 names-good s r q = rw q
 
-pub points-bad : (s : List ℕ) (r : Points) → r .ok ≡ false → pointsView s r ≡ bad
+pub points-bad : (s : List ℕ) (r : Points) → r .ok ≡ false → pointsReadView s r ≡ bad
 points-bad s r q = rw q
 
-pub points-good : (s : List ℕ) (r : Points) → r .ok ≡ true → pointsView s r ≡ good (take (r .count) (r .points)) (drop (r .next) s)
+pub points-good : (s : List ℕ) (r : Points) → r .ok ≡ true → pointsReadView s r ≡ good (take (r .count) (r .points)) (drop (r .next) s)
 points-good s r q = rw q
 
 module _ (s : List ℕ) where

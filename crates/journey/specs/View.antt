@@ -34,45 +34,45 @@ abbrev pub headView : List ℕ → HeadRead → Parse Head
 headView s (HeadRead.Read h next) = good h (drop next s)
 headView s HeadRead.Bad = bad
 
-abbrev pub namesView : List ℕ → Names → Parse (List Name)
-namesView s r = if r .ok then good (take (r .count) (r .names)) (drop (r .next) s) else bad
+abbrev pub namesReadView : List ℕ → Names → Parse (List Name)
+namesReadView s r = if r .ok then good (take (r .count) (r .names)) (drop (r .next) s) else bad
 
 pub record NamesRead (s : List ℕ) (at : ℕ) (r : Names) : Type 0 where
-  pub seen : namesView s r ≡ counted 40 nameRecord (drop at s)
+  pub seen : namesReadView s r ≡ counted 40 nameRecord (drop at s)
   pub most : r .count ≤ 40
   pub array : r .ok ≡ true → r .names ≡ filled 40 blankName (take (r .count) (r .names))
 
-abbrev pub pointsView : List ℕ → Points → Parse (List JourneyPoint)
-pointsView s r = if r .ok then good (take (r .count) (r .points)) (drop (r .next) s) else bad
+abbrev pub pointsReadView : List ℕ → Points → Parse (List JourneyPoint)
+pointsReadView s r = if r .ok then good (take (r .count) (r .points)) (drop (r .next) s) else bad
 
 pub record PointsRead (s : List ℕ) (at : ℕ) (r : Points) : Type 0 where
-  pub seen : pointsView s r ≡ counted 64 pointRecord (drop at s)
+  pub seen : pointsReadView s r ≡ counted 64 pointRecord (drop at s)
   pub most : r .count ≤ 64
   pub array : r .ok ≡ true → r .points ≡ filled 64 blankJourneyPoint (take (r .count) (r .points))
 
 -- ---- the whole journey
 
 -- the names and the points that the answer lists; safe for every value of the struct
-abbrev pub namesIn : Journey → List Name
-namesIn j = take (min (j .«name_count») 40) (j .names)
+abbrev pub namesView : Journey → List Name
+namesView j = take (min (j .«name_count») 40) (j .names)
 
-abbrev pub pointsIn : Journey → List JourneyPoint
-pointsIn j = take (min (j .«point_count») 64) (j .points)
+abbrev pub pointsView : Journey → List JourneyPoint
+pointsView j = take (min (j .«point_count») 64) (j .points)
 
-abbrev pub valueIn : Journey → JourneyValue
-valueIn j = record { head = j .head; names = namesIn j; points = pointsIn j }
+abbrev pub valueView : Journey → JourneyValue
+valueView j = record { head = j .head; names = namesView j; points = pointsView j }
 
 abbrev pub journeyView : Journey → Judged JourneyValue
-journeyView j = if eqb (j .number) 0 then accept (valueIn j) else refuse (j .number)
+journeyView j = if eqb (j .number) 0 then accept (valueView j) else refuse (j .number)
 
 -- "Every refusal returns the number only"
-abbrev pub refusedBy : ℕ → Journey
-refusedBy n =
+abbrev pub refusedJourney : ℕ → Journey
+refusedJourney n =
     record { number = n; head = blankHead; «name_count» = 0; names = replicate 40 blankName; «point_count» = 0; points = replicate 64 blankJourneyPoint }
 
 -- the one answer for each outcome: nothing stands beside the values, or beside the number
 abbrev pub journeyHeld : Judged JourneyValue → Journey
-journeyHeld (refuse n) = refusedBy n
+journeyHeld (refuse n) = refusedJourney n
 journeyHeld (accept v) =
     record { number = 0; head = v .head; «name_count» = length (v .names); names = filled 40 blankName (v .names); «point_count» = length (v .points); points = filled 64 blankJourneyPoint (v .points) }
 

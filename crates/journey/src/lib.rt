@@ -10,7 +10,7 @@ ghost use lib.ListN.{drop};
 ghost use Rattle.wire.specs.Numbers.{bit};
 ghost use Rattle.wire.specs.Parse.{mapFits};
 ghost use Rattle.journey.specs.Journey.{nameRecord, pointRecord, headRecord};
-ghost use Rattle.journey.specs.View.{nameView, pointView, headView, NamesRead, PointsRead, refusedBy, JourneyRead};
+ghost use Rattle.journey.specs.View.{nameView, pointView, headView, NamesRead, PointsRead, refusedJourney, JourneyRead};
 
 // The name of a segment.
 pub struct Name {
@@ -309,7 +309,7 @@ fn read_points(s: &[u8], at: usize) -> Points
 
 // A journey that is refused has no value beside the number.
 fn refused(number: u8) -> Journey
-    ensures { λ r. ⌜ r ≡ refusedBy number ⌝ }
+    ensures { λ r. ⌜ r ≡ refusedJourney number ⌝ }
 {
     let name = Name { nidc: 0, nidsp: 0 };
     let point = JourneyPoint {

@@ -2,5 +2,5 @@ pub mod Accepted
 pub mod Rows
 pub mod Placed
 pub mod Limits
-pub mod Loops
+pub mod Rising
 pub mod Ranges

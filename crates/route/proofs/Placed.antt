@@ -7,64 +7,52 @@ use mathlib.Core.Option.{Option, some}
 use native.Mathlib.Omega.{arith}
 use native.Mathlib.Numerals.{add-one}
 use lib.ListN.{length, getD, take, drop, set, replicate, length-take, List·getD-map}
-use lib.Seq.{take-suc, take-suc-set, length-take-le, getD-take}
+use lib.Seq.{take-suc, length-take-le, getD-take}
 use lib.Dec.{leb}
 use borrow.Author.Tests.{leb-false}
 use Rattle.wire.specs.Numbers.{if_then_else_}
 use Rattle.wire.specs.Lists.{All, any, every, tabulate, sum}
 use Rattle.wire.proofs.Sure.{all-at}
-use Rattle.wire.proofs.ListLaws.{any-false, any-same, map-same, map-append, every-append, sum-append, tabulate-more}
+use Rattle.wire.proofs.ListLaws.{one-more, any-false, any-same, map-same, map-append, every-append, sum-append, tabulate-more}
 use Rattle.engine_value.specs.Engine.{blankSegment, blankPoint, filled}
 use Rattle.engine_value.specs.declared.Segment.{Segment}
 use Rattle.engine_value.specs.declared.Point.{Point}
 use Rattle.book.specs.Book.{BookPoint, BookSegment, lookupPoint, isSome}
-use Rattle.book.specs.View.{zoneOf, entrySegment, zonesOf, blankEntry}
+use Rattle.book.specs.View.{zoneOf, entryView, zonesView, blankEntry}
 use Rattle.book.proofs.Entries.{items-length}
 use Rattle.book.specs.declared.Entry.{Entry}
 use Rattle.book.specs.declared.Zones.{Zones}
 use Rattle.journey.proofs.Filling.{filled-at, Filling, filling-none, filling-more, filling-end}
 use Rattle.journey.specs.Journey.{blankName, blankJourneyPoint, JourneyValue}
-use Rattle.journey.specs.View.{namesIn, pointsIn, valueIn}
+use Rattle.journey.specs.View.{namesView, pointsView, valueView}
 use Rattle.journey.specs.declared.Journey.{Journey}
 use Rattle.journey.specs.declared.Name.{Name}
 use Rattle.journey.specs.declared.JourneyPoint.{JourneyPoint}
 use Rattle.route.specs.Placing.{recordOf, lengthOn, pointsOn, booked, placedAt, startAt, segmentOf, nameAt, segmentAt, segmentsOf, placeOn, reachOn, pointOf, recordAt, recordPoint, pointAt, pointsOf}
-use Rattle.route.specs.Table.{indexBeyond, nidtps, pointMissing}
-use Rattle.route.specs.View.{recordView, entryIn, recordsIn, Sound, PlacesFit, PlacingRead}
+use Rattle.journey_rows.specs.Rows.{indexBeyond}
+use Rattle.route.specs.Table.{pointMissing}
+use Rattle.route.specs.View.{recordView, recordedEntryView, recordsView, Sound, PlacesFit, PlacingRead}
 use Rattle.route.proofs.Limits.{recordPoints, length-limit, segments-length, segment-at, starts-limit, places-limit}
 use Rattle.route.specs.declared.Recorded.{Recorded}
 use Rattle.route.specs.declared.Placing.{Placing}
 
 -- the code's segment for a record that was found
-pub booked-is : (s : List ℕ) (n : Name) (placed : Bool) (start from : ℕ) (e : Entry) (z : Zones) → z ≡ zonesOf s e → from ≡ (if placed then start else 0)
-    → _≡_ {A = Segment} (record { nidc = n .nidc; nidsp = n .nidsp; booked = true; placed = placed; start = from; length = e .length; «zone_count» = z .count; zones = z .zones }) (segmentOf n placed start (some (entrySegment s e)))
-unfolding segmentOf zonesOf
+pub booked-is : (s : List ℕ) (n : Name) (placed : Bool) (start from : ℕ) (e : Entry) (z : Zones) → z ≡ zonesView s e → from ≡ (if placed then start else 0)
+    → _≡_ {A = Segment} (record { nidc = n .nidc; nidsp = n .nidsp; booked = true; placed = placed; start = from; length = e .length; «zone_count» = z .count; zones = z .zones }) (segmentOf n placed start (some (entryView s e)))
+unfolding segmentOf zonesView
 booked-is s n placed start from e z p q = rw (p, q, items-length zoneOf 8 (e .zones) (drop (e .«zones_at») s))
 
 -- what the entry of a segment says of the record
-pub entry-length : (s : List ℕ) (r : Recorded) → entryIn r .length ≡ lengthOn (recordView s r)
+pub entry-length : (s : List ℕ) (r : Recorded) → recordedEntryView r .length ≡ lengthOn (recordView s r)
 entry-length s (Recorded.Record e) = refl
 entry-length s Recorded.Missing = refl
 
-entry-points : (s : List ℕ) (r : Recorded) → entrySegment s (entryIn r) .points ≡ pointsOn (recordView s r)
+entry-points : (s : List ℕ) (r : Recorded) → entryView s (recordedEntryView r) .points ≡ pointsOn (recordView s r)
 entry-points s (Recorded.Record e) = refl
 entry-points s Recorded.Missing = refl
 
 abbrev pointsOfEntry : List ℕ → Entry → List BookPoint
-pointsOfEntry s e = entrySegment s e .points
-
-one-more : {A : Type 0} (i : ℕ) (xs : List A) (a : A) → i < length xs → take (i + 1) (set xs i a) ≡ take i xs ++ (a ∷ [])
-one-more i xs a h = ap (λ (k : ℕ). take k (set xs i a)) (add-one i) ∙ take-suc-set xs i a h
-
--- NID_TPs one by one: those of the first i points stand in xs
-module _ (xs : List ℕ) (i : ℕ) (all : List ℕ) (l : List JourneyPoint) (e : all ≡ take i xs ++ nidtps l) where
-  pub nidtps-more : (p : JourneyPoint) (r : List JourneyPoint) → i < length xs → l ≡ p ∷ r → all ≡ take (i + 1) (set xs i (p .nidtp)) ++ nidtps r
-  nidtps-more p r h d = e ∙ ap (λ (x : List JourneyPoint). take i xs ++ nidtps x) d ∙ sym (rw (one-more i xs (p .nidtp) h, append-assoc))
-
-  pub nidtps-all : (n : ℕ) → i ≤ n → n ≤ i → l ≡ [] → take n xs ≡ all
-  nidtps-all n a b d =
-      let m : i ≡ n = omega arith in
-      sym (e ∙ ap (λ (x : List JourneyPoint). take i xs ++ nidtps x) d ∙ append-nil (take i xs) ∙ ap (λ (k : ℕ). take k xs) m)
+pointsOfEntry s e = entryView s e .points
 
 -- the first i segments are placed; `placed` says whether all of them are in the book, `start` is the sum of their lengths
 pub record Placed (s : List ℕ) (book : List BookSegment) (names : List Name) (i : ℕ) (segments : List Segment) (entries : List Entry) (placed : Bool) (start : ℕ) : Type 0 where
@@ -84,7 +72,7 @@ module _ (s : List ℕ) (book : List BookSegment) (names : List Name) where
   placed-none h = record { few = h; within = omega arith; segments-array = filling-none blankSegment 40; entries-array = filling-none blankEntry 40; done = refl; points = refl; all = refl; lengths = refl; sum = omega arith }
 
   -- the length of the next segment
-  pub next-length : (n : Name) (r : Recorded) → Sound book → recordView s r ≡ recordOf book n → entryIn r .length ≤ 16777214
+  pub next-length : (n : Name) (r : Recorded) → Sound book → recordView s r ≡ recordOf book n → recordedEntryView r .length ≤ 16777214
   next-length n r h q = rw (entry-length s r, q) (length-limit (recordOf book n) (h (n .nidc) (n .nidsp)))
 
   -- whether the next segment is placed, and the start of the one behind it
@@ -97,7 +85,7 @@ module _ (s : List ℕ) (book : List BookSegment) (names : List Name) where
 
   pub placed-more : (i : ℕ) (segments : List Segment) (entries : List Entry) (before : Bool) (start : ℕ) (n : Name) (r : Recorded) (e : Entry) (g : Segment) (on : Bool)
       → Sound book → i < length names → drop i names ≡ n ∷ drop (i + 1) names → n ≡ nameAt names i → recordView s r ≡ recordOf book n
-      → e ≡ entryIn r → on ≡ (before && isSome (recordView s r)) → g ≡ segmentOf n on start (recordView s r)
+      → e ≡ recordedEntryView r → on ≡ (before && isSome (recordView s r)) → g ≡ segmentOf n on start (recordView s r)
       → Placed s book names i segments entries before start → Placed s book names (i + 1) (set segments i g) (set entries i e) on (start + e .length)
   unfolding placedAt
   placed-more i segments entries before start n r e g on sound h d at q pe po pg f =
@@ -182,8 +170,8 @@ pointFound records p = lookupPoint (p .nidtp) (getD records (p .index) [])
 abbrev pub lacks : List Segment → List (List BookPoint) → JourneyPoint → Bool
 lacks segments records p = getD segments (p .index) blankSegment .booked && not (isSome (pointFound records p))
 
-abbrev pub pointBy : List Segment → List (List BookPoint) → JourneyPoint → Point
-pointBy segments records p = pointOf p (getD segments (p .index) blankSegment) (pointFound records p)
+abbrev pub pointFrom : List Segment → List (List BookPoint) → JourneyPoint → Point
+pointFrom segments records p = pointOf p (getD segments (p .index) blankSegment) (pointFound records p)
 
 -- where no index is beyond the segments, the arrays say what the book and the journey say
 abbrev Within : JourneyValue → JourneyPoint → Type 0
@@ -203,7 +191,7 @@ module _ (s : List ℕ) (book : List BookSegment) (v : JourneyValue) (m : Placin
       ∙ filled-at blankSegment 40 (segmentsOf book (v .names)) k (omega (arith, segments-length book (v .names)))
       ∙ segment-at book (v .names) k l
 
-  record-same : (k : ℕ) → k < length (v .names) → getD (recordsIn s m) k [] ≡ pointsOn (recordOf book (nameAt (v .names) k))
+  record-same : (k : ℕ) → k < length (v .names) → getD (recordsView s m) k [] ≡ pointsOn (recordOf book (nameAt (v .names) k))
   record-same k l = h .records k ∙ at (v .names) k l
     where
       at : (ns : List Name) (k : ℕ) → k < length ns → getD (recordPoints book ns) k [] ≡ pointsOn (recordOf book (nameAt ns k))
@@ -211,22 +199,22 @@ module _ (s : List ℕ) (book : List BookSegment) (v : JourneyValue) (m : Placin
       at (n ∷ ns) zero l = refl
       at (n ∷ ns) (suc k) l = at ns k (omega arith)
 
-  lacks-same : (p : JourneyPoint) → Within v p → lacks (m .segments) (recordsIn s m) p ≡ (isSome (recordAt book (v .names) p) && not (isSome (recordPoint book (v .names) p)))
+  lacks-same : (p : JourneyPoint) → Within v p → lacks (m .segments) (recordsView s m) p ≡ (isSome (recordAt book (v .names) p) && not (isSome (recordPoint book (v .names) p)))
   unfolding segmentOf
   lacks-same p l = rw (segment-same (p .index) l, record-same (p .index) l)
 
-  pub missing-same : any (lacks (m .segments) (recordsIn s m)) (v .points) ≡ pointMissing book v
-  missing-same = any-same (Within v) (lacks (m .segments) (recordsIn s m)) _ lacks-same (v .points) (all-within v e)
+  pub missing-same : any (lacks (m .segments) (recordsView s m)) (v .points) ≡ pointMissing book v
+  missing-same = any-same (Within v) (lacks (m .segments) (recordsView s m)) _ lacks-same (v .points) (all-within v e)
 
-  point-same : (p : JourneyPoint) → Within v p → pointBy (m .segments) (recordsIn s m) p ≡ pointAt book (v .names) p
+  point-same : (p : JourneyPoint) → Within v p → pointFrom (m .segments) (recordsView s m) p ≡ pointAt book (v .names) p
   point-same p l = rw (segment-same (p .index) l, record-same (p .index) l)
 
-  pub points-same : map (pointBy (m .segments) (recordsIn s m)) (v .points) ≡ pointsOf book v
-  points-same = map-same (Within v) (pointBy (m .segments) (recordsIn s m)) (pointAt book (v .names)) point-same (v .points) (all-within v e)
+  pub points-same : map (pointFrom (m .segments) (recordsView s m)) (v .points) ≡ pointsOf book v
+  points-same = map-same (Within v) (pointFrom (m .segments) (recordsView s m)) (pointAt book (v .names)) point-same (v .points) (all-within v e)
 
 -- the record's point by the entry beside the segment
 pub entry-point : (s : List ℕ) (m : Placing) (p : JourneyPoint) (e : Entry) → e ≡ getD (m .entries) (p .index) blankEntry
-    → lookupPoint (p .nidtp) (entrySegment s e .points) ≡ pointFound (recordsIn s m) p
+    → lookupPoint (p .nidtp) (entryView s e .points) ≡ pointFound (recordsView s m) p
 entry-point s m p e q = rw q (ap (lookupPoint (p .nidtp)) (sym (List·getD-map (pointsOfEntry s) (m .entries) (p .index) blankEntry)))
 
 -- a point of a journey by its index: where no index is beyond the segments, it is below 40
@@ -236,10 +224,10 @@ module _ (j : Journey) where
   below n (p ∷ ps) zero a h = a .0
   below n (p ∷ ps) (suc i) a h = below n ps i (a .1) (omega arith)
 
-  pub index-below : (i : ℕ) → indexBeyond (valueIn j) ≡ false → i < min (j .«point_count») 64 → length (j .points) ≡ 64 → getD (j .points) i blankJourneyPoint .index < 40
+  pub index-below : (i : ℕ) → indexBeyond (valueView j) ≡ false → i < min (j .«point_count») 64 → length (j .points) ≡ 64 → getD (j .points) i blankJourneyPoint .index < 40
   index-below i e h z =
-      let k : i < length (pointsIn j) = rw length-take (omega arith) in
-      let w : getD (pointsIn j) i blankJourneyPoint .index < length (namesIn j) = below (length (namesIn j)) (pointsIn j) i (all-within (valueIn j) e) k in
+      let k : i < length (pointsView j) = rw length-take (omega arith) in
+      let w : getD (pointsView j) i blankJourneyPoint .index < length (namesView j) = below (length (namesView j)) (pointsView j) i (all-within (valueView j) e) k in
       let same = ap (λ (p : JourneyPoint). p .index) (getD-take (min (j .«point_count») 64) (j .points) i blankJourneyPoint h) in
       omega (arith, w, same, length-take (min (j .«name_count») 40) (j .names))
 
@@ -253,14 +241,14 @@ module _ (g : Segment) (o : Option BookPoint) where
 
 -- what the code finds for a point p: its segment g, the entry x beside it, and o, the record's point of its name
 pub lacks-is : (s : List ℕ) (m : Placing) (p : JourneyPoint) (g : Segment) (x : Entry) → g ≡ getD (m .segments) (p .index) blankSegment → x ≡ getD (m .entries) (p .index) blankEntry
-    → (g .booked && not (isSome (lookupPoint (p .nidtp) (entrySegment s x .points)))) ≡ lacks (m .segments) (recordsIn s m) p
+    → (g .booked && not (isSome (lookupPoint (p .nidtp) (entryView s x .points)))) ≡ lacks (m .segments) (recordsView s m) p
 lacks-is s m p g x e f = rw (e, entry-point s m p x f)
 
 module _ (s : List ℕ) (m : Placing) (p : JourneyPoint) (g : Segment) (o : Option BookPoint) (e : g ≡ getD (m .segments) (p .index) blankSegment) where
-  pub point-fits : o ≡ pointFound (recordsIn s m) p → PlacesFit s m → g .start + placeOn o < 2 ^ 32
+  pub point-fits : o ≡ pointFound (recordsView s m) p → PlacesFit s m → g .start + placeOn o < 2 ^ 32
   point-fits f h = rw (e, f) (h (p .index) (p .nidtp))
 
-  pub point-is : o ≡ pointFound (recordsIn s m) p → pointOf p g o ≡ pointBy (m .segments) (recordsIn s m) p
+  pub point-is : o ≡ pointFound (recordsView s m) p → pointOf p g o ≡ pointFrom (m .segments) (recordsView s m) p
   point-is f = rw (e, f)
 
 -- the first i points are placed
@@ -269,13 +257,13 @@ module _ (segments : List Segment) (records : List (List BookPoint)) (l : List J
     pub few : length l ≤ 64
     pub within : i ≤ length l
     pub array : Filling blankPoint 64 i points
-    pub left : map (pointBy segments records) l ≡ take i points ++ map (pointBy segments records) (drop i l)
+    pub left : map (pointFrom segments records) l ≡ take i points ++ map (pointFrom segments records) (drop i l)
 
   pub points-none : length l ≤ 64 → PlacedPoints 0 (replicate 64 blankPoint)
   points-none h = record { few = h; within = omega arith; array = filling-none blankPoint 64; left = refl }
 
   pub points-more : (i : ℕ) (points : List Point) (p : JourneyPoint) (q : Point) → i < length l → drop i l ≡ p ∷ drop (i + 1) l
-      → q ≡ pointBy segments records p → PlacedPoints i points → PlacedPoints (i + 1) (set points i q)
+      → q ≡ pointFrom segments records p → PlacedPoints i points → PlacedPoints (i + 1) (set points i q)
   points-more i points p q h d e f =
       let few : length l ≤ 64 = f .few in
       let z : length points ≡ 64 = f .array .size in
@@ -283,12 +271,12 @@ module _ (segments : List Segment) (records : List (List BookPoint)) (l : List J
         few = few;
         within = omega arith;
         array = filling-more blankPoint 64 i points q (omega arith) (f .array);
-        left = f .left ∙ ap (λ (x : List JourneyPoint). take i points ++ map (pointBy segments records) x) d ∙ sym (rw (one-more i points q (omega arith), append-assoc, e));
+        left = f .left ∙ ap (λ (x : List JourneyPoint). take i points ++ map (pointFrom segments records) x) d ∙ sym (rw (one-more i points q (omega arith), append-assoc, e));
       }
 
-  pub points-end : (i : ℕ) (points : List Point) → drop i l ≡ [] → PlacedPoints i points → points ≡ filled 64 blankPoint (map (pointBy segments records) l)
+  pub points-end : (i : ℕ) (points : List Point) → drop i l ≡ [] → PlacedPoints i points → points ≡ filled 64 blankPoint (map (pointFrom segments records) l)
   points-end i points d f =
       let few : length l ≤ 64 = f .few in
       let w : i ≤ length l = f .within in
-      let e : map (pointBy segments records) l ≡ take i points = f .left ∙ ap (λ (x : List JourneyPoint). take i points ++ map (pointBy segments records) x) d ∙ append-nil (take i points) in
+      let e : map (pointFrom segments records) l ≡ take i points = f .left ∙ ap (λ (x : List JourneyPoint). take i points ++ map (pointFrom segments records) x) d ∙ append-nil (take i points) in
       filling-end blankPoint 64 i points (omega arith) (f .array) ∙ ap (filled 64 blankPoint) (sym e)

@@ -25,8 +25,10 @@ use Rattle.journey.proofs.Accepted.{NameFits, JourneyPointFits, HeadFits, Journ
 use Rattle.journey.specs.declared.Name.{Name}
 use Rattle.journey.specs.declared.JourneyPoint.{JourneyPoint}
 use Rattle.route.specs.Placing.{recordOf, segmentOf, nameAt, segmentAt, segmentsOf, recordPoint, placeOn, reachOn, pointOf, pointAt, pointsOf}
-use Rattle.route.specs.Table.{indexBeyond, nidtps, ends, pointMissing, checked, journeyOf}
-use Rattle.route.specs.Route.{endingOf, routeOf, LoadValue, loadValue, loadOf}
+use Rattle.journey_rows.specs.Rows.{indexBeyond, nidtps, ends}
+use Rattle.route.specs.Table.{pointMissing, checked, journeyOf}
+use Rattle.journey_rows.specs.Rows.{endingOf}
+use Rattle.route.specs.Route.{routeOf, LoadValue, loadValue, loadOf}
 use Rattle.route.specs.View.{Sound}
 use Rattle.route.proofs.Limits.{length-limit, place-limit, reach-limit, zones-limit, segments-length, segments-all, segment-start, starts-limit}
 use Rattle.route.proofs.Placed.{all-within}

@@ -18,16 +18,17 @@ use Rattle.engine_value.specs.declared.Load.{Load}
 use Rattle.book.specs.Book.{BookSegment}
 use Rattle.book.specs.Table.{bookOf}
 use Rattle.book.proofs.Accepted.{book-numbers}
-use Rattle.book.specs.View.{segmentsIn, bookView}
+use Rattle.book.specs.View.{segmentsView, bookView}
 use Rattle.book.specs.declared.Book.{Book}
 use Rattle.journey.specs.Journey.{JourneyValue, journeyRecord, journeyValue}
 use Rattle.journey.proofs.Filling.{filled-take}
-use Rattle.journey.specs.View.{journeyView, valueIn}
+use Rattle.journey.specs.View.{journeyView, valueView}
 use Rattle.journey.specs.declared.Journey.{Journey}
 use Rattle.route.specs.Placing.{segmentsOf, pointAt, pointsOf}
-use Rattle.route.specs.Table.{sameName, indexBeyond, nidtps, ends, pointMissing, indices, places, checked, journeyOf}
+use Rattle.journey_rows.specs.Rows.{sameName, indexBeyond, nidtps, ends, indices}
+use Rattle.route.specs.Table.{pointMissing, places, checked, journeyOf}
 use Rattle.route.specs.Route.{routeOf, loadGroup, LoadValue, loadValue, loadOf}
-use Rattle.route.specs.View.{refusedBy, placedBy, AnsweredBy}
+use Rattle.route.specs.View.{refusedLoad, loadFor, Answered}
 use Rattle.route.specs.declared.Loaded.{Loaded}
 
 -- ---- the rows
@@ -58,37 +59,37 @@ twelve-same book v points e most = ap (λ (x : List Point). twelve x v) first
         ∙ filled-take blankPoint 64 (pointsOf book v) (omega (arith, n))
 
 module _ (book : List BookSegment) (v : JourneyValue) where
-  pub row-10 : ten v ≡ true → placedBy book v ≡ refuse 10
+  pub row-10 : ten v ≡ true → loadFor book v ≡ refuse 10
   unfolding checked
   row-10 a = rw a
 
-  pub row-11 : ten v ≡ false → eleven book v ≡ true → placedBy book v ≡ refuse 11
+  pub row-11 : ten v ≡ false → eleven book v ≡ true → loadFor book v ≡ refuse 11
   unfolding checked
   row-11 a b = rw (a, b)
 
   module _ (a : ten v ≡ false) (b : eleven book v ≡ false) where
-    pub row-12 : twelve (pointsOf book v) v ≡ true → placedBy book v ≡ refuse 12
+    pub row-12 : twelve (pointsOf book v) v ≡ true → loadFor book v ≡ refuse 12
     unfolding checked
     row-12 c = rw (a, b, c)
 
-    pub no-row : twelve (pointsOf book v) v ≡ false → placedBy book v ≡ accept (loadValue book v)
+    pub no-row : twelve (pointsOf book v) v ≡ false → loadFor book v ≡ accept (loadValue book v)
     unfolding checked
     no-row c = rw (a, b, c)
 
 -- ---- answers
 
-pub told-refused : (x : Judged LoadValue) (n : ℕ) (r : Loaded) → eqb n 0 ≡ false → r ≡ refusedBy n → x ≡ refuse n → AnsweredBy x r
+pub told-refused : (x : Judged LoadValue) (n : ℕ) (r : Loaded) → eqb n 0 ≡ false → r ≡ refusedLoad n → x ≡ refuse n → Answered x r
 told-refused x n r t e q = rw (e, q) record { seen = rw t; held = rw t }
 
 pub told-loaded : (book : List BookSegment) (v : JourneyValue) (load : Load) (points : List Point) (segments : List Segment)
     → load ≡ loadGroup v → points ≡ filled 64 blankPoint (pointsOf book v) → segments ≡ filled 40 blankSegment (segmentsOf book (v .names))
-    → placedBy book v ≡ accept (loadValue book v) → AnsweredBy (placedBy book v) (record { number = 0; load = load; points = points; segments = segments; head = v .head })
+    → loadFor book v ≡ accept (loadValue book v) → Answered (loadFor book v) (record { number = 0; load = load; points = points; segments = segments; head = v .head })
 unfolding routeOf
 told-loaded book v load points segments a b c e =
     record { seen = (λ i. accept (record { route = record { load = a i; points = b i; segments = c i }; head = v .head })) ∙ sym e; held = refl }
 
 -- what an answer says of the outcome
-module _ (x : Judged LoadValue) (r : Loaded) (h : AnsweredBy x r) where
+module _ (x : Judged LoadValue) (r : Loaded) (h : Answered x r) where
   pub is-refused : eqb (r .number) 0 ≡ false → x ≡ refuse (r .number)
   is-refused t = sym (h .seen) ∙ rw t
 
@@ -102,7 +103,7 @@ module _ (s : List ℕ) (b : Book) where
   unfolding bookView
   book-refused t = rw t
 
-  pub book-accepted : eqb (b .number) 0 ≡ true → bookView s b ≡ accept (segmentsIn s b)
+  pub book-accepted : eqb (b .number) 0 ≡ true → bookView s b ≡ accept (segmentsView s b)
   unfolding bookView
   book-accepted t = rw t
 
@@ -110,7 +111,7 @@ module _ (j : Journey) where
   pub journey-refused : eqb (j .number) 0 ≡ false → journeyView j ≡ refuse (j .number)
   journey-refused t = rw t
 
-  pub journey-accepted : eqb (j .number) 0 ≡ true → journeyView j ≡ accept (valueIn j)
+  pub journey-accepted : eqb (j .number) 0 ≡ true → journeyView j ≡ accept (valueView j)
   journey-accepted t = rw t
 
 module _ (journey bytes : List ℕ) where
@@ -122,7 +123,7 @@ module _ (journey bytes : List ℕ) where
   unfolding loadOf journeyOf
   no-journey book n e f = rw (e, f)
 
-  pub both : (book : List BookSegment) (v : JourneyValue) → bookOf bytes ≡ accept book → journeyValue journey ≡ accept v → loadOf journey bytes ≡ placedBy book v
+  pub both : (book : List BookSegment) (v : JourneyValue) → bookOf bytes ≡ accept book → journeyValue journey ≡ accept v → loadOf journey bytes ≡ loadFor book v
   unfolding loadOf journeyOf
   both book v e f = rw (e, f)
 

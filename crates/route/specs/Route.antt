@@ -1,9 +1,8 @@
 -- What a load takes from a journey and a book.
-use Prim.Native.Nat.{ℕ, _+_}
-use mathlib.Core.List.{List, [], _∷_}
+use Prim.Native.Nat.{ℕ}
+use mathlib.Core.List.{List}
 use mathlib.Core.Bool.{true}
 use lib.ListN.{length}
-use Rattle.wire.specs.Numbers.{if_then_else_}
 use Rattle.wire.specs.Judged.{Judged, thenJudge, _>>=_}
 use Rattle.wire.specs.Judged.Judged.{accept}
 use Rattle.engine_value.specs.Engine.{maxSegments, maxPoints, Route, blankSegment, blankPoint, filled}
@@ -12,14 +11,9 @@ use Rattle.book.specs.Book.{BookSegment}
 use Rattle.book.specs.Table.{bookOf}
 use Rattle.journey.specs.Journey.{JourneyValue}
 use Rattle.journey.specs.declared.Head.{Head}
-use Rattle.journey.specs.declared.JourneyPoint.{JourneyPoint}
+use Rattle.journey_rows.specs.Rows.{endingOf}
 use Rattle.route.specs.Placing.{segmentsOf, pointsOf}
 use Rattle.route.specs.Table.{journeyOf}
-
--- where the End of Journey stands
-abbrev pub endingOf : List JourneyPoint → ℕ
-endingOf [] = 0
-endingOf (p ∷ ps) = if p .end then 0 else endingOf ps + 1
 
 abbrev pub loadGroup : JourneyValue → Load
 loadGroup j =

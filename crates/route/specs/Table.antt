@@ -1,44 +1,20 @@
 -- Document 01, the place "journey" of the table of numbers, against a book.
-use Prim.Native.Nat.{ℕ, _+_}
-use mathlib.Core.List.{List, [], _∷_, map}
+use Prim.Native.Nat.{ℕ}
+use mathlib.Core.List.{List, map}
 use mathlib.Core.Bool.{Bool, not, _&&_, _||_}
-use lib.ListN.{length}
-use lib.Dec.{eqb, leb}
-use Rattle.wire.specs.Numbers.{flag}
+use lib.Dec.{eqb}
 use Rattle.wire.specs.Lists.{any, those, twice, falls, strictlyRises}
 use Rattle.wire.specs.Judged.{Judged, thenJudge, row, _>>=_, _>>_}
 use Rattle.wire.specs.Judged.Judged.{accept}
 use Rattle.engine_value.specs.declared.Point.{Point}
 use Rattle.book.specs.Book.{BookSegment, isSome}
 use Rattle.journey.specs.Journey.{JourneyValue, journeyValue}
-use Rattle.journey.specs.declared.Name.{Name}
-use Rattle.journey.specs.declared.JourneyPoint.{JourneyPoint}
+use Rattle.journey_rows.specs.Rows.{sameName, indexBeyond, nidtps, ends, indices}
 use Rattle.route.specs.Placing.{recordAt, recordPoint, pointsOf}
-
--- "10 segment twice": NID_C and NID_SP together
-abbrev pub sameName : Name → Name → Bool
-sameName a b = eqb (a .nidc) (b .nidc) && eqb (a .nidsp) (b .nidsp)
-
--- "11 index beyond"
-abbrev pub indexBeyond : JourneyValue → Bool
-indexBeyond j = any (λ p. leb (length (j .names)) (p .index)) (j .points)
-
--- "11 .. NID_TP twice"
-abbrev pub nidtps : List JourneyPoint → List ℕ
-nidtps ps = map (λ (p : JourneyPoint). p .nidtp) ps
-
--- "11 .. not just one End of Journey": how many there are
-abbrev pub ends : List JourneyPoint → ℕ
-ends [] = 0
-ends (p ∷ ps) = flag (p .end) + ends ps
 
 -- "11 .. or a booked segment without the point"
 abbrev pub pointMissing : List BookSegment → JourneyValue → Bool
 pointMissing book j = any (λ p. isSome (recordAt book (j .names) p) && not (isSome (recordPoint book (j .names) p))) (j .points)
-
--- "12 index falls"
-abbrev pub indices : List JourneyPoint → List ℕ
-indices ps = map (λ (p : JourneyPoint). p .index) ps
 
 -- "12 .. or placed points do not strictly rise"
 abbrev pub places : List Point → List ℕ

@@ -2,7 +2,6 @@
 use Prim.Native.Nat.{ℕ, _+_, _^_, _<_, _≤_}
 use mathlib.Core.Path.{_≡_}
 use mathlib.Core.List.{List, [], map}
-use mathlib.Core.Bool.{Bool, _&&_}
 use mathlib.Core.Option.{Option, none, some}
 use lib.ListN.{length, getD, replicate}
 use lib.Dec.{eqb}
@@ -11,7 +10,7 @@ use Rattle.wire.specs.Judged.{Judged, thenJudge}
 use Rattle.wire.specs.Judged.Judged.{refuse, accept}
 use Rattle.engine_value.specs.Engine.{maxSegments, maxPoints, maxZones, blankSegment, blankPoint, noLoad, filled}
 use Rattle.book.specs.Book.{BookPoint, BookSegment, maxLength, maxReach, lookup, lookupPoint}
-use Rattle.book.specs.View.{entrySegment, blankEntry}
+use Rattle.book.specs.View.{entryView, blankEntry}
 use Rattle.book.specs.declared.Entry.{Entry}
 use Rattle.journey.specs.Journey.{blankHead, JourneyValue}
 use Rattle.journey.specs.declared.Name.{Name}
@@ -30,31 +29,28 @@ loadView r =
     if eqb (r .number) 0 then accept (record { route = record { load = r .load; points = r .points; segments = r .segments }; head = r .head }) else refuse (r .number)
 
 -- "Every refusal returns the number only"
-abbrev pub refusedBy : ℕ → Loaded
-refusedBy n =
+abbrev pub refusedLoad : ℕ → Loaded
+refusedLoad n =
     record { number = n; load = noLoad; points = replicate maxPoints blankPoint; segments = replicate maxSegments blankSegment; head = blankHead }
 
 abbrev pub loadHeld : Judged LoadValue → Loaded
-loadHeld (refuse n) = refusedBy n
+loadHeld (refuse n) = refusedLoad n
 loadHeld (accept v) =
     record { number = 0; load = v .route .load; points = v .route .points; segments = v .route .segments; head = v .head }
 
 -- the rows 10 to 12, and what is then loaded
-abbrev pub placedBy : List BookSegment → JourneyValue → Judged LoadValue
-placedBy book v = thenJudge (checked book v) (λ j. accept (loadValue book j))
+abbrev pub loadFor : List BookSegment → JourneyValue → Judged LoadValue
+loadFor book v = thenJudge (checked book v) (λ j. accept (loadValue book j))
 
 -- an answer for an outcome: what it says, and that nothing stands beside the number of a refusal
-pub record AnsweredBy (x : Judged LoadValue) (r : Loaded) : Type 0 where
+pub record Answered (x : Judged LoadValue) (r : Loaded) : Type 0 where
   pub seen : loadView r ≡ x
   pub held : r ≡ loadHeld (loadView r)
 
 abbrev pub LoadRead : List ℕ → List ℕ → Loaded → Type 0
-LoadRead journey bytes r = AnsweredBy (loadOf journey bytes) r
+LoadRead journey bytes r = Answered (loadOf journey bytes) r
 
 -- ---- inner functions
-
-abbrev pub isNamed : ℕ → ℕ → Name → Bool
-isNamed c sp n = eqb (n .nidc) c && eqb (n .nidsp) sp
 
 -- the ranges of a record that placing relies on
 pub record Limits (g : BookSegment) : Type 0 where
@@ -73,24 +69,24 @@ Sound book = (c sp : ℕ) → OnSome Limits (lookup c sp book)
 
 -- the record of the book that was found
 abbrev pub recordView : List ℕ → Recorded → Option BookSegment
-recordView s (Recorded.Record e) = some (entrySegment s e)
+recordView s (Recorded.Record e) = some (entryView s e)
 recordView s Recorded.Missing = none
 
 -- the entry, blank where there is none: its length is then 0, and its lists are empty
-abbrev pub entryIn : Recorded → Entry
-entryIn (Recorded.Record e) = e
-entryIn Recorded.Missing = blankEntry
+abbrev pub recordedEntryView : Recorded → Entry
+recordedEntryView (Recorded.Record e) = e
+recordedEntryView Recorded.Missing = blankEntry
 
 -- the points of the book's record of each segment of the journey
-abbrev pub recordsIn : List ℕ → Placing → List (List BookPoint)
-recordsIn s m = map (λ (e : Entry). entrySegment s e .points) (m .entries)
+abbrev pub recordsView : List ℕ → Placing → List (List BookPoint)
+recordsView s m = map (λ (e : Entry). entryView s e .points) (m .entries)
 
 -- each place from the journey's start is a number of four bytes
 abbrev pub PlacesFit : List ℕ → Placing → Type 0
-PlacesFit s m = (k t : ℕ) → getD (m .segments) k blankSegment .start + placeOn (lookupPoint t (getD (recordsIn s m) k [])) < 2 ^ 32
+PlacesFit s m = (k t : ℕ) → getD (m .segments) k blankSegment .start + placeOn (lookupPoint t (getD (recordsView s m) k [])) < 2 ^ 32
 
 -- the journey's segments by the book, and the records of those that are in it
 pub record PlacingRead (s : List ℕ) (book : List BookSegment) (names : List Name) (m : Placing) : Type 0 where
   pub segments : m .segments ≡ filled maxSegments blankSegment (segmentsOf book names)
-  pub records : (k : ℕ) → getD (recordsIn s m) k [] ≡ getD (map (λ (n : Name). pointsOn (recordOf book n)) names) k []
+  pub records : (k : ℕ) → getD (recordsView s m) k [] ≡ getD (map (λ (n : Name). pointsOn (recordOf book n)) names) k []
   pub fit : PlacesFit s m

@@ -15,19 +15,20 @@ ghost use mathlib.Core.Path.{_≡_};
 ghost use mathlib.Core.List.{List};
 ghost use mathlib.Core.Bool.{false, not, _&&_, _||_};
 ghost use mathlib.Core.Option.{none, some};
-ghost use Prim.Native.Nat.{ℕ, _+_, _^_, _<_, _≤_, min};
-ghost use lib.ListN.{length, drop, take, replicate};
+ghost use Prim.Native.Nat.{ℕ, _+_, _^_, _<_, min};
+ghost use lib.ListN.{length, take, replicate};
 ghost use lib.Dec.{eqb, ltb};
-ghost use Rattle.wire.specs.Numbers.{flag, if_then_else_};
+ghost use Rattle.wire.specs.Numbers.{if_then_else_};
 ghost use Rattle.engine_value.specs.Engine.{blankSegment, blankPoint, filled};
-ghost use Rattle.wire.specs.Lists.{any, twice, falls, strictlyRises};
+ghost use Rattle.wire.specs.Lists.{twice, falls, strictlyRises};
 ghost use Rattle.book.specs.Book.{BookSegment, lookup, lookupPoint, isSome};
-ghost use Rattle.book.specs.View.{entrySegment, segmentsIn, blankEntry, pointView};
-ghost use Rattle.journey.specs.View.{namesIn, pointsIn, valueIn};
+ghost use Rattle.book.specs.View.{entryView, segmentsView, blankEntry, pointView};
+ghost use Rattle.journey.specs.View.{namesView, pointsView, valueView};
 ghost use Rattle.route.specs.Placing.{segmentOf, placeOn, reachOn, pointOf, pointsOf};
-ghost use Rattle.route.specs.Table.{sameName, indexBeyond, nidtps, ends, pointMissing, indices, places};
-ghost use Rattle.route.specs.Route.{endingOf, loadGroup};
-ghost use Rattle.route.specs.View.{refusedBy, isNamed, recordView, entryIn, Sound, PlacesFit, PlacingRead, placedBy, AnsweredBy, LoadRead};
+ghost use Rattle.journey_rows.specs.Rows.{indexBeyond, nidtps, ends, indices};
+ghost use Rattle.route.specs.Table.{pointMissing, places};
+ghost use Rattle.route.specs.Route.{loadGroup};
+ghost use Rattle.route.specs.View.{refusedLoad, recordView, recordedEntryView, Sound, PlacesFit, PlacingRead, loadFor, Answered, LoadRead};
 
 // What a load takes; number is 0, or that of the row that refuses.
 pub struct Loaded {
@@ -50,153 +51,6 @@ struct Placing {
     entries: [Entry; 40],
 }
 
-// How many names there are; the caller learns the length of their array.
-fn name_count(j: Journey) -> usize
-    ensures { λ r. ⌜ (r ≡ min (j .«name_count») 40) × (length (j .names) ≡ 40) ⌝ }
-{
-    let n = j.name_count as usize;
-    if n < 40 { n } else { 40 }
-}
-
-fn point_count(j: Journey) -> usize
-    ensures { λ r. ⌜ (r ≡ min (j .«point_count») 64) × (length (j .points) ≡ 64) ⌝ }
-{
-    let n = j.point_count as usize;
-    if n < 64 { n } else { 64 }
-}
-
-fn is_named(n: Name, nidc: u16, nidsp: u32) -> bool
-    ensures { λ r. ⌜ r ≡ isNamed nidc nidsp n ⌝ }
-{
-    n.nidc == nidc && n.nidsp == nidsp
-}
-
-// A name is among those from an index on.
-fn named_from(j: Journey, from: usize, nidc: u16, nidsp: u32) -> bool
-    ensures { λ r. ⌜ r ≡ any (isNamed nidc nidsp) (drop from (namesIn j)) ⌝ }
-{
-    let n = name_count(j);
-    let mut i = from;
-    while i < n {
-        let name = j.names[i];
-        if is_named(name, nidc, nidsp) {
-            return true;
-        }
-        i += 1;
-    }
-    false
-}
-
-fn name_twice(j: Journey) -> bool
-    ensures { λ r. ⌜ r ≡ twice sameName (namesIn j) ⌝ }
-{
-    let n = name_count(j);
-    let mut i: usize = 0;
-    while i < n {
-        let name = j.names[i];
-        i += 1;
-        if named_from(j, i, name.nidc, name.nidsp) {
-            return true;
-        }
-    }
-    false
-}
-
-// A point's index is not that of a segment.
-fn index_beyond(j: Journey) -> bool
-    ensures { λ r. ⌜ r ≡ indexBeyond (valueIn j) ⌝ }
-{
-    let segments = name_count(j);
-    let n = point_count(j);
-    let mut i: usize = 0;
-    while i < n {
-        let p = j.points[i];
-        if segments <= (p.index as usize) {
-            return true;
-        }
-        i += 1;
-    }
-    false
-}
-
-// NID_TP of each point.
-fn nidtps_of(j: Journey) -> [u32; 64]
-    ensures { λ r. ⌜ take (min (j .«point_count») 64) r ≡ nidtps (pointsIn j) ⌝ }
-{
-    let n = point_count(j);
-    let mut names = [0; 64];
-    let mut i: usize = 0;
-    while i < n {
-        let p = j.points[i];
-        names[i] = p.nidtp;
-        i += 1;
-    }
-    names
-}
-
-fn point_twice(j: Journey) -> bool
-    ensures { λ r. ⌜ r ≡ twice eqb (nidtps (pointsIn j)) ⌝ }
-{
-    let n = point_count(j);
-    let names = nidtps_of(j);
-    book::repeated(&names[..n])
-}
-
-// A test as a number.
-fn one_if(b: bool) -> usize
-    ensures { λ r. ⌜ (r ≡ flag b) × (r ≤ 1) ⌝ }
-{
-    if b { 1 } else { 0 }
-}
-
-// How many End of Journey there are.
-fn end_count(j: Journey) -> usize
-    ensures { λ r. ⌜ r ≡ ends (pointsIn j) ⌝ }
-{
-    let n = point_count(j);
-    let mut sum: usize = 0;
-    let mut i: usize = 0;
-    while i < n {
-        let p = j.points[i];
-        sum += one_if(p.end);
-        i += 1;
-    }
-    sum
-}
-
-fn index_falls(j: Journey) -> bool
-    ensures { λ r. ⌜ r ≡ falls (indices (pointsIn j)) ⌝ }
-{
-    let n = point_count(j);
-    let mut last: u8 = 0;
-    let mut i: usize = 0;
-    while i < n {
-        let p = j.points[i];
-        if p.index < last {
-            return true;
-        }
-        last = p.index;
-        i += 1;
-    }
-    false
-}
-
-// Where the End of Journey stands.
-fn end_index(j: Journey) -> u8
-    ensures { λ r. ⌜ r ≡ endingOf (pointsIn j) ⌝ }
-{
-    let n = point_count(j);
-    let mut i: usize = 0;
-    while i < n {
-        let p = j.points[i];
-        if p.end {
-            return i as u8;
-        }
-        i += 1;
-    }
-    n as u8
-}
-
 fn blank_entry() -> Entry
     ensures { λ r. ⌜ r ≡ blankEntry ⌝ }
 {
@@ -212,7 +66,7 @@ fn blank_entry() -> Entry
 }
 
 fn record_of(b: Book, n: Name) -> Recorded
-    ensures { λ r. ⌜ ((s : List ℕ) → recordView s r ≡ lookup (n .nidc) (n .nidsp) (segmentsIn s b)) ⌝ }
+    ensures { λ r. ⌜ ((s : List ℕ) → recordView s r ≡ lookup (n .nidc) (n .nidsp) (segmentsView s b)) ⌝ }
 {
     let Found::At(k) = book::find_segment(b, n.nidc, n.nidsp) else {
         return Recorded::Missing;
@@ -221,7 +75,7 @@ fn record_of(b: Book, n: Name) -> Recorded
 }
 
 fn entry_in(r: Recorded) -> Entry
-    ensures { λ e. ⌜ e ≡ entryIn r ⌝ }
+    ensures { λ e. ⌜ e ≡ recordedEntryView r ⌝ }
 {
     match r {
         Recorded::Record(e) => e,
@@ -247,7 +101,7 @@ fn start_if(placed: bool, start: u32) -> u32
 
 // A segment that is in the book.
 fn booked_segment(s: &[u8], n: Name, placed: bool, start: u32, e: Entry) -> Segment
-    ensures { λ r. ⌜ r ≡ segmentOf n placed start (some (entrySegment (now (s .entry)) e)) ⌝ }
+    ensures { λ r. ⌜ r ≡ segmentOf n placed start (some (entryView (now (s .entry)) e)) ⌝ }
 {
     let z = book::zones_of(s, e);
     let zones = z.zones;
@@ -307,10 +161,10 @@ fn blank_placing() -> Placing
 
 // Each segment of the journey by the book. The lengths of an accepted book add up within four bytes.
 fn place_segments(j: Journey, b: Book, s: &[u8]) -> Placing
-    requires { ⌜ Sound (segmentsIn (now s) b) ⌝ }
-    ensures { λ r. ⌜ PlacingRead (now (s .entry)) (segmentsIn (now (s .entry)) b) (namesIn j) r ⌝ }
+    requires { ⌜ Sound (segmentsView (now s) b) ⌝ }
+    ensures { λ r. ⌜ PlacingRead (now (s .entry)) (segmentsView (now (s .entry)) b) (namesView j) r ⌝ }
 {
-    let n = name_count(j);
+    let n = journey_rows::name_count(j);
     let mut m = blank_placing();
     let mut placed = true;
     let mut start: u32 = 0;
@@ -331,7 +185,7 @@ fn place_segments(j: Journey, b: Book, s: &[u8]) -> Placing
 
 // The segment is in the book, and its record lacks the point.
 fn lacks(s: &[u8], g: Segment, e: Entry, nidtp: u32) -> bool
-    ensures { λ r. ⌜ r ≡ (g .booked && not (isSome (lookupPoint nidtp (entrySegment (now (s .entry)) e .points)))) ⌝ }
+    ensures { λ r. ⌜ r ≡ (g .booked && not (isSome (lookupPoint nidtp (entryView (now (s .entry)) e .points)))) ⌝ }
 {
     if !g.booked {
         return false;
@@ -344,10 +198,10 @@ fn lacks(s: &[u8], g: Segment, e: Entry, nidtp: u32) -> bool
 
 // Each index is that of a segment.
 fn point_missing(j: Journey, m: Placing, s: &[u8]) -> bool
-    requires { ⌜ indexBeyond (valueIn j) ≡ false ⌝ }
-    ensures { λ r. ⌜ ((book : List BookSegment) → PlacingRead (now (s .entry)) book (namesIn j) m → r ≡ pointMissing book (valueIn j)) ⌝ }
+    requires { ⌜ indexBeyond (valueView j) ≡ false ⌝ }
+    ensures { λ r. ⌜ ((book : List BookSegment) → PlacingRead (now (s .entry)) book (namesView j) m → r ≡ pointMissing book (valueView j)) ⌝ }
 {
-    let n = point_count(j);
+    let n = journey_rows::point_count(j);
     let mut i: usize = 0;
     while i < n {
         let p = j.points[i];
@@ -414,10 +268,10 @@ fn point_of(p: JourneyPoint, g: Segment, f: PointFound) -> Point
 
 // Each point of the journey by the segments.
 fn place_points(j: Journey, m: Placing, s: &[u8]) -> [Point; 64]
-    requires { ⌜ (indexBeyond (valueIn j) ≡ false) × PlacesFit (now s) m ⌝ }
-    ensures { λ r. ⌜ ((book : List BookSegment) → PlacingRead (now (s .entry)) book (namesIn j) m → r ≡ filled 64 blankPoint (pointsOf book (valueIn j))) ⌝ }
+    requires { ⌜ (indexBeyond (valueView j) ≡ false) × PlacesFit (now s) m ⌝ }
+    ensures { λ r. ⌜ ((book : List BookSegment) → PlacingRead (now (s .entry)) book (namesView j) m → r ≡ filled 64 blankPoint (pointsOf book (valueView j))) ⌝ }
 {
-    let n = point_count(j);
+    let n = journey_rows::point_count(j);
     let blank = engine_value::blank_point();
     let mut points = [blank; 64];
     let mut i: usize = 0;
@@ -473,15 +327,15 @@ fn place_falls(points: [Point; 64], n: usize) -> bool
 
 // 11 refuses.
 fn row_11(j: Journey, m: Placing, s: &[u8]) -> bool
-    ensures { λ r. ⌜ ((book : List BookSegment) → PlacingRead (now (s .entry)) book (namesIn j) m → r ≡ (indexBeyond (valueIn j) || (twice eqb (nidtps (pointsIn j)) || (not (eqb (ends (pointsIn j)) 1) || pointMissing book (valueIn j))))) ⌝ }
+    ensures { λ r. ⌜ ((book : List BookSegment) → PlacingRead (now (s .entry)) book (namesView j) m → r ≡ (indexBeyond (valueView j) || (twice eqb (nidtps (pointsView j)) || (not (eqb (ends (pointsView j)) 1) || pointMissing book (valueView j))))) ⌝ }
 {
-    if index_beyond(j) {
+    if journey_rows::index_beyond(j) {
         return true;
     }
-    if point_twice(j) {
+    if journey_rows::point_twice(j) {
         return true;
     }
-    if end_count(j) != 1 {
+    if journey_rows::end_count(j) != 1 {
         return true;
     }
     point_missing(j, m, s)
@@ -489,21 +343,21 @@ fn row_11(j: Journey, m: Placing, s: &[u8]) -> bool
 
 // 12 refuses.
 fn row_12(j: Journey, points: [Point; 64]) -> bool
-    ensures { λ r. ⌜ r ≡ (falls (indices (pointsIn j)) || not (strictlyRises (places (take (length (pointsIn j)) points)))) ⌝ }
+    ensures { λ r. ⌜ r ≡ (falls (indices (pointsView j)) || not (strictlyRises (places (take (length (pointsView j)) points)))) ⌝ }
 {
-    if index_falls(j) {
+    if journey_rows::index_falls(j) {
         return true;
     }
-    let n = point_count(j);
+    let n = journey_rows::point_count(j);
     place_falls(points, n)
 }
 
 fn load_of(j: Journey) -> Load
-    ensures { λ r. ⌜ r ≡ loadGroup (valueIn j) ⌝ }
+    ensures { λ r. ⌜ r ≡ loadGroup (valueView j) ⌝ }
 {
-    let ending = end_index(j);
-    let points = point_count(j);
-    let segments = name_count(j);
+    let ending = journey_rows::end_index(j);
+    let points = journey_rows::point_count(j);
+    let segments = journey_rows::name_count(j);
     Load {
         valid: true,
         operational: j.head.operational,
@@ -515,7 +369,7 @@ fn load_of(j: Journey) -> Load
 
 // A load that is refused has no value beside the number.
 fn refused(number: u8) -> Loaded
-    ensures { λ r. ⌜ r ≡ refusedBy number ⌝ }
+    ensures { λ r. ⌜ r ≡ refusedLoad number ⌝ }
 {
     let point = engine_value::blank_point();
     let segment = engine_value::blank_segment();
@@ -546,11 +400,11 @@ fn refused(number: u8) -> Loaded
 
 // A journey that was read, by a book that was read: the rows 10 to 12 in their order.
 fn place(j: Journey, b: Book, s: &[u8]) -> Loaded
-    requires { ⌜ Sound (segmentsIn (now s) b) ⌝ }
-    ensures { λ r. ⌜ AnsweredBy (placedBy (segmentsIn (now (s .entry)) b) (valueIn j)) r ⌝ }
+    requires { ⌜ Sound (segmentsView (now s) b) ⌝ }
+    ensures { λ r. ⌜ Answered (loadFor (segmentsView (now (s .entry)) b) (valueView j)) r ⌝ }
 {
     let m = place_segments(j, b, s);
-    let twice = name_twice(j);
+    let twice = journey_rows::name_twice(j);
     let eleven = row_11(j, m, s);
     if twice {
         return refused(10);

@@ -5,7 +5,8 @@ use mathlib.Core.List.{List, [], _∷_, _++_, map}
 use mathlib.Core.Bool.{Bool, true, false, not, _&&_, _||_, and-false, false≢true}
 use native.Mathlib.Numerals.{add-one}
 use native.Mathlib.Omega.{arith}
-use lib.ListN.{length, getD}
+use lib.ListN.{length, getD, take, drop, set, length-take, drop-of-length-le}
+use lib.Seq.{slice-cons, take-suc-set}
 use lib.Dec.{ltb, leb}
 use borrow.Author.Tests.{lt-ltb, le-ltb, ltb-true, ltb-false, le-leb, leb-true}
 use Rattle.wire.proofs.ReaderLaws.{and-left, and-right}
@@ -140,3 +141,25 @@ rises-from l = rises-after 0 l ∙ rw (all l)
     all : (l : List ℕ) → every (λ y. leb 0 y) l ≡ true
     all [] = refl
     all (x ∷ xs) = rw (le-leb 0 x (omega arith), all xs)
+
+-- ---- loops over the first n elements of an array
+
+-- what is left of them from index i on
+module _ {A : Type 0} (d : A) (n i : ℕ) (l : List A) where
+  -- one element and those behind it
+  pub left-more : i < n → n ≤ length l → drop i (take n l) ≡ getD l i d ∷ drop (i + 1) (take n l)
+  left-more h k = slice-cons i n l d h k ∙ ap (λ (m : ℕ). getD l i d ∷ drop m (take n l)) (sym (add-one i))
+
+  -- none
+  pub left-none : n ≤ i → drop i (take n l) ≡ []
+  left-none h = drop-of-length-le (take n l) {i = i} (rw length-take (omega arith))
+
+-- an element that is there is the same whatever stands for one that is not
+pub getD-there : {A : Type 0} (l : List A) (k : ℕ) (d e : A) → k < length l → getD l k d ≡ getD l k e
+getD-there [] k d e h = absurd (omega arith)
+getD-there (x ∷ xs) zero d e h = refl
+getD-there (x ∷ xs) (suc k) d e h = getD-there xs k d e (omega arith)
+
+-- one more is stored
+pub one-more : {A : Type 0} (i : ℕ) (xs : List A) (a : A) → i < length xs → take (i + 1) (set xs i a) ≡ take i xs ++ (a ∷ [])
+one-more i xs a h = ap (λ (k : ℕ). take k (set xs i a)) (add-one i) ∙ take-suc-set xs i a h

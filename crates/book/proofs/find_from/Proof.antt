@@ -1,15 +1,16 @@
 use Prim.Native.Nat.{ℕ, _+_, _-_, _<_, min}
 use lib.ListN.{length, drop, getD, length-map}
-use Rattle.book.specs.View.{entriesIn, blankEntry, indexFrom}
+use Rattle.book.specs.View.{entriesView, blankEntry, indexFrom}
 use mathlib.Core.Path.{_≡_, refl, _∙_, sym, ap}
 use native.Mathlib.Omega.{arith}
 use borrow.Author.Needs.{needs}
-use Rattle.book.proofs.Entries.{entry-step, entry-end, index-found, index-next}
+use Rattle.wire.proofs.ListLaws.{left-more, left-none}
+use Rattle.book.proofs.Entries.{index-found, index-next}
 use Rattle.book.proofs.find_from.Statement.{statement}
 use Rattle.book.proofs.find_from.Tie as tie
 
 abbrev Inv-loop : tie.InvT-loop
-Inv-loop from nidc nidsp b n i₀ i = indexFrom nidc nidsp from (drop from (entriesIn b)) ≡ indexFrom nidc nidsp i (drop i (entriesIn b))
+Inv-loop from nidc nidsp b n i₀ i = indexFrom nidc nidsp from (drop from (entriesView b)) ≡ indexFrom nidc nidsp i (drop i (entriesView b))
 
 abbrev μ-loop : tie.MeasureT-loop
 μ-loop from nidc nidsp b n i₀ i = n - i
@@ -38,8 +39,8 @@ returns c =
     let long : length (b .entries) ≡ 40 = sym (length-map (b .entries) _) ∙ c .before .before .before .before .before .before .good .0 .1 .1 .1 .1 .0 .1 .0 .1 in
     let h : i < n = omega (arith, c .before .before .before .before .before .count-of .ensures) in
     let e = getD (b .entries) i blankEntry in
-    let step = entry-step n (b .entries) blankEntry i h (omega arith) in
-    sym (c .before .before .before .before .loop .inv ∙ ap (indexFrom (a .nidc) (a .nidsp) i) step ∙ index-found (a .nidc) (a .nidsp) i e (drop (i + 1) (entriesIn b)) (sym (c .before .is-named .ensures) ∙ c .if1 .taken))
+    let step = left-more blankEntry n i (b .entries) h (omega arith) in
+    sym (c .before .before .before .before .loop .inv ∙ ap (indexFrom (a .nidc) (a .nidsp) i) step ∙ index-found (a .nidc) (a .nidsp) i e (drop (i + 1) (entriesView b)) (sym (c .before .is-named .ensures) ∙ c .if1 .taken))
 
 add-i : tie.Need-add-i Inv-loop μ-loop
 add-i c = search needs
@@ -56,14 +57,14 @@ loop-again c =
     let long : length (b .entries) ≡ 40 = sym (length-map (b .entries) _) ∙ c .before .before .before .before .before .before .good .0 .1 .1 .1 .1 .0 .1 .0 .1 in
     let h : i < n = omega (arith, c .before .before .before .before .before .count-of .ensures) in
     let e = getD (b .entries) i blankEntry in
-    let step = entry-step n (b .entries) blankEntry i h (omega arith) in
-    c .before .before .before .before .loop .inv ∙ ap (indexFrom (a .nidc) (a .nidsp) i) step ∙ index-next (a .nidc) (a .nidsp) i e (drop (i + 1) (entriesIn b)) (sym (c .before .is-named .ensures) ∙ c .if1 .left)
+    let step = left-more blankEntry n i (b .entries) h (omega arith) in
+    c .before .before .before .before .loop .inv ∙ ap (indexFrom (a .nidc) (a .nidsp) i) step ∙ index-next (a .nidc) (a .nidsp) i e (drop (i + 1) (entriesView b)) (sym (c .before .is-named .ensures) ∙ c .if1 .left)
 
 returns-2 : tie.Need-returns-2 Inv-loop μ-loop
 returns-2 c =
     let a = c .before .before .before .args in
     let b = a .t1 in
-    sym (c .before .loop .inv ∙ ap (indexFrom (a .nidc) (a .nidsp) (c .before .loop .i)) (entry-end (min (b .count) 40) (b .entries) blankEntry (c .before .loop .i) (omega (arith, c .before .before .count-of .ensures))))
+    sym (c .before .loop .inv ∙ ap (indexFrom (a .nidc) (a .nidsp) (c .before .loop .i)) (left-none blankEntry (min (b .count) 40) (c .before .loop .i) (b .entries) (omega (arith, c .before .before .count-of .ensures))))
 
 pub find-from-spec : {M : Type 1} → statement M
 find-from-spec =

@@ -7,7 +7,8 @@ use borrow.Author.Needs.{needs}
 use borrow.Author.Tests.{eq-eqb, ne-eqb}
 use lib.Dec.{eqb}
 use Rattle.wire.specs.Lists.{any}
-use Rattle.book.proofs.Entries.{number-step, number-end, or-true-left, or-false-left}
+use Rattle.wire.proofs.ListLaws.{or-true-left, or-false-left}
+use Rattle.book.proofs.Entries.{number-step, number-end}
 use Rattle.book.proofs.has_name.Statement.{statement}
 use Rattle.book.proofs.has_name.Tie as tie
 

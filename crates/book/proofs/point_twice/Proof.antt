@@ -8,14 +8,15 @@ use lib.Dec.{eqb}
 use lib.Seq.{getD-take}
 use Rattle.wire.specs.Lists.{any, twice}
 use Rattle.book.specs.Table.{nidtpTwice}
-use Rattle.book.specs.View.{entrySegment, entriesIn, segmentsIn, blankEntry}
-use Rattle.book.proofs.Entries.{entry-step, entry-end, names, or-true-left, or-false-left}
+use Rattle.book.specs.View.{entryView, entriesView, segmentsView, blankEntry}
+use Rattle.wire.proofs.ListLaws.{left-more, left-none, or-true-left, or-false-left}
+use Rattle.book.proofs.Entries.{names}
 use borrow.Author.Needs.{needs}
 use Rattle.book.proofs.point_twice.Statement.{statement}
 use Rattle.book.proofs.point_twice.Tie as tie
 
 abbrev Inv-loop : tie.InvT-loop
-Inv-loop s b n i₀ i = any nidtpTwice (segmentsIn s b) ≡ any nidtpTwice (map (entrySegment s) (drop i (entriesIn b)))
+Inv-loop s b n i₀ i = any nidtpTwice (segmentsView s b) ≡ any nidtpTwice (map (entryView s) (drop i (entriesView b)))
 
 abbrev μ-loop : tie.MeasureT-loop
 μ-loop s b n i₀ i = n - i
@@ -53,9 +54,9 @@ returns c =
     let long : length (b .entries) ≡ 40 = sym (length-map (b .entries) _) ∙ c .before .before .before .before .before .before .before .good .1 .0 .1 .1 .1 .1 .0 .1 .0 .1 in
     let h : i < n = omega (arith, c .before .before .before .before .before .count-of .ensures) in
     let e = getD (b .entries) i blankEntry in
-    let step = entry-step n (b .entries) blankEntry i h (omega arith) in
+    let step = left-more blankEntry n i (b .entries) h (omega arith) in
     let same = ap (twice eqb) (names (e .points) (drop (e .«points_at») (now (a .s)))) ∙ sym (c .before .name-twice .ensures) in
-    sym (c .before .before .before .before .loop .inv ∙ ap (λ l. any nidtpTwice (map (entrySegment (now (a .s))) l)) step ∙ or-true-left _ _ (same ∙ c .if1 .taken))
+    sym (c .before .before .before .before .loop .inv ∙ ap (λ l. any nidtpTwice (map (entryView (now (a .s))) l)) step ∙ or-true-left _ _ (same ∙ c .if1 .taken))
 
 loop-less : tie.Need-loop-less Inv-loop μ-loop
 loop-less c = search needs
@@ -69,15 +70,15 @@ loop-again c =
     let long : length (b .entries) ≡ 40 = sym (length-map (b .entries) _) ∙ c .before .before .before .before .before .before .before .good .1 .0 .1 .1 .1 .1 .0 .1 .0 .1 in
     let h : i < n = omega (arith, c .before .before .before .before .before .count-of .ensures) in
     let e = getD (b .entries) i blankEntry in
-    let step = entry-step n (b .entries) blankEntry i h (omega arith) in
+    let step = left-more blankEntry n i (b .entries) h (omega arith) in
     let same = ap (twice eqb) (names (e .points) (drop (e .«points_at») (now (a .s)))) ∙ sym (c .before .name-twice .ensures) in
-    c .before .before .before .before .loop .inv ∙ ap (λ l. any nidtpTwice (map (entrySegment (now (a .s))) l)) step ∙ or-false-left _ _ (same ∙ c .if1 .left)
+    c .before .before .before .before .loop .inv ∙ ap (λ l. any nidtpTwice (map (entryView (now (a .s))) l)) step ∙ or-false-left _ _ (same ∙ c .if1 .left)
 
 returns-2 : tie.Need-returns-2 Inv-loop μ-loop
 returns-2 c =
     let a = c .before .before .before .before .args in
     let b = a .t2 in
-    sym (c .before .loop .inv ∙ ap (λ l. any nidtpTwice (map (entrySegment (now (a .s))) l)) (entry-end (min (b .count) 40) (b .entries) blankEntry (c .before .loop .i) (omega (arith, c .before .before .count-of .ensures))))
+    sym (c .before .loop .inv ∙ ap (λ l. any nidtpTwice (map (entryView (now (a .s))) l)) (left-none blankEntry (min (b .count) 40) (c .before .loop .i) (b .entries) (omega (arith, c .before .before .count-of .ensures))))
 
 pub point-twice-spec : {M : Type 1} → statement M
 point-twice-spec =

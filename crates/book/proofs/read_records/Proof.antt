@@ -8,7 +8,7 @@ use lib.ListN.{length, set}
 use lib.Seq.{set-out}
 use native.Mathlib.Omega.{arith}
 use Rattle.book.specs.Book.{BookSegment}
-use Rattle.book.specs.View.{entrySegment, segmentView}
+use Rattle.book.specs.View.{entryView, segmentView}
 use Rattle.book.proofs.Whole.{ReadTo, closer, read-start, read-step, read-bad, read-end}
 use borrow.Author.Needs.{needs}
 use Rattle.book.proofs.read_records.Statement.{statement}
@@ -54,7 +54,7 @@ add-n c =
     let w = c .before .before .before .before .before .before .loop in
     let v = c .before .before .e .given in
     let h = sym (c .before .before .before .before .read-segment .ensures) ∙ ap (segmentView s) (v .1) in
-    let near = closer s (w .at) (v .0 .1 .0) (entrySegment s (v .0 .0)) h in
+    let near = closer s (w .at) (v .0 .1 .0) (entryView s (v .0 .0)) h in
     omega arith
 
 loop-less : tie.Need-loop-less Inv-loop μ-loop
@@ -63,7 +63,7 @@ loop-less c =
     let w = c .before .before .before .before .before .before .loop in
     let v = c .before .before .e .given in
     let h = sym (c .before .before .before .before .read-segment .ensures) ∙ ap (segmentView s) (v .1) in
-    let near = closer s (w .at) (v .0 .1 .0) (entrySegment s (v .0 .0)) h in
+    let near = closer s (w .at) (v .0 .1 .0) (entryView s (v .0 .0)) h in
     omega arith
 
 loop-again : tie.Need-loop-again Inv-loop μ-loop
@@ -72,7 +72,7 @@ loop-again c =
     let w = c .before .before .before .before .before .before .loop in
     let v = c .before .before .e .given in
     let h = sym (c .before .before .before .before .read-segment .ensures) ∙ ap (segmentView s) (v .1) in
-    let near = closer s (w .at) (v .0 .1 .0) (entrySegment s (v .0 .0)) h in
+    let near = closer s (w .at) (v .0 .1 .0) (entryView s (v .0 .0)) h in
     let kept : c .if1 .first ≡ set (w .first) (w .n) (v .0 .0) = ⊎-elim (λ x. x .1) (λ x. x .1 ∙ sym (set-out (w .first) (w .n) (v .0 .0) (omega (arith, w .inv .2 .listed .size, x .0 .left)))) (c .if1 .came) in
     (omega arith, _, read-step s (w .at) (w .n) (w .first) (c .if1 .first) (w .inv .1) (v .0 .0) (v .0 .1 .0) (w .inv .2) h kept)
 

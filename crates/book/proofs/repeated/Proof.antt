@@ -6,7 +6,8 @@ use native.Mathlib.Omega.{arith}
 use borrow.Author.Needs.{needs}
 use lib.Dec.{eqb}
 use Rattle.wire.specs.Lists.{twice}
-use Rattle.book.proofs.Entries.{number-step, number-end, or-true-left, or-false-left}
+use Rattle.wire.proofs.ListLaws.{or-true-left, or-false-left}
+use Rattle.book.proofs.Entries.{number-step, number-end}
 use Rattle.book.proofs.repeated.Statement.{statement}
 use Rattle.book.proofs.repeated.Tie as tie
 

@@ -5,14 +5,15 @@ use lib.ListN.{length, drop, getD, length-map}
 use native.Mathlib.Omega.{arith}
 use Rattle.wire.specs.Lists.{twice}
 use Rattle.book.specs.Table.{sameSegment}
-use Rattle.book.specs.View.{entrySegment, entriesIn, segmentsIn, blankEntry}
-use Rattle.book.proofs.Entries.{entry-step, entry-end, or-true-left, or-false-left, same-named}
+use Rattle.book.specs.View.{entryView, entriesView, segmentsView, blankEntry}
+use Rattle.wire.proofs.ListLaws.{left-more, left-none, or-true-left, or-false-left}
+use Rattle.book.proofs.Entries.{same-named}
 use borrow.Author.Needs.{needs}
 use Rattle.book.proofs.segment_twice.Statement.{statement}
 use Rattle.book.proofs.segment_twice.Tie as tie
 
 abbrev Inv-loop : tie.InvT-loop
-Inv-loop b n i₀ i = (s : List ℕ) → twice sameSegment (segmentsIn s b) ≡ twice sameSegment (map (entrySegment s) (drop i (entriesIn b)))
+Inv-loop b n i₀ i = (s : List ℕ) → twice sameSegment (segmentsView s b) ≡ twice sameSegment (map (entryView s) (drop i (entriesView b)))
 
 abbrev μ-loop : tie.MeasureT-loop
 μ-loop b n i₀ i = n - i
@@ -44,8 +45,8 @@ returns c =
     let long : length (b .entries) ≡ 40 = sym (length-map (b .entries) _) ∙ c .before .before .before .before .before .before .good .0 .1 .1 .1 .1 .0 .1 .0 .1 in
     let h : i < n = omega (arith, c .before .before .before .before .before .count-of .ensures) in
     let e = getD (b .entries) i blankEntry in
-    let step = entry-step n (b .entries) blankEntry i h (omega arith) in
-    λ s. sym (c .before .before .before .before .loop .inv s ∙ ap (λ l. twice sameSegment (map (entrySegment s) l)) step ∙ or-true-left _ (twice sameSegment (map (entrySegment s) (drop (i + 1) (entriesIn b)))) (same-named s e (drop (i + 1) (entriesIn b)) ∙ sym (c .before .has-from .ensures) ∙ c .if1 .taken))
+    let step = left-more blankEntry n i (b .entries) h (omega arith) in
+    λ s. sym (c .before .before .before .before .loop .inv s ∙ ap (λ l. twice sameSegment (map (entryView s) l)) step ∙ or-true-left _ (twice sameSegment (map (entryView s) (drop (i + 1) (entriesView b)))) (same-named s e (drop (i + 1) (entriesView b)) ∙ sym (c .before .has-from .ensures) ∙ c .if1 .taken))
 
 loop-less : tie.Need-loop-less Inv-loop μ-loop
 loop-less c = search needs
@@ -59,13 +60,13 @@ loop-again c =
     let long : length (b .entries) ≡ 40 = sym (length-map (b .entries) _) ∙ c .before .before .before .before .before .before .good .0 .1 .1 .1 .1 .0 .1 .0 .1 in
     let h : i < n = omega (arith, c .before .before .before .before .before .count-of .ensures) in
     let e = getD (b .entries) i blankEntry in
-    let step = entry-step n (b .entries) blankEntry i h (omega arith) in
-    λ s. c .before .before .before .before .loop .inv s ∙ ap (λ l. twice sameSegment (map (entrySegment s) l)) step ∙ or-false-left _ (twice sameSegment (map (entrySegment s) (drop (i + 1) (entriesIn b)))) (same-named s e (drop (i + 1) (entriesIn b)) ∙ sym (c .before .has-from .ensures) ∙ c .if1 .left)
+    let step = left-more blankEntry n i (b .entries) h (omega arith) in
+    λ s. c .before .before .before .before .loop .inv s ∙ ap (λ l. twice sameSegment (map (entryView s) l)) step ∙ or-false-left _ (twice sameSegment (map (entryView s) (drop (i + 1) (entriesView b)))) (same-named s e (drop (i + 1) (entriesView b)) ∙ sym (c .before .has-from .ensures) ∙ c .if1 .left)
 
 returns-2 : tie.Need-returns-2 Inv-loop μ-loop
 returns-2 c =
     let b = c .before .before .before .args .t1 in
-    λ s. sym (c .before .loop .inv s ∙ ap (λ l. twice sameSegment (map (entrySegment s) l)) (entry-end (min (b .count) 40) (b .entries) blankEntry (c .before .loop .i) (omega (arith, c .before .before .count-of .ensures))))
+    λ s. sym (c .before .loop .inv s ∙ ap (λ l. twice sameSegment (map (entryView s) l)) (left-none blankEntry (min (b .count) 40) (c .before .loop .i) (b .entries) (omega (arith, c .before .before .count-of .ensures))))
 
 pub segment-twice-spec : {M : Type 1} → statement M
 segment-twice-spec =

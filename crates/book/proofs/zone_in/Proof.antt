@@ -4,7 +4,7 @@ use mathlib.Core.Path.{_∙_, sym, ap}
 use lib.ListN.{drop}
 use Rattle.engine_value.specs.Engine.{blankZone}
 use Rattle.wire.specs.Numbers.{number}
-use Rattle.book.specs.View.{zoneOf, zoneIn}
+use Rattle.book.specs.View.{zoneOf, zoneView}
 use Rattle.book.proofs.Entries.{items-at, items-past, zone-answer}
 use borrow.Author.Needs.{needs}
 use Rattle.book.proofs.zone_in.Statement.{statement}
@@ -26,7 +26,7 @@ be32-requires-2 : tie.Need-be32-requires-2
 be32-requires-2 c κs = search needs
 
 returns : tie.Need-returns
-unfolding zoneIn
+unfolding zoneView
 returns c =
     let a = c .before .before .before .before .before .before .before .args in
     let l = drop (a .e .«zones_at») (now (a .s)) in
@@ -34,7 +34,7 @@ returns c =
     ∙ sym (items-at zoneOf 8 blankZone (a .e .zones) (a .k) l (c .before .before .before .before .if1 .taken))
 
 returns-2 : tie.Need-returns-2
-unfolding zoneIn
+unfolding zoneView
 returns-2 c =
     let a = c .before .before .before .args in
     sym (items-past zoneOf 8 blankZone (a .e .zones) (a .k) (drop (a .e .«zones_at») (now (a .s))) (c .if1 .left))

@@ -1,6 +1,6 @@
 use denote.Ref.{now}
 use Rattle.engine_value.specs.Engine.{blankZone}
-use Rattle.book.specs.View.{entrySegment, zoneIn, zonesOf}
+use Rattle.book.specs.View.{entryView, zoneView, zonesView}
 use Rattle.book.proofs.Entries.{filled-four}
 use borrow.Author.Needs.{needs}
 use Rattle.book.proofs.zones_of.Statement.{statement}
@@ -19,10 +19,10 @@ zone-in-requires-4 : tie.Need-zone-in-requires-4
 zone-in-requires-4 c κs = search needs
 
 returns : tie.Need-returns
-unfolding zonesOf zoneIn
+unfolding zonesView zoneView
 returns c =
     let a = c .before .before .before .before .before .args in
-    rw (c .before .before .before .zone-in .ensures, c .before .before .zone-in2 .ensures, c .before .zone-in3 .ensures, c .zone-in4 .ensures, filled-four blankZone (entrySegment (now (a .s)) (a .e) .zones))
+    rw (c .before .before .before .zone-in .ensures, c .before .before .zone-in2 .ensures, c .before .zone-in3 .ensures, c .zone-in4 .ensures, filled-four blankZone (entryView (now (a .s)) (a .e) .zones))
 
 pub zones-of-spec : {M : Type 1} → statement M
 zones-of-spec =

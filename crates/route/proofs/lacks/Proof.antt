@@ -2,14 +2,14 @@ use denote.Ref.{now}
 use Rattle.book.specs.Book.{lookupPoint}
 use mathlib.Core.Path.{sym, ap, _∙_}
 use borrow.Author.Tests.{not-true, not-false}
-use Rattle.book.specs.View.{entrySegment, pointView}
+use Rattle.book.specs.View.{entryView, pointView}
 use Rattle.route.proofs.Placed.{unbooked-lacks, booked-lacks}
 use borrow.Author.Needs.{needs}
 use Rattle.route.proofs.lacks.Statement.{statement}
 use Rattle.route.proofs.lacks.Tie as tie
 
 returns : tie.Need-returns
-returns c = let a = c .before .before .before .args in unbooked-lacks (a .g) (lookupPoint (a .nidtp) (entrySegment (now (a .s)) (a .e) .points)) (not-true _ (c .if1 .taken))
+returns c = let a = c .before .before .before .args in unbooked-lacks (a .g) (lookupPoint (a .nidtp) (entryView (now (a .s)) (a .e) .points)) (not-true _ (c .if1 .taken))
 
 find-point-requires : tie.Need-find-point-requires
 find-point-requires c κs = search needs

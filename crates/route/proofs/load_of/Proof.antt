@@ -1,7 +1,7 @@
 use mathlib.Core.Path.{_≡_}
 use native.Mathlib.Omega.{arith}
 use lib.ListN.{length, length-take}
-use Rattle.journey.specs.View.{namesIn, pointsIn}
+use Rattle.journey.specs.View.{namesView, pointsView}
 use borrow.Author.Needs.{needs}
 use Rattle.route.proofs.load_of.Statement.{statement}
 use Rattle.route.proofs.load_of.Tie as tie
@@ -24,8 +24,8 @@ cast-t6 c = search needs
 returns : tie.Need-returns
 returns c =
     let a = c .before .before .before .args in
-    let p : length (pointsIn (a .j)) ≡ c .before .point-count .result = rw length-take (omega arith) in
-    let n : length (namesIn (a .j)) ≡ c .name-count .result = rw length-take (omega arith) in
+    let p : length (pointsView (a .j)) ≡ c .before .point-count .result = rw length-take (omega arith) in
+    let n : length (namesView (a .j)) ≡ c .name-count .result = rw length-take (omega arith) in
     rw (p, n, c .before .before .end-index .ensures)
 
 pub load-of-spec : {M : Type 1} → statement M

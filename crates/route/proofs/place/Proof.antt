@@ -7,9 +7,9 @@ use lib.ListN.{length, length-take}
 use native.Mathlib.Omega.{arith}
 use borrow.Author.Needs.{needs}
 use Rattle.book.specs.Book.{BookSegment}
-use Rattle.book.specs.View.{segmentsIn}
+use Rattle.book.specs.View.{segmentsView}
 use Rattle.journey.specs.Journey.{JourneyValue}
-use Rattle.journey.specs.View.{pointsIn, valueIn}
+use Rattle.journey.specs.View.{pointsView, valueView}
 use Rattle.route.specs.Placing.{pointsOf}
 use Rattle.wire.proofs.ListLaws.{or-false}
 use Rattle.route.proofs.Rows.{eleven, twelve, twelve-same, row-10, row-11, row-12, no-row, told-refused, told-loaded}
@@ -17,12 +17,12 @@ use Rattle.route.proofs.place.Statement.{statement}
 use Rattle.route.proofs.place.Tie as tie
 
 abbrev bookAt : tie.After-row-11 → List BookSegment
-bookAt c = segmentsIn (now (c .before .before .before .before .args .s)) (c .before .before .before .before .args .b)
+bookAt c = segmentsView (now (c .before .before .before .before .args .s)) (c .before .before .before .before .args .b)
 
 abbrev valueAt : tie.After-row-11 → JourneyValue
-valueAt c = valueIn (c .before .before .before .before .args .j)
+valueAt c = valueView (c .before .before .before .before .args .j)
 
-most : (c : tie.After-row-11) → length (pointsIn (c .before .before .before .before .args .j)) ≤ 64
+most : (c : tie.After-row-11) → length (pointsView (c .before .before .before .before .args .j)) ≤ 64
 most c = rw length-take (omega arith)
 
 eleven-is : (c : tie.After-row-11) → eleven (bookAt c) (valueAt c) ≡ c .row-11 .result

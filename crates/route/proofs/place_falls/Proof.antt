@@ -3,8 +3,8 @@ use mathlib.Core.Path.{_≡_, refl, sym, _∙_}
 use lib.ListN.{length, drop, take}
 use native.Mathlib.Omega.{arith}
 use borrow.Author.Needs.{needs}
-use Rattle.route.proofs.Loops.{placeFalls, places-fall}
-use Rattle.route.proofs.Loops.{left-more, left-none}
+use Rattle.route.proofs.Rising.{placeFalls, places-fall}
+use Rattle.wire.proofs.ListLaws.{left-more, left-none}
 use Rattle.engine_value.specs.Engine.{blankPoint}
 use Rattle.route.proofs.place_falls.Statement.{statement}
 use Rattle.route.proofs.place_falls.Tie as tie

@@ -6,16 +6,16 @@ use denote.Ref.{now}
 use borrow.Author.Needs.{needs}
 use Rattle.engine_value.specs.Engine.{blankSegment, blankPoint, filled}
 use Rattle.book.specs.View.{blankEntry}
-use Rattle.journey.specs.View.{namesIn, pointsIn, valueIn}
+use Rattle.journey.specs.View.{namesView, pointsView, valueView}
 use Rattle.journey.specs.Journey.{blankJourneyPoint}
-use Rattle.route.proofs.Loops.{left-more, left-none, getD-there}
-use Rattle.route.specs.View.{recordsIn}
+use Rattle.wire.proofs.ListLaws.{left-more, left-none, getD-there}
+use Rattle.route.specs.View.{recordsView}
 use Rattle.route.proofs.Placed.{index-below, entry-point, point-fits, point-is, points-same, PlacedPoints, points-none, points-more, points-end}
 use Rattle.route.proofs.place_points.Statement.{statement}
 use Rattle.route.proofs.place_points.Tie as tie
 
 abbrev Inv-loop : tie.InvT-loop
-Inv-loop s j m n points₀ i₀ points i = PlacedPoints (m .segments) (recordsIn s m) (pointsIn j) i points
+Inv-loop s j m n points₀ i₀ points i = PlacedPoints (m .segments) (recordsView s m) (pointsView j) i points
 
 abbrev μ-loop : tie.MeasureT-loop
 μ-loop s j m n points₀ i₀ points i = n - i
@@ -37,8 +37,8 @@ loop-holds : tie.Need-loop-holds Inv-loop μ-loop
 loop-holds c =
     let a = c .before .before .before .args in
     let j = a .t1 in
-    let n : length (pointsIn j) ≤ 64 = rw length-take (omega arith) in
-    rw (c .blank-point .ensures) (points-none (a .t2 .segments) (recordsIn (now (a .s)) (a .t2)) (pointsIn j) n)
+    let n : length (pointsView j) ≤ 64 = rw length-take (omega arith) in
+    rw (c .blank-point .ensures) (points-none (a .t2 .segments) (recordsView (now (a .s)) (a .t2)) (pointsView j) n)
 
 mul-p : tie.Need-mul-p Inv-loop μ-loop
 mul-p c = omega arith
@@ -99,17 +99,17 @@ loop-again c =
     let k = small (c .before .before .before .before) in
     let g = getD-there (m .segments) (p .index) _ blankSegment (omega (arith, k, long (c .before .before .before .before))) in
     let f = c .before .find-point .ensures ∙ entry-point s m p (getD (m .entries) (p .index) blankEntry) refl in
-    let n : w .i < length (pointsIn j) = rw length-take (omega arith) in
-    points-more (m .segments) (recordsIn s m) (pointsIn j) (w .i) (w .points) p _ n (left-more blankJourneyPoint (min (j .«point_count») 64) (w .i) (j .points) (omega arith) (omega arith)) (c .point-of .ensures ∙ point-is s m p _ _ g f) (w .inv)
+    let n : w .i < length (pointsView j) = rw length-take (omega arith) in
+    points-more (m .segments) (recordsView s m) (pointsView j) (w .i) (w .points) p _ n (left-more blankJourneyPoint (min (j .«point_count») 64) (w .i) (j .points) (omega arith) (omega arith)) (c .point-of .ensures ∙ point-is s m p _ _ g f) (w .inv)
 
 returns : tie.Need-returns Inv-loop μ-loop
 returns c =
     let w = c .before .loop in
     let a = c .before .before .before .before .before .args in
     let j = a .t1 in
-    let few : length (namesIn j) ≤ 40 = rw length-take (omega arith) in
-    λ book h. points-end (a .t2 .segments) (recordsIn (now (a .s)) (a .t2)) (pointsIn j) (w .i) (w .points) (left-none blankJourneyPoint (min (j .«point_count») 64) (w .i) (j .points) (omega arith)) (w .inv)
-    ∙ ap (filled 64 blankPoint) (points-same (now (a .s)) book (valueIn j) (a .t2) few h (c .before .before .before .before .before .pre .0))
+    let few : length (namesView j) ≤ 40 = rw length-take (omega arith) in
+    λ book h. points-end (a .t2 .segments) (recordsView (now (a .s)) (a .t2)) (pointsView j) (w .i) (w .points) (left-none blankJourneyPoint (min (j .«point_count») 64) (w .i) (j .points) (omega arith)) (w .inv)
+    ∙ ap (filled 64 blankPoint) (points-same (now (a .s)) book (valueView j) (a .t2) few h (c .before .before .before .before .before .pre .0))
 
 pub place-points-spec : {M : Type 1} → statement M
 place-points-spec =

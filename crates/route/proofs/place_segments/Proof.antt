@@ -4,17 +4,17 @@ use lib.ListN.{length, getD, length-take}
 use lib.Seq.{getD-take}
 use native.Mathlib.Omega.{arith}
 use borrow.Author.Needs.{needs}
-use Rattle.journey.specs.View.{namesIn}
+use Rattle.journey.specs.View.{namesView}
 use Rattle.journey.specs.Journey.{blankName}
-use Rattle.route.proofs.Loops.{left-more, left-none}
+use Rattle.wire.proofs.ListLaws.{left-more, left-none}
 use denote.Ref.{now}
-use Rattle.book.specs.View.{segmentsIn}
+use Rattle.book.specs.View.{segmentsView}
 use Rattle.route.proofs.Placed.{Placed, placed-none, placed-more, placed-end, next-length}
 use Rattle.route.proofs.place_segments.Statement.{statement}
 use Rattle.route.proofs.place_segments.Tie as tie
 
 abbrev Inv-loop : tie.InvT-loop
-Inv-loop b s j n m₀ placed₀ start₀ i₀ m placed start i = Placed s (segmentsIn s b) (namesIn j) i (m .segments) (m .entries) placed start
+Inv-loop b s j n m₀ placed₀ start₀ i₀ m placed start i = Placed s (segmentsView s b) (namesView j) i (m .segments) (m .entries) placed start
 
 abbrev μ-loop : tie.MeasureT-loop
 μ-loop b s j n m₀ placed₀ start₀ i₀ m placed start i = n - i
@@ -29,8 +29,8 @@ loop-holds : tie.Need-loop-holds Inv-loop μ-loop
 loop-holds c =
     let a = c .before .before .before .args in
     let j = a .t1 in
-    let n : length (namesIn j) ≤ 40 = rw length-take (omega arith) in
-    rw (c .blank-placing .ensures .0, c .blank-placing .ensures .1) (placed-none (now (a .s)) (segmentsIn (now (a .s)) (a .b)) (namesIn j) n)
+    let n : length (namesView j) ≤ 40 = rw length-take (omega arith) in
+    rw (c .blank-placing .ensures .0, c .blank-placing .ensures .1) (placed-none (now (a .s)) (segmentsView (now (a .s)) (a .b)) (namesView j) n)
 
 mul-name : tie.Need-mul-name Inv-loop μ-loop
 mul-name c = omega arith
@@ -68,7 +68,7 @@ add-start c =
     let a = c .before .before .before .before .before .before .before .before .before .before .before .args in
     let j = a .t1 in
     let s = now (a .s) in
-    let e = next-length s (segmentsIn s (a .b)) (namesIn j) (getD (j .names) (w .i) blankName) (c .before .before .before .before .record-of .result) (c .before .before .before .before .before .before .before .before .before .before .before .pre) (c .before .before .before .before .record-of .ensures s) in
+    let e = next-length s (segmentsView s (a .b)) (namesView j) (getD (j .names) (w .i) blankName) (c .before .before .before .before .record-of .result) (c .before .before .before .before .before .before .before .before .before .before .before .pre) (c .before .before .before .before .record-of .ensures s) in
     let f : c .before .before .before .entry-in .result .length ≤ 16777214 = rw (c .before .before .before .entry-in .ensures) e in
     omega (arith, f, w .inv .sum)
 
@@ -84,8 +84,8 @@ loop-again c =
     let a = c .before .before .before .before .before .before .before .before .before .before .before .args in
     let j = a .t1 in
     let s = now (a .s) in
-    let n : w .i < length (namesIn j) = rw length-take (omega arith) in
-    placed-more s (segmentsIn s (a .b)) (namesIn j) (w .i) (w .m .segments) (w .m .entries) (w .placed) (w .start) (getD (j .names) (w .i) blankName) (c .before .before .before .before .record-of .result) _ _ _ (c .before .before .before .before .before .before .before .before .before .before .before .pre) n
+    let n : w .i < length (namesView j) = rw length-take (omega arith) in
+    placed-more s (segmentsView s (a .b)) (namesView j) (w .i) (w .m .segments) (w .m .entries) (w .placed) (w .start) (getD (j .names) (w .i) blankName) (c .before .before .before .before .record-of .result) _ _ _ (c .before .before .before .before .before .before .before .before .before .before .before .pre) n
     (left-more blankName (min (j .«name_count») 40) (w .i) (j .names) (omega arith) (omega arith)) (sym (getD-take (min (j .«name_count») 40) (j .names) (w .i) blankName (omega arith))) (c .before .before .before .before .record-of .ensures s) (c .before .before .before .entry-in .ensures) (c .before .before .goes-on .ensures s) (c .before .segment-of .ensures) (w .inv)
 
 returns : tie.Need-returns Inv-loop μ-loop
@@ -94,8 +94,8 @@ returns c =
     let a = c .before .before .before .before .before .args in
     let j = a .t1 in
     let s = now (a .s) in
-    let n : length (namesIn j) ≤ w .i = rw length-take (omega arith) in
-    placed-end s (segmentsIn s (a .b)) (namesIn j) (w .i) (w .m .segments) (w .m .entries) (w .placed) (w .start) (c .before .before .before .before .before .pre) n (left-none blankName (min (j .«name_count») 40) (w .i) (j .names) (omega arith)) (w .inv)
+    let n : length (namesView j) ≤ w .i = rw length-take (omega arith) in
+    placed-end s (segmentsView s (a .b)) (namesView j) (w .i) (w .m .segments) (w .m .entries) (w .placed) (w .start) (c .before .before .before .before .before .pre) n (left-none blankName (min (j .«name_count») 40) (w .i) (j .names) (omega arith)) (w .inv)
 
 pub place-segments-spec : {M : Type 1} → statement M
 place-segments-spec =

@@ -6,17 +6,17 @@ use denote.Ref.{now}
 use borrow.Author.Needs.{needs}
 use Rattle.engine_value.specs.Engine.{blankSegment}
 use Rattle.book.specs.View.{blankEntry}
-use Rattle.journey.specs.View.{namesIn, pointsIn, valueIn}
+use Rattle.journey.specs.View.{namesView, pointsView, valueView}
 use Rattle.journey.specs.Journey.{blankJourneyPoint}
 use Rattle.wire.specs.Lists.{any}
-use Rattle.route.proofs.Loops.{left-more, left-none, getD-there}
-use Rattle.route.specs.View.{recordsIn}
+use Rattle.wire.proofs.ListLaws.{left-more, left-none, getD-there}
+use Rattle.route.specs.View.{recordsView}
 use Rattle.route.proofs.Placed.{lacks, missing-same, index-below, lacks-is}
 use Rattle.route.proofs.point_missing.Statement.{statement}
 use Rattle.route.proofs.point_missing.Tie as tie
 
 abbrev Inv-loop : tie.InvT-loop
-Inv-loop s j m n i₀ i = any (lacks (m .segments) (recordsIn s m)) (pointsIn j) ≡ any (lacks (m .segments) (recordsIn s m)) (drop i (pointsIn j))
+Inv-loop s j m n i₀ i = any (lacks (m .segments) (recordsView s m)) (pointsView j) ≡ any (lacks (m .segments) (recordsView s m)) (drop i (pointsView j))
 
 abbrev μ-loop : tie.MeasureT-loop
 μ-loop s j m n i₀ i = n - i
@@ -68,8 +68,8 @@ returns c =
     let k = small (c .before .before .before .before) in
     let g = getD-there (m .segments) (p .index) _ blankSegment (omega (arith, k, long (c .before .before .before .before))) in
     let e = c .before .lacks .ensures ∙ lacks-is (now (a .s)) m p _ (getD (m .entries) (p .index) blankEntry) g refl in
-    let few : length (namesIn j) ≤ 40 = rw length-take (omega arith) in
-    λ book h. sym (w .inv ∙ rw (left-more blankJourneyPoint (min (j .«point_count») 64) (w .i) (j .points) (omega arith) (omega arith), sym e ∙ c .if1 .taken)) ∙ missing-same (now (a .s)) book (valueIn j) m few h (c .before .before .before .before .before .before .before .before .before .before .pre)
+    let few : length (namesView j) ≤ 40 = rw length-take (omega arith) in
+    λ book h. sym (w .inv ∙ rw (left-more blankJourneyPoint (min (j .«point_count») 64) (w .i) (j .points) (omega arith) (omega arith), sym e ∙ c .if1 .taken)) ∙ missing-same (now (a .s)) book (valueView j) m few h (c .before .before .before .before .before .before .before .before .before .before .pre)
 
 add-i : tie.Need-add-i Inv-loop μ-loop
 add-i c = omega arith
@@ -94,8 +94,8 @@ returns-2 c =
     let w = c .before .loop in
     let a = c .before .before .before .before .args in
     let j = a .t1 in
-    let few : length (namesIn j) ≤ 40 = rw length-take (omega arith) in
-    λ book h. sym (w .inv ∙ rw (left-none blankJourneyPoint (min (j .«point_count») 64) (w .i) (j .points) (omega arith))) ∙ missing-same (now (a .s)) book (valueIn j) (a .t2) few h (c .before .before .before .before .pre)
+    let few : length (namesView j) ≤ 40 = rw length-take (omega arith) in
+    λ book h. sym (w .inv ∙ rw (left-none blankJourneyPoint (min (j .«point_count») 64) (w .i) (j .points) (omega arith))) ∙ missing-same (now (a .s)) book (valueView j) (a .t2) few h (c .before .before .before .before .pre)
 
 pub point-missing-spec : {M : Type 1} → statement M
 point-missing-spec =

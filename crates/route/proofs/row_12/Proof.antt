@@ -2,7 +2,7 @@ use mathlib.Core.Path.{_≡_, sym, _∙_}
 use native.Mathlib.Omega.{arith}
 use Prim.Native.Nat.{min}
 use lib.ListN.{length, length-take}
-use Rattle.journey.specs.View.{pointsIn}
+use Rattle.journey.specs.View.{pointsView}
 use borrow.Author.Needs.{needs}
 use Rattle.route.proofs.row_12.Statement.{statement}
 use Rattle.route.proofs.row_12.Tie as tie
@@ -22,7 +22,7 @@ place-falls-requires c κs = search needs
 returns-2 : tie.Need-returns-2
 returns-2 c =
     let a = c .before .before .before .before .args in
-    let n : length (pointsIn (a .j)) ≡ min (c .before .point-count .result) 64 = rw length-take (omega arith) in
+    let n : length (pointsView (a .j)) ≡ min (c .before .point-count .result) 64 = rw length-take (omega arith) in
     rw (sym (c .before .before .before .index-falls .ensures) ∙ c .before .before .if1 .left, n) (c .place-falls .ensures)
 
 pub row-12-spec : {M : Type 1} → statement M

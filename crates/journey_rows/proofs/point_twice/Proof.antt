@@ -4,11 +4,11 @@ use lib.ListN.{length, take, length-map, length-take}
 use native.Mathlib.Omega.{arith}
 use lib.Dec.{eqb}
 use Rattle.wire.specs.Lists.{twice}
-use Rattle.journey.specs.View.{pointsIn}
+use Rattle.journey.specs.View.{pointsView}
 use Rattle.journey.specs.declared.JourneyPoint.{JourneyPoint}
 use borrow.Author.Needs.{needs}
-use Rattle.route.proofs.point_twice.Statement.{statement}
-use Rattle.route.proofs.point_twice.Tie as tie
+use Rattle.journey_rows.proofs.point_twice.Statement.{statement}
+use Rattle.journey_rows.proofs.point_twice.Tie as tie
 
 point-count-requires : tie.Need-point-count-requires
 point-count-requires c κs = search needs
@@ -24,7 +24,7 @@ slice-aggregate-repeated c =
     let j = c .before .before .before .args .j in
     let n = c .before .before .point-count in
     let e = ap (λ (k : ℕ). take k (c .before .nidtps-of .result)) (n .ensures .0) ∙ c .before .nidtps-of .ensures in
-    omega (arith, ap length e, length-map (pointsIn j) (λ (p : JourneyPoint). p .nidtp), length-take (min (j .«point_count») 64) (j .points), n .ensures .0, n .ensures .1)
+    omega (arith, ap length e, length-map (pointsView j) (λ (p : JourneyPoint). p .nidtp), length-take (min (j .«point_count») 64) (j .points), n .ensures .0, n .ensures .1)
 
 repeated-requires : tie.Need-repeated-requires
 repeated-requires c κs = search needs

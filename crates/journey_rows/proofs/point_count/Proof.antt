@@ -2,8 +2,8 @@ use mathlib.Core.Path.{_≡_, sym, _∙_}
 use lib.ListN.{length, length-map}
 use native.Mathlib.Omega.{arith}
 use borrow.Author.Needs.{needs}
-use Rattle.route.proofs.point_count.Statement.{statement}
-use Rattle.route.proofs.point_count.Tie as tie
+use Rattle.journey_rows.proofs.point_count.Statement.{statement}
+use Rattle.journey_rows.proofs.point_count.Tie as tie
 
 -- the array's length, which owning the parameter tells
 long : (c : tie.Start) → length (c .args .j .points) ≡ 64

@@ -3,15 +3,15 @@ use mathlib.Core.Path.{_≡_}
 use lib.ListN.{drop}
 use native.Mathlib.Omega.{arith}
 use borrow.Author.Needs.{needs}
-use Rattle.journey.specs.View.{pointsIn}
+use Rattle.journey.specs.View.{pointsView}
 use Rattle.journey.specs.Journey.{blankJourneyPoint}
-use Rattle.route.specs.Route.{endingOf}
-use Rattle.route.proofs.Loops.{left-more, left-none}
-use Rattle.route.proofs.end_index.Statement.{statement}
-use Rattle.route.proofs.end_index.Tie as tie
+use Rattle.journey_rows.specs.Rows.{endingOf}
+use Rattle.wire.proofs.ListLaws.{left-more, left-none}
+use Rattle.journey_rows.proofs.end_index.Statement.{statement}
+use Rattle.journey_rows.proofs.end_index.Tie as tie
 
 abbrev Inv-loop : tie.InvT-loop
-Inv-loop j n i₀ i = (i ≤ n) × (endingOf (pointsIn j) ≡ i + endingOf (drop i (pointsIn j)))
+Inv-loop j n i₀ i = (i ≤ n) × (endingOf (pointsView j) ≡ i + endingOf (drop i (pointsView j)))
 
 abbrev μ-loop : tie.MeasureT-loop
 μ-loop j n i₀ i = n - i
@@ -35,7 +35,7 @@ returns : tie.Need-returns Inv-loop μ-loop
 returns c =
     let w = c .before .before .before .loop in
     let j = c .before .before .before .before .before .args .t1 in
-    let e : endingOf (drop (w .i) (pointsIn j)) ≡ 0 = rw (left-more blankJourneyPoint (min (j .«point_count») 64) (w .i) (j .points) (omega arith) (omega arith), c .if1 .taken) in omega arith
+    let e : endingOf (drop (w .i) (pointsView j)) ≡ 0 = rw (left-more blankJourneyPoint (min (j .«point_count») 64) (w .i) (j .points) (omega arith) (omega arith), c .if1 .taken) in omega arith
 
 add-i : tie.Need-add-i Inv-loop μ-loop
 add-i c = omega arith
@@ -47,7 +47,7 @@ loop-again : tie.Need-loop-again Inv-loop μ-loop
 loop-again c =
     let w = c .before .before .before .loop in
     let j = c .before .before .before .before .before .args .t1 in
-    let e : endingOf (drop (w .i) (pointsIn j)) ≡ endingOf (drop (w .i + 1) (pointsIn j)) + 1 = rw (left-more blankJourneyPoint (min (j .«point_count») 64) (w .i) (j .points) (omega arith) (omega arith), c .if1 .left) in (omega arith, omega arith)
+    let e : endingOf (drop (w .i) (pointsView j)) ≡ endingOf (drop (w .i + 1) (pointsView j)) + 1 = rw (left-more blankJourneyPoint (min (j .«point_count») 64) (w .i) (j .points) (omega arith) (omega arith), c .if1 .left) in (omega arith, omega arith)
 
 cast-result-2 : tie.Need-cast-result-2 Inv-loop μ-loop
 cast-result-2 c = omega arith
@@ -56,7 +56,7 @@ returns-2 : tie.Need-returns-2 Inv-loop μ-loop
 returns-2 c =
     let w = c .before .loop in
     let j = c .before .before .before .args .t1 in
-    let e : endingOf (drop (w .i) (pointsIn j)) ≡ 0 = rw (left-none blankJourneyPoint (min (j .«point_count») 64) (w .i) (j .points) (omega arith)) in omega arith
+    let e : endingOf (drop (w .i) (pointsView j)) ≡ 0 = rw (left-none blankJourneyPoint (min (j .«point_count») 64) (w .i) (j .points) (omega arith)) in omega arith
 
 pub end-index-spec : {M : Type 1} → statement M
 end-index-spec =

@@ -1,6 +1,6 @@
 use borrow.Author.Tests.{eq-eqb, ne-eqb}
-use Rattle.route.proofs.is_named.Statement.{statement}
-use Rattle.route.proofs.is_named.Tie as tie
+use Rattle.journey_rows.proofs.is_named.Statement.{statement}
+use Rattle.journey_rows.proofs.is_named.Tie as tie
 
 returns : tie.Need-returns
 returns c = rw (eq-eqb _ _ (c .before .if1 .taken))

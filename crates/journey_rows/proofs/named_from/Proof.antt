@@ -1,21 +1,21 @@
 use Prim.Native.Nat.{_-_, min}
-use mathlib.Core.Path.{_≡_, refl, sym, _∙_}
 use lib.ListN.{drop}
+use mathlib.Core.Path.{_≡_, refl, sym, _∙_}
 use native.Mathlib.Omega.{arith}
 use borrow.Author.Needs.{needs}
-use Rattle.journey.specs.View.{namesIn}
+use Rattle.journey.specs.View.{namesView}
 use Rattle.journey.specs.Journey.{blankName}
-use Rattle.wire.specs.Lists.{twice}
-use Rattle.route.specs.Table.{sameName}
-use Rattle.route.proofs.Loops.{left-more, left-none}
-use Rattle.route.proofs.name_twice.Statement.{statement}
-use Rattle.route.proofs.name_twice.Tie as tie
+use Rattle.wire.specs.Lists.{any}
+use Rattle.journey_rows.specs.View.{isNamed}
+use Rattle.wire.proofs.ListLaws.{left-more, left-none}
+use Rattle.journey_rows.proofs.named_from.Statement.{statement}
+use Rattle.journey_rows.proofs.named_from.Tie as tie
 
 abbrev Inv-loop : tie.InvT-loop
-Inv-loop j n i₀ i = twice sameName (namesIn j) ≡ twice sameName (drop i (namesIn j))
+Inv-loop from nidc nidsp j n i₀ i = any (isNamed nidc nidsp) (drop from (namesView j)) ≡ any (isNamed nidc nidsp) (drop i (namesView j))
 
 abbrev μ-loop : tie.MeasureT-loop
-μ-loop j n i₀ i = n - i
+μ-loop from nidc nidsp j n i₀ i = n - i
 
 name-count-requires : tie.Need-name-count-requires Inv-loop μ-loop
 name-count-requires c κs = search needs
@@ -29,17 +29,17 @@ mul-name c = omega arith
 element-copy-out-name : tie.Need-element-copy-out-name Inv-loop μ-loop
 element-copy-out-name c = omega arith
 
-add-i : tie.Need-add-i Inv-loop μ-loop
-add-i c = omega arith
-
-named-from-requires : tie.Need-named-from-requires Inv-loop μ-loop
-named-from-requires c κs = search needs
+is-named-requires : tie.Need-is-named-requires Inv-loop μ-loop
+is-named-requires c κs = search needs
 
 returns : tie.Need-returns Inv-loop μ-loop
 returns c =
     let w = c .before .before .before .before .loop in
     let j = c .before .before .before .before .before .before .args .t1 in
-    sym (w .inv ∙ rw (left-more blankName (min (j .«name_count») 40) (w .i) (j .names) (omega arith) (omega arith), sym (c .before .named-from .ensures) ∙ c .if1 .taken))
+    sym (w .inv ∙ rw (left-more blankName (min (j .«name_count») 40) (w .i) (j .names) (omega arith) (omega arith), sym (c .before .is-named .ensures) ∙ c .if1 .taken))
+
+add-i : tie.Need-add-i Inv-loop μ-loop
+add-i c = omega arith
 
 loop-less : tie.Need-loop-less Inv-loop μ-loop
 loop-less c = omega arith
@@ -48,7 +48,7 @@ loop-again : tie.Need-loop-again Inv-loop μ-loop
 loop-again c =
     let w = c .before .before .before .before .loop in
     let j = c .before .before .before .before .before .before .args .t1 in
-    w .inv ∙ rw (left-more blankName (min (j .«name_count») 40) (w .i) (j .names) (omega arith) (omega arith), sym (c .before .named-from .ensures) ∙ c .if1 .left)
+    w .inv ∙ rw (left-more blankName (min (j .«name_count») 40) (w .i) (j .names) (omega arith) (omega arith), sym (c .before .is-named .ensures) ∙ c .if1 .left)
 
 returns-2 : tie.Need-returns-2 Inv-loop μ-loop
 returns-2 c =
@@ -56,8 +56,8 @@ returns-2 c =
     let j = c .before .before .before .args .t1 in
     sym (w .inv ∙ rw (left-none blankName (min (j .«name_count») 40) (w .i) (j .names) (omega arith)))
 
-pub name-twice-spec : {M : Type 1} → statement M
-name-twice-spec =
+pub named-from-spec : {M : Type 1} → statement M
+named-from-spec =
     tie.close
     (tie.spec
     Inv-loop
@@ -66,9 +66,9 @@ name-twice-spec =
     loop-holds
     mul-name
     element-copy-out-name
-    add-i
-    named-from-requires
+    is-named-requires
     returns
+    add-i
     loop-less
     loop-again
     returns-2)

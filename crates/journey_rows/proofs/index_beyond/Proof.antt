@@ -4,22 +4,22 @@ use lib.ListN.{length, drop, getD, length-take}
 use native.Mathlib.Omega.{arith}
 use borrow.Author.Needs.{needs}
 use borrow.Author.Tests.{le-leb, lt-leb}
-use Rattle.journey.specs.View.{namesIn, pointsIn}
+use Rattle.journey.specs.View.{namesView, pointsView}
 use Rattle.journey.specs.Journey.{blankJourneyPoint}
 use mathlib.Core.List.{List}
 use mathlib.Core.Bool.{Bool}
 use lib.Dec.{leb}
 use Rattle.wire.specs.Lists.{any}
 use Rattle.journey.specs.declared.JourneyPoint.{JourneyPoint}
-use Rattle.route.proofs.Loops.{left-more, left-none}
-use Rattle.route.proofs.index_beyond.Statement.{statement}
-use Rattle.route.proofs.index_beyond.Tie as tie
+use Rattle.wire.proofs.ListLaws.{left-more, left-none}
+use Rattle.journey_rows.proofs.index_beyond.Statement.{statement}
+use Rattle.journey_rows.proofs.index_beyond.Tie as tie
 
 abbrev beyond : ℕ → List JourneyPoint → Bool
 beyond n ps = any (λ p. leb n (p .index)) ps
 
 abbrev Inv-loop : tie.InvT-loop
-Inv-loop j segments n i₀ i = beyond (length (namesIn j)) (pointsIn j) ≡ beyond (length (namesIn j)) (drop i (pointsIn j))
+Inv-loop j segments n i₀ i = beyond (length (namesView j)) (pointsView j) ≡ beyond (length (namesView j)) (drop i (pointsView j))
 
 abbrev μ-loop : tie.MeasureT-loop
 μ-loop j segments n i₀ i = n - i
@@ -46,7 +46,7 @@ returns : tie.Need-returns Inv-loop μ-loop
 returns c =
     let w = c .before .before .before .before .loop in
     let j = c .before .before .before .before .before .before .before .args .t1 in
-    let e : length (namesIn j) ≤ getD (j .points) (w .i) blankJourneyPoint .index = rw length-take (omega arith) in
+    let e : length (namesView j) ≤ getD (j .points) (w .i) blankJourneyPoint .index = rw length-take (omega arith) in
     sym (w .inv ∙ rw (left-more blankJourneyPoint (min (j .«point_count») 64) (w .i) (j .points) (omega arith) (omega arith), le-leb _ _ e))
 
 add-i : tie.Need-add-i Inv-loop μ-loop
@@ -59,7 +59,7 @@ loop-again : tie.Need-loop-again Inv-loop μ-loop
 loop-again c =
     let w = c .before .before .before .before .loop in
     let j = c .before .before .before .before .before .before .before .args .t1 in
-    let e : getD (j .points) (w .i) blankJourneyPoint .index < length (namesIn j) = rw length-take (omega arith) in
+    let e : getD (j .points) (w .i) blankJourneyPoint .index < length (namesView j) = rw length-take (omega arith) in
     w .inv ∙ rw (left-more blankJourneyPoint (min (j .«point_count») 64) (w .i) (j .points) (omega arith) (omega arith), lt-leb _ _ e)
 
 returns-2 : tie.Need-returns-2 Inv-loop μ-loop

@@ -4,16 +4,16 @@ use mathlib.Core.List.{_++_}
 use lib.ListN.{length, getD, drop, take, length-set}
 use native.Mathlib.Omega.{arith}
 use borrow.Author.Needs.{needs}
-use Rattle.journey.specs.View.{pointsIn}
+use Rattle.journey.specs.View.{pointsView}
 use Rattle.journey.specs.Journey.{blankJourneyPoint}
-use Rattle.route.specs.Table.{nidtps}
-use Rattle.route.proofs.Loops.{left-more, left-none}
-use Rattle.route.proofs.Placed.{nidtps-more, nidtps-all}
-use Rattle.route.proofs.nidtps_of.Statement.{statement}
-use Rattle.route.proofs.nidtps_of.Tie as tie
+use Rattle.journey_rows.specs.Rows.{nidtps}
+use Rattle.wire.proofs.ListLaws.{left-more, left-none}
+use Rattle.journey_rows.proofs.Names.{nidtps-more, nidtps-all}
+use Rattle.journey_rows.proofs.nidtps_of.Statement.{statement}
+use Rattle.journey_rows.proofs.nidtps_of.Tie as tie
 
 abbrev Inv-loop : tie.InvT-loop
-Inv-loop j n names₀ i₀ names i = (i ≤ min (j .«point_count») 64) × (length names ≡ 64) × (nidtps (pointsIn j) ≡ take i names ++ nidtps (drop i (pointsIn j)))
+Inv-loop j n names₀ i₀ names i = (i ≤ min (j .«point_count») 64) × (length names ≡ 64) × (nidtps (pointsView j) ≡ take i names ++ nidtps (drop i (pointsView j)))
 
 abbrev μ-loop : tie.MeasureT-loop
 μ-loop j n names₀ i₀ names i = n - i

@@ -1,0 +1,159 @@
+// What the rows 10 to 12 look at in a journey alone: names, indices, NID_TPs, End of Journey.
+use journey::Journey;
+use journey::Name;
+ghost use mathlib.Core.Path.{_≡_};
+ghost use Prim.Native.Nat.{_≤_, min};
+ghost use lib.ListN.{length, drop, take};
+ghost use lib.Dec.{eqb};
+ghost use Rattle.wire.specs.Numbers.{flag};
+ghost use Rattle.wire.specs.Lists.{any, twice, falls};
+ghost use Rattle.journey.specs.View.{namesView, pointsView, valueView};
+ghost use Rattle.journey_rows.specs.Rows.{sameName, indexBeyond, nidtps, ends, indices, endingOf};
+ghost use Rattle.journey_rows.specs.View.{isNamed};
+
+// How many names there are; the caller learns the length of their array.
+pub fn name_count(j: Journey) -> usize
+    ensures { λ r. ⌜ (r ≡ min (j .«name_count») 40) × (length (j .names) ≡ 40) ⌝ }
+{
+    let n = j.name_count as usize;
+    if n < 40 { n } else { 40 }
+}
+
+pub fn point_count(j: Journey) -> usize
+    ensures { λ r. ⌜ (r ≡ min (j .«point_count») 64) × (length (j .points) ≡ 64) ⌝ }
+{
+    let n = j.point_count as usize;
+    if n < 64 { n } else { 64 }
+}
+
+fn is_named(n: Name, nidc: u16, nidsp: u32) -> bool
+    ensures { λ r. ⌜ r ≡ isNamed nidc nidsp n ⌝ }
+{
+    n.nidc == nidc && n.nidsp == nidsp
+}
+
+// A name is among those from an index on.
+fn named_from(j: Journey, from: usize, nidc: u16, nidsp: u32) -> bool
+    ensures { λ r. ⌜ r ≡ any (isNamed nidc nidsp) (drop from (namesView j)) ⌝ }
+{
+    let n = name_count(j);
+    let mut i = from;
+    while i < n {
+        let name = j.names[i];
+        if is_named(name, nidc, nidsp) {
+            return true;
+        }
+        i += 1;
+    }
+    false
+}
+
+pub fn name_twice(j: Journey) -> bool
+    ensures { λ r. ⌜ r ≡ twice sameName (namesView j) ⌝ }
+{
+    let n = name_count(j);
+    let mut i: usize = 0;
+    while i < n {
+        let name = j.names[i];
+        i += 1;
+        if named_from(j, i, name.nidc, name.nidsp) {
+            return true;
+        }
+    }
+    false
+}
+
+// A point's index is not that of a segment.
+pub fn index_beyond(j: Journey) -> bool
+    ensures { λ r. ⌜ r ≡ indexBeyond (valueView j) ⌝ }
+{
+    let segments = name_count(j);
+    let n = point_count(j);
+    let mut i: usize = 0;
+    while i < n {
+        let p = j.points[i];
+        if segments <= (p.index as usize) {
+            return true;
+        }
+        i += 1;
+    }
+    false
+}
+
+// NID_TP of each point.
+fn nidtps_of(j: Journey) -> [u32; 64]
+    ensures { λ r. ⌜ take (min (j .«point_count») 64) r ≡ nidtps (pointsView j) ⌝ }
+{
+    let n = point_count(j);
+    let mut names = [0; 64];
+    let mut i: usize = 0;
+    while i < n {
+        let p = j.points[i];
+        names[i] = p.nidtp;
+        i += 1;
+    }
+    names
+}
+
+pub fn point_twice(j: Journey) -> bool
+    ensures { λ r. ⌜ r ≡ twice eqb (nidtps (pointsView j)) ⌝ }
+{
+    let n = point_count(j);
+    let names = nidtps_of(j);
+    book::repeated(&names[..n])
+}
+
+// A test as a number.
+fn one_if(b: bool) -> usize
+    ensures { λ r. ⌜ (r ≡ flag b) × (r ≤ 1) ⌝ }
+{
+    if b { 1 } else { 0 }
+}
+
+// How many End of Journey there are.
+pub fn end_count(j: Journey) -> usize
+    ensures { λ r. ⌜ r ≡ ends (pointsView j) ⌝ }
+{
+    let n = point_count(j);
+    let mut sum: usize = 0;
+    let mut i: usize = 0;
+    while i < n {
+        let p = j.points[i];
+        sum += one_if(p.end);
+        i += 1;
+    }
+    sum
+}
+
+pub fn index_falls(j: Journey) -> bool
+    ensures { λ r. ⌜ r ≡ falls (indices (pointsView j)) ⌝ }
+{
+    let n = point_count(j);
+    let mut last: u8 = 0;
+    let mut i: usize = 0;
+    while i < n {
+        let p = j.points[i];
+        if p.index < last {
+            return true;
+        }
+        last = p.index;
+        i += 1;
+    }
+    false
+}
+
+// Where the End of Journey stands.
+pub fn end_index(j: Journey) -> u8
+    ensures { λ r. ⌜ r ≡ endingOf (pointsView j) ⌝ }
+{
+    let n = point_count(j);
+    let mut i: usize = 0;
+    while i < n {
+        let p = j.points[i];
+        if p.end {
+            return i as u8;
+        }
+        i += 1;
+    }
+    n as u8
+}
