@@ -8,23 +8,23 @@ use Rattle.journey.specs.Journey.{nameRecord, pointRecord, headRecord, journeyR
 use Rattle.route.specs.Placing.{placedAt, startAt, segmentOf, pointOf}
 use Rattle.route.specs.Table.{checked, journeyOf}
 use Rattle.route.specs.Route.{routeOf, loadOf}
-use Rattle.timing.specs.Position.{segmentFrom, frontIn, front}
+use Rattle.timing.specs.Position.{segmentFrom, front}
 use Rattle.timing.specs.Distance.{beyond, atStop}
 use Rattle.timing.specs.Load.{targetFrom, target}
 use Rattle.timing.specs.Report.{looked, reported}
 use Rattle.timing.specs.Changes.{passings, reportChanges}
 use Rattle.timing.specs.Skips.{stopFrom}
-use Rattle.control.specs.Conditions.{firstAhead, countsIn, counts, inZones, outsideIn, conditions}
-use Rattle.control.specs.Numbers.{powerRows, stateRow}
-use Rattle.control.specs.States.{settled}
-use Rattle.control.specs.Settled.{controlAfter}
+use Rattle.conditions.specs.Conditions.{firstAhead, inZones, conditions}
+use Rattle.states.specs.Numbers.{powerRows, stateRow}
+use Rattle.states.specs.States.{machineAfter}
+use Rattle.states.specs.ControlGroup.{controlAfter}
 use Rattle.layout.specs.Layout.{bytes}
 use Rattle.packets.specs.Packets.{valueBytes}
 use Rattle.engine_value.specs.declared.Engine.{Engine}
 use Rattle.call.specs.Packets.{timingPoint, jpReceived, atoStatus, statusDue, packetsOf}
-use Rattle.call.specs.Effect.{beyondIn, offsetBeyond, positionEffect, loadEffect, skipEffect, effect}
+use Rattle.call.specs.Effect.{offsetBeyond, positionEffect, loadEffect, skipEffect, effect}
 use Rattle.call.specs.Call.{Call, Outcome, conditionsIn, judged, outcomeOf, stepOf}
 
 unfoldable pub computed : Engine → Call → Outcome
-unfolding number bytesOf field bitMap optional many counted listed eventWith contentAmong eventOfKind eventOf bookPoint zoneRecord segmentRecord records bookOf nameRecord pointRecord headRecord journeyRecord placedAt startAt segmentOf pointOf checked journeyOf routeOf loadOf segmentFrom frontIn front beyond atStop targetFrom target looked reported passings reportChanges stopFrom firstAhead countsIn counts inZones outsideIn conditions powerRows stateRow settled controlAfter bytes valueBytes timingPoint jpReceived atoStatus statusDue packetsOf beyondIn offsetBeyond positionEffect loadEffect skipEffect effect conditionsIn judged outcomeOf stepOf
+unfolding number bytesOf field bitMap optional many counted listed eventWith contentAmong eventOfKind eventOf bookPoint zoneRecord segmentRecord records bookOf nameRecord pointRecord headRecord journeyRecord placedAt startAt segmentOf pointOf checked journeyOf routeOf loadOf segmentFrom front beyond atStop targetFrom target looked reported passings reportChanges stopFrom firstAhead inZones conditions powerRows stateRow machineAfter controlAfter bytes valueBytes timingPoint jpReceived atoStatus statusDue packetsOf offsetBeyond positionEffect loadEffect skipEffect effect conditionsIn judged outcomeOf stepOf
 computed e c = stepOf e c

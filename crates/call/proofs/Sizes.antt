@@ -20,7 +20,7 @@ use Rattle.packets.specs.Packets.{packetBytes, joined}
 use Rattle.packets.proofs.PacketLaws.{length-packetBytes, length-joined, length-one}
 use Rattle.journey.specs.declared.Head.{Head}
 use Rattle.route.specs.Route.{LoadValue, loadOf}
-use Rattle.timing.specs.Position.{pointCount, placed, known}
+use Rattle.timing.specs.Position.{pointCount, placed, segmentNamed, known}
 use Rattle.timing.specs.Distance as distance
 use Rattle.timing.specs.Distance.{reportIn, beyond, moving}
 use Rattle.timing.specs.Report.{looked, lookedFrom, departs, firstLooked, reported, becameReached}
@@ -100,7 +100,7 @@ small-as : (r : Role) (m : Engine) (journey book : List ℕ) → Small (effectAs
 unfolding positionEffect loadEffect
 small-as off m journey book = omega arith
 small-as load m journey book = small-load m (loadOf journey book)
-small-as report m journey book = small-row 13 (offsetBeyond (routeIn m) (m .train .position)) (reportedIn m) (omega (arith, changes-most (routeIn m) (reportIn m) (m .progress)))
+small-as report m journey book = small-row 13 (offsetBeyond (segmentNamed (routeIn m) (m .train .position)) (m .train .position)) (reportedIn m) (omega (arith, changes-most (routeIn m) (reportIn m) (m .progress)))
 small-as other m journey book = omega arith
 small-as (skip t on) m journey book = small-skip m on _
 

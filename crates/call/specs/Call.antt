@@ -14,10 +14,10 @@ use Rattle.event.specs.declared.Event.{Event}
 use Rattle.packets.specs.Packets.{joined}
 use Rattle.packets.specs.declared.Packet.{Packet}
 use Rattle.timing.specs.Standing.{standing}
-use Rattle.control.specs.Codes.{stateAt}
-use Rattle.control.specs.Conditions.{conditions}
-use Rattle.control.specs.Numbers.{powerRows, stateRow}
-use Rattle.control.specs.Settled.{controlAfter}
+use Rattle.states.specs.Codes.{stateAt}
+use Rattle.conditions.specs.Conditions.{conditions}
+use Rattle.states.specs.Numbers.{powerRows, stateRow}
+use Rattle.states.specs.ControlGroup.{controlAfter}
 use Rattle.call.specs.Packets.{Status, packetsOf}
 use Rattle.call.specs.Effect.{Effect, effect}
 use Rattle.call.specs.declared.Answer.{Answer}

@@ -4,11 +4,10 @@ use mathlib.Core.List.{List, [], _∷_}
 use mathlib.Core.Bool.{Bool, true, false, cond, not, _&&_, _||_}
 use mathlib.Core.Option.{Option, none, some}
 use lib.ListN.{getD, set}
-use lib.Dec.{eqb}
 use Rattle.wire.specs.Numbers.{if_then_else_}
 use Rattle.wire.specs.Judged.{Judged, thenJudge, row, _>>=_, _>>_}
 use Rattle.wire.specs.Judged.Judged.{refuse, accept}
-use Rattle.engine_value.specs.Engine.{Route, routeIn, undefined, progress, fresh, withRoute, withSkips, withProgress, withControl, withTrain}
+use Rattle.engine_value.specs.Engine.{routeIn, progress, fresh, withRoute, withSkips, withProgress, withControl, withTrain}
 use Rattle.engine_value.specs.declared.Position.{Position}
 use Rattle.engine_value.specs.declared.Control.{Control}
 use Rattle.engine_value.specs.declared.Engine.{Engine}
@@ -16,16 +15,17 @@ use Rattle.event.specs.declared.Event.{Event}
 use Rattle.event.specs.Kinds.{Role, off, load, report, other, skip, mode, lever, reports, trainLength, Carried, newer, roleOf, carried}
 use Rattle.journey.specs.declared.Head.{Head}
 use Rattle.route.specs.Route.{LoadValue, loadOf}
-use Rattle.timing.specs.Position.{segment, segmentNamed}
+use Rattle.timing.specs.Position.{segmentNamed, offsetDefined}
 use Rattle.timing.specs.Distance.{reportIn}
 use Rattle.timing.specs.Standing.{standing, behind}
 use Rattle.timing.specs.Load.{target}
 use Rattle.timing.specs.Report.{reported, becameReached}
 use Rattle.timing.specs.Changes.{Change, change, reportChanges, statusSkipped, statusRevoked}
 use Rattle.timing.specs.Skips.{stopNamed}
+use Rattle.timing.specs.declared.Named.{Named}
 use Rattle.timing.specs.declared.Found.{Found}
 use Rattle.timing.specs.declared.Found.the-variants.{At, Nothing}
-use Rattle.control.specs.Conditions.{tooFar}
+use Rattle.conditions.specs.Conditions.{tooFar}
 
 -- the engine with the event's values taken in, stamp and NID_ATOTS of the journey that it loaded, the points that changed, and whether one
 -- became reached
@@ -50,12 +50,8 @@ taking e c = withTrain (withControl e (record {
 })) (record { position = newer (c .position) (e .train .position); length = newer (c .number trainLength) (e .train .length) })
 
 -- position: "13 journey segment that is in the book, offset defined and beyond its length"
-unfoldable pub beyondIn : Route → Position → Found → Bool
-beyondIn j x Nothing = false
-beyondIn j x (At k) = tooFar x (segment j k)
-
-unfoldable pub offsetBeyond : Route → Position → Bool
-offsetBeyond j x = not (eqb (x .offset) undefined) && beyondIn j x (segmentNamed j x)
+unfoldable pub offsetBeyond : Named → Position → Bool
+offsetBeyond s x = offsetDefined x && (s .found && tooFar x (s .segment))
 
 -- the engine has the report's position, and the progress from before
 abbrev pub reportedIn : Engine → Effect
@@ -68,7 +64,7 @@ reportedIn m = record {
 
 unfoldable pub positionEffect : Engine → Judged Effect
 positionEffect m = do
-  row 13 (offsetBeyond (routeIn m) (m .train .position))
+  row 13 (offsetBeyond (segmentNamed (routeIn m) (m .train .position)) (m .train .position))
   accept (reportedIn m)
 
 -- "Load, judged on the new journey and book with no driver skip"; "Driver skips are cleared." "points that a load puts behind write none"

@@ -16,9 +16,9 @@ use Rattle.journey.specs.declared.Head.{Head}
 use Rattle.timing.specs.Position.{point, known}
 use Rattle.timing.specs.Standing.{standing}
 use Rattle.timing.specs.Changes.{Change, statusStopped, when}
-use Rattle.control.specs.Codes.{code}
-use Rattle.control.specs.Conditions.{endAhead}
-use Rattle.control.specs.declared.State.the-variants.{EG}
+use Rattle.states.specs.Codes.{code}
+use Rattle.conditions.specs.Conditions.{endAhead}
+use Rattle.states.specs.declared.State.the-variants.{EG}
 
 -- "header: NID_C (2), NID_SP (4), offset (4), speed (2), NID_OPERATIONAL (4; FFFFFFFF hexadecimal with no journey)"
 abbrev pub header : Route → Position → Header
@@ -33,7 +33,7 @@ timingPoint j x c =
       header = header j x;
       nidc = p .nidc;
       nidtp = p .nidtp;
-      «q_eoj_reached» = flag (endAhead j (standing (c .after)));
+      «q_eoj_reached» = flag (endAhead (j .load) (standing (c .after)));
       alignment = p .alignment;
       status = c .status;
       stopping = if eqb (c .status) statusStopped then p .stopping else 0;

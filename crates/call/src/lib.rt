@@ -64,7 +64,7 @@ fn standings(e: Engine) -> [u8; 64]
 pub fn show(e: Engine) -> Shown
     ensures { λ r. ⌜ (r ≡ shownView e) × (r .conditions ≤ 511) ⌝ }
 {
-    let conditions = control::conditions(e);
+    let conditions = conditions::conditions(e);
     let points = point_count(e);
     let standings = standings(e);
     Shown {

@@ -2,45 +2,42 @@
 use Prim.Native.Nat.{ℕ}
 use mathlib.Core.Path.{_≡_, refl, sym, ap, _∙_}
 use mathlib.Core.List.{List}
-use mathlib.Core.Bool.{Bool, true, false, not, _&&_}
+use mathlib.Core.Bool.{Bool, true, false}
 use lib.ListN.{getD, set}
 use lib.Dec.{eqb, ltb}
 use borrow.Author.Tests.{eq-eqb, ne-eqb}
 use Rattle.wire.specs.Judged.{Judged, thenJudge}
 use Rattle.wire.specs.Judged.Judged.{refuse, accept}
-use Rattle.engine_value.specs.Engine.{Route, routeIn, undefined, progress, withRoute, withSkips, withProgress, withPosition}
+use Rattle.engine_value.specs.Engine.{routeIn, undefined, progress, withRoute, withSkips, withProgress, withPosition}
 use Rattle.engine_value.specs.declared.Position.{Position}
 use Rattle.engine_value.specs.declared.Engine.{Engine}
 use Rattle.timing.specs.Position.{segmentNamed}
-use Rattle.timing.specs.Seen.{namedIn, segmentIn}
 use Rattle.timing.specs.Distance.{reportIn}
 use Rattle.timing.specs.Standing.{standing, behind}
 use Rattle.timing.specs.Load.{target}
 use Rattle.timing.specs.Report.{reportOf}
 use Rattle.timing.specs.Changes.{passings, reportChanges}
-use Rattle.timing.specs.declared.Found.{Found}
-use Rattle.timing.specs.declared.Found.the-variants.{At, Nothing}
+use Rattle.timing.specs.declared.Found.the-variants.{At}
 use Rattle.timing.specs.declared.Named.{Named}
 use Rattle.timing.specs.declared.Reported.{Reported}
-use Rattle.control.specs.Conditions.{tooFar}
-use Rattle.control.specs.declared.View.{View}
+use Rattle.conditions.specs.declared.LookedUp.{LookedUp}
 use Rattle.route.specs.Route.{LoadValue, loadOf}
 use Rattle.route.specs.View.{loadView}
 use Rattle.route.specs.declared.Loaded.{Loaded}
 use Rattle.event_packets.specs.declared.Changes.{Changes}
 use Rattle.journey.specs.declared.Head.{Head}
 use Rattle.call.specs.Effect as model
-use Rattle.call.specs.Effect.{valuesOnly, beyondIn, offsetBeyond, positionEffect, loadedIn, loadEffect, sameBool, skipEffect}
+use Rattle.call.specs.Effect.{valuesOnly, offsetBeyond, positionEffect, loadedIn, loadEffect, sameBool, skipEffect}
 use Rattle.effects.specs.declared.Effect.{Effect}
-use Rattle.effects.specs.View.{noChanges, oneChange, changesOf, skipStatus, routeView, viewOf, beyondBy, plainEffect, effectIn, effectView, Gives}
+use Rattle.effects.specs.View.{noChanges, oneChange, changesOf, skipStatus, routeView, lookedUpIn, plainEffect, effectIn, effectView, Gives}
 
-pub gives-values-only : (e m n : Engine) (v w : View) (f : Effect) (x : Judged model.Effect) → f ≡ plainEffect m 0 v w → m ≡ n → v ≡ viewOf e → w ≡ viewOf n
+pub gives-values-only : (e m n : Engine) (v w : LookedUp) (f : Effect) (x : Judged model.Effect) → f ≡ plainEffect m 0 v w → m ≡ n → v ≡ lookedUpIn e → w ≡ lookedUpIn n
     → accept (valuesOnly n) ≡ x → Gives e x f
 unfolding passings
 gives-values-only e m n v w f x q a s t y = record { effect = rw (q, a) y; before = rw q s; after = rw (q, a) t }
 
 -- a row that refuses
-pub gives-number : (e : Engine) (k : ℕ) (w : View) (f : Effect) (x : Judged model.Effect) → eqb k 0 ≡ false → f ≡ plainEffect e k w w → w ≡ viewOf e → refuse k ≡ x → Gives e x f
+pub gives-number : (e : Engine) (k : ℕ) (w : LookedUp) (f : Effect) (x : Judged model.Effect) → eqb k 0 ≡ false → f ≡ plainEffect e k w w → w ≡ lookedUpIn e → refuse k ≡ x → Gives e x f
 gives-number e k w f x h q t y = record { effect = rw (q, h) y; before = rw q t; after = rw q t }
 
 -- an effect with a number other than 0 is a refusal
@@ -52,35 +49,31 @@ seen-effect f h = rw (eq-eqb (f .number) 0 h)
 
 -- 13
 module _ (s : Named) (x : Position) where
-  pub beyond-undefined : x .offset ≡ undefined → beyondBy s x ≡ false
+  pub beyond-undefined : x .offset ≡ undefined → offsetBeyond s x ≡ false
+  unfolding offsetBeyond
   beyond-undefined h = rw (eq-eqb (x .offset) undefined h)
 
   module _ (h : x .offset ≡ undefined → ⊥) where
-    pub beyond-missing : s .found ≡ false → beyondBy s x ≡ false
+    pub beyond-missing : s .found ≡ false → offsetBeyond s x ≡ false
+    unfolding offsetBeyond
     beyond-missing f = rw (ne-eqb (x .offset) undefined h, f)
 
-    pub beyond-booked : s .found ≡ true → s .segment .booked ≡ true → ltb (s .segment .length) (x .offset) ≡ beyondBy s x
+    pub beyond-booked : s .found ≡ true → s .segment .booked ≡ true → ltb (s .segment .length) (x .offset) ≡ offsetBeyond s x
+    unfolding offsetBeyond
     beyond-booked f b = rw (ne-eqb (x .offset) undefined h, f, b)
 
-    pub beyond-unbooked : s .found ≡ true → s .segment .booked ≡ false → beyondBy s x ≡ false
+    pub beyond-unbooked : s .found ≡ true → s .segment .booked ≡ false → offsetBeyond s x ≡ false
+    unfolding offsetBeyond
     beyond-unbooked f b = rw (ne-eqb (x .offset) undefined h, f, b)
 
-pub beyond-is : (j : Route) (x : Position) → beyondBy (segmentIn j x) x ≡ offsetBeyond j x
-unfolding offsetBeyond beyondIn
-beyond-is j x = ap (λ (b : Bool). not (eqb (x .offset) undefined) && b) (go (segmentNamed j x))
-  where
-    go : (f : Found) → namedIn (j .segments) f .found && tooFar x (namedIn (j .segments) f .segment) ≡ beyondIn j x f
-    go (At k) = refl
-    go Nothing = refl
-
 module _ (e : Engine) (x : Position) where
-  pub position-13 : offsetBeyond (routeIn e) x ≡ true → positionEffect (withPosition e x) ≡ refuse 13
+  pub position-13 : offsetBeyond (segmentNamed (routeIn e) x) x ≡ true → positionEffect (withPosition e x) ≡ refuse 13
   unfolding positionEffect
   position-13 h = rw h
 
-  pub position-reported : (m : Engine) (t : Reported) (ch : Changes) (head : Head) → offsetBeyond (routeIn e) x ≡ false → m ≡ withPosition e x
+  pub position-reported : (m : Engine) (t : Reported) (ch : Changes) (head : Head) → offsetBeyond (segmentNamed (routeIn e) x) x ≡ false → m ≡ withPosition e x
       → t ≡ reportOf (routeIn m) (reportIn m) (m .progress) → ch ≡ changesOf (m .progress .next) t
-      → (v w : View) → v ≡ viewOf e → w ≡ viewOf (withProgress m (t .progress))
+      → (v w : LookedUp) → v ≡ lookedUpIn e → w ≡ lookedUpIn (withProgress m (t .progress))
       → Gives e (positionEffect (withPosition e x)) (record { engine = withProgress m (t .progress); number = 0; loaded = false; head = head; changes = ch; reached = t .reached; before = v; after = w })
   unfolding positionEffect reportChanges
   position-reported m t ch head h a q c v w s u = record { effect = rw (h, c, q, a); before = s; after = u }
@@ -101,7 +94,7 @@ module _ (e : Engine) (journey book : List ℕ) (l : Loaded) (told : loadView l 
 
   pub load-taken : (m : Engine) (ch : Changes) → l .number ≡ 0
       → m ≡ withProgress (withRoute e (routeView l)) (progress (target (routeView l) (e .train .position) (e .train .length)) false) → ch ≡ noChanges
-      → (v w : View) → v ≡ viewOf e → w ≡ viewOf m
+      → (v w : LookedUp) → v ≡ lookedUpIn e → w ≡ lookedUpIn m
       → Gives e (loadEffect e journey book) (record { engine = m; number = 0; loaded = true; head = l .head; changes = ch; reached = false; before = v; after = w })
   unfolding passings
   load-taken m ch h q c v w s u = record { effect = rw (q, c) (load-route h); before = s; after = u }
@@ -118,7 +111,7 @@ module _ (e : Engine) (k : ℕ) (on : Bool) where
 
   pub skip-taken : (m : Engine) (ch : Changes) (head : Head) → behind (standing (e .progress) k) ≡ false → sameBool (getD (e .skips) k false) on ≡ false
       → m ≡ withSkips e (set (e .skips) k on) → ch ≡ oneChange k (skipStatus on) (e .progress)
-      → (w : View) → w ≡ viewOf e
+      → (w : LookedUp) → w ≡ lookedUpIn e
       → Gives e (skipEffect e on (At k)) (record { engine = m; number = 0; loaded = false; head = head; changes = ch; reached = false; before = w; after = w })
   unfolding skipEffect passings
   skip-taken m ch head h q a b w v = record { effect = rw (h, q, a, b); before = v; after = rw a v }

@@ -1,23 +1,21 @@
 -- What the code's answers stand for.
 use Prim.Native.Nat.{ℕ}
 use mathlib.Core.Path.{_≡_}
-use mathlib.Core.Bool.{Bool, true, false, not, _&&_}
+use mathlib.Core.Bool.{Bool, true, false}
 use mathlib.Core.Option.{none, some}
 use lib.Dec.{eqb}
 use Rattle.wire.specs.Numbers.{if_then_else_}
 use Rattle.wire.specs.Judged.{Judged}
 use Rattle.wire.specs.Judged.Judged.{refuse, accept}
-use Rattle.engine_value.specs.Engine.{Route, routeIn, undefined, progress}
-use Rattle.engine_value.specs.declared.Position.{Position}
+use Rattle.engine_value.specs.Engine.{Route, routeIn, progress}
 use Rattle.engine_value.specs.declared.Progress.{Progress}
 use Rattle.engine_value.specs.declared.Engine.{Engine}
 use Rattle.journey.specs.Journey.{blankHead}
+use Rattle.timing.specs.Standing.{standing}
 use Rattle.timing.specs.Changes.{statusDeparted, statusSkipped, statusRevoked}
-use Rattle.timing.specs.declared.Named.{Named}
 use Rattle.timing.specs.declared.Reported.{Reported}
-use Rattle.control.specs.Conditions.{tooFar}
-use Rattle.control.specs.Seen.{viewIn}
-use Rattle.control.specs.declared.View.{View}
+use Rattle.conditions.specs.Conditions.{lookedUp}
+use Rattle.conditions.specs.declared.LookedUp.{LookedUp}
 use Rattle.route.specs.declared.Loaded.{Loaded}
 use Rattle.event_packets.specs.View.{changesIn}
 use Rattle.event_packets.specs.declared.Changes.{Changes}
@@ -42,14 +40,10 @@ abbrev pub routeView : Loaded → Route
 routeView l = record { load = l .load; points = l .points; segments = l .segments }
 
 -- what the conditions look up in an engine
-abbrev pub viewOf : Engine → View
-viewOf e = viewIn (routeIn e) (e .train .position) (e .progress)
+abbrev pub lookedUpIn : Engine → LookedUp
+lookedUpIn e = lookedUp (routeIn e) (e .train .position) (standing (e .progress))
 
--- 13, by the segment that a position names
-abbrev pub beyondBy : Named → Position → Bool
-beyondBy s x = not (eqb (x .offset) undefined) && (s .found && tooFar x (s .segment))
-
-abbrev pub plainEffect : Engine → ℕ → View → View → Effect
+abbrev pub plainEffect : Engine → ℕ → LookedUp → LookedUp → Effect
 plainEffect e n before after =
     record { engine = e; number = n; loaded = false; head = blankHead; changes = noChanges; reached = false; before = before; after = after }
 
@@ -68,5 +62,5 @@ effectView f = if eqb (f .number) 0 then accept (effectIn f) else refuse (f .num
 -- such an effect on engine e, and what the conditions look up before and after it
 pub record Gives (e : Engine) (x : Judged model.Effect) (f : Effect) : Type 0 where
   pub effect : effectView f ≡ x
-  pub before : f .before ≡ viewOf e
-  pub after : f .after ≡ viewOf (f .engine)
+  pub before : f .before ≡ lookedUpIn e
+  pub after : f .after ≡ lookedUpIn (f .engine)

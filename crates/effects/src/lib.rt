@@ -1,9 +1,10 @@
 // What an event does before the rows of the states.
-use control::View;
+use conditions::LookedUp;
 use engine_value::Engine;
 use engine_value::Position;
 use engine_value::Progress;
 use engine_value::Train;
+use engine_value::UNDEFINED;
 use event::Event;
 use event_packets::Changes;
 use journey::Head;
@@ -18,14 +19,14 @@ ghost use Prim.Native.Nat.{_<_};
 ghost use lib.ListN.{set};
 ghost use Rattle.engine_value.specs.Engine.{routeIn, fresh, progress, withPosition, withRoute, withSkips, withProgress};
 ghost use Rattle.journey.specs.Journey.{blankHead};
-ghost use Rattle.timing.specs.Position.{placed};
 ghost use Rattle.timing.specs.Standing.{standing, behind};
+ghost use Rattle.conditions.specs.Conditions.{profilesThere};
 ghost use Rattle.timing.specs.Skips.{stopNamed};
 ghost use Rattle.timing.specs.Load.{target};
 ghost use Rattle.timing.specs.declared.Found.the-variants.{At};
 ghost use Rattle.event.specs.Kinds.{mode, lever, reports, trainLength, number, bringing};
-ghost use Rattle.call.specs.Effect.{taking, positionEffect, loadEffect, sameBool, skipEffect, effect};
-ghost use Rattle.effects.specs.View.{noChanges, oneChange, changesOf, skipStatus, routeView, viewOf, beyondBy, plainEffect, Gives};
+ghost use Rattle.call.specs.Effect.{taking, positionEffect, loadEffect, offsetBeyond, sameBool, skipEffect, effect};
+ghost use Rattle.effects.specs.View.{noChanges, oneChange, changesOf, skipStatus, routeView, lookedUpIn, plainEffect, Gives};
 
 // The engine with the event's values, the head of a journey that was loaded, the points that changed, whether one became reached, and what the
 // conditions look up before and after it. `number` is 0, or that of the row that refuses.
@@ -36,8 +37,8 @@ pub struct Effect {
     pub head: Head,
     pub changes: Changes,
     pub reached: bool,
-    pub before: View,
-    pub after: View,
+    pub before: LookedUp,
+    pub after: LookedUp,
 }
 
 fn no_head() -> Head
@@ -85,7 +86,7 @@ fn one_change(index: u8, status: u8, after: Progress) -> Changes
 }
 
 // An engine with nothing loaded and no point changed; the engine does not count where a row refuses.
-fn plain(e: Engine, number: u8, before: View, after: View) -> Effect
+fn plain(e: Engine, number: u8, before: LookedUp, after: LookedUp) -> Effect
     ensures { λ r. ⌜ r ≡ plainEffect e number before after ⌝ }
 {
     let head = no_head();
@@ -148,9 +149,9 @@ fn with_position(e: Engine, x: Position) -> Engine
 
 // 13, by the segment that a position names.
 fn offset_beyond(s: Named, x: Position) -> bool
-    ensures { λ r. ⌜ r ≡ beyondBy s x ⌝ }
+    ensures { λ r. ⌜ r ≡ offsetBeyond s x ⌝ }
 {
-    if x.offset == 16777215 {
+    if x.offset == UNDEFINED {
         return false;
     }
     if !s.found {
@@ -181,34 +182,34 @@ fn changes_of(index: u8, t: Reported) -> Changes
     }
 }
 
-// Whether the first point not passed is placed, from before the report on.
-fn placed_after(m: Engine, next: u8, before: bool) -> bool
-    requires { ⌜ before ≡ placed (routeIn m) (m .progress .next) ⌝ }
-    ensures { λ r. ⌜ r ≡ placed (routeIn m) next ⌝ }
+// Condition 4 after a report, from before it on.
+fn profiles_after(m: Engine, p: Progress, before: bool) -> bool
+    requires { ⌜ before ≡ profilesThere (routeIn m) (standing (m .progress)) ⌝ }
+    ensures { λ r. ⌜ r ≡ profilesThere (routeIn m) (standing p) ⌝ }
 {
-    if next == m.progress.next {
+    if p.next == m.progress.next {
         before
     } else {
-        control::placed_at(m, next)
+        conditions::profiles_there(m, p)
     }
 }
 
 // A position report.
-fn position(e: Engine, x: Position, view: View) -> Effect
-    requires { ⌜ view ≡ viewOf e ⌝ }
+fn position(e: Engine, x: Position, looked: LookedUp) -> Effect
+    requires { ⌜ looked ≡ lookedUpIn e ⌝ }
     ensures { λ r. ⌜ Gives e (positionEffect (withPosition e x)) r ⌝ }
 {
     let mut m = with_position(e, x);
     let t = timing::report(m);
     let segment = t.segment;
     if offset_beyond(segment, x) {
-        return plain(e, 13, view, view);
+        return plain(e, 13, looked, looked);
     }
     let head = no_head();
     let changes = changes_of(m.progress.next, t);
     let progress = t.progress;
-    let placed = placed_after(m, progress.next, view.placed);
-    let after = control::view_by(segment, x, placed);
+    let profiles = profiles_after(m, progress, looked.profiles);
+    let after = conditions::look_up(segment, x, profiles);
     m.progress = progress;
     Effect {
         engine: m,
@@ -217,7 +218,7 @@ fn position(e: Engine, x: Position, view: View) -> Effect
         head: head,
         changes: changes,
         reached: t.reached,
-        before: view,
+        before: looked,
         after: after,
     }
 }
@@ -252,18 +253,18 @@ fn with_target(e: Engine) -> Engine
     m
 }
 
-fn load(e: Engine, journey: &[u8], book: &[u8], view: View) -> Effect
-    requires { ⌜ view ≡ viewOf e ⌝ }
+fn load(e: Engine, journey: &[u8], book: &[u8], looked: LookedUp) -> Effect
+    requires { ⌜ looked ≡ lookedUpIn e ⌝ }
     ensures { λ r. ⌜ Gives e (loadEffect e (now (journey .entry)) (now (book .entry))) r ⌝ }
 {
     let l = route::load_route(journey, book);
     if l.number != 0 {
-        return plain(e, l.number, view, view);
+        return plain(e, l.number, looked, looked);
     }
     let m = with_target(with_route(e, l));
     let head = l.head;
     let changes = no_changes();
-    let after = control::view_of(m);
+    let after = conditions::looked_up(m);
     Effect {
         engine: m,
         number: 0,
@@ -271,7 +272,7 @@ fn load(e: Engine, journey: &[u8], book: &[u8], view: View) -> Effect
         head: head,
         changes: changes,
         reached: false,
-        before: view,
+        before: looked,
         after: after,
     }
 }
@@ -312,18 +313,18 @@ fn with_skip(e: Engine, k: usize, on: bool) -> Engine
 }
 
 // A driver skip of point k, or its revocation.
-fn skip_at(e: Engine, k: usize, on: bool, view: View) -> Effect
-    requires { ⌜ (k < 64) × (view ≡ viewOf e) ⌝ }
+fn skip_at(e: Engine, k: usize, on: bool, looked: LookedUp) -> Effect
+    requires { ⌜ (k < 64) × (looked ≡ lookedUpIn e) ⌝ }
     ensures { λ r. ⌜ Gives e (skipEffect e on (At k)) r ⌝ }
 {
     let index = k as u8;
     if is_behind(e.progress, index) {
-        return plain(e, 15, view, view);
+        return plain(e, 15, looked, looked);
     }
     let skips = e.skips;
     let given = skips[k];
     if same(given, on) {
-        return plain(e, 15, view, view);
+        return plain(e, 15, looked, looked);
     }
     let m = with_skip(e, k, on);
     let head = no_head();
@@ -335,29 +336,29 @@ fn skip_at(e: Engine, k: usize, on: bool, view: View) -> Effect
         head: head,
         changes: changes,
         reached: false,
-        before: view,
-        after: view,
+        before: looked,
+        after: looked,
     }
 }
 
-fn skip(e: Engine, nidtp: u32, on: bool, view: View) -> Effect
-    requires { ⌜ view ≡ viewOf e ⌝ }
+fn skip(e: Engine, nidtp: u32, on: bool, looked: LookedUp) -> Effect
+    requires { ⌜ looked ≡ lookedUpIn e ⌝ }
     ensures { λ r. ⌜ Gives e (skipEffect e on (stopNamed (routeIn e) nidtp)) r ⌝ }
 {
     let Found::At(k) = timing::find_stop(e, nidtp) else {
-        return plain(e, 14, view, view);
+        return plain(e, 14, looked, looked);
     };
-    skip_at(e, k, on, view)
+    skip_at(e, k, on, looked)
 }
 
 // What the conditions look up in the fresh engine.
-fn fresh_view() -> View
-    ensures { λ r. ⌜ r ≡ viewOf fresh ⌝ }
+fn fresh_looked_up() -> LookedUp
+    ensures { λ r. ⌜ r ≡ lookedUpIn fresh ⌝ }
 {
-    View {
+    LookedUp {
+        profiles: false,
         located: false,
         outside: true,
-        placed: false,
     }
 }
 
@@ -365,23 +366,23 @@ fn fresh_view() -> View
 pub fn effect_of(e: Engine, v: Event, journey: &[u8], book: &[u8]) -> Effect
     ensures { λ r. ⌜ Gives e (effect e (now (journey .entry)) (now (book .entry)) v) r ⌝ }
 {
-    // control::view_of, written out: a call of it would copy the engine once more
+    // conditions::looked_up, written out: a call of it would copy the engine once more
     let s = timing::segment_named(e);
-    let placed = control::placed_at(e, e.progress.next);
-    let view = control::view_by(s, e.train.position, placed);
+    let profiles = conditions::profiles_there(e, e.progress);
+    let looked = conditions::look_up(s, e.train.position, profiles);
     match v {
-        Event::PowerOn => plain(e, 0, view, view),
-        Event::Configured => plain(e, 0, view, view),
-        Event::PowerOff => plain(engine_value::cleared(e), 0, view, fresh_view()),
-        Event::Fault => plain(e, 0, view, view),
-        Event::Reports(n) => plain(with_reports(e, n), 0, view, view),
-        Event::Mode(n) => plain(with_mode(e, n), 0, view, view),
-        Event::Lever(n) => plain(with_lever(e, n), 0, view, view),
-        Event::Press => plain(e, 0, view, view),
-        Event::PositionReport(x) => position(e, x, view),
-        Event::Length(n) => plain(with_length(e, n), 0, view, view),
-        Event::Load => load(e, journey, book, view),
-        Event::Skip(t) => skip(e, t, true, view),
-        Event::Revoke(t) => skip(e, t, false, view),
+        Event::PowerOn => plain(e, 0, looked, looked),
+        Event::Configured => plain(e, 0, looked, looked),
+        Event::PowerOff => plain(engine_value::cleared(e), 0, looked, fresh_looked_up()),
+        Event::Fault => plain(e, 0, looked, looked),
+        Event::Reports(n) => plain(with_reports(e, n), 0, looked, looked),
+        Event::Mode(n) => plain(with_mode(e, n), 0, looked, looked),
+        Event::Lever(n) => plain(with_lever(e, n), 0, looked, looked),
+        Event::Press => plain(e, 0, looked, looked),
+        Event::PositionReport(x) => position(e, x, looked),
+        Event::Length(n) => plain(with_length(e, n), 0, looked, looked),
+        Event::Load => load(e, journey, book, looked),
+        Event::Skip(t) => skip(e, t, true, looked),
+        Event::Revoke(t) => skip(e, t, false, looked),
     }
 }

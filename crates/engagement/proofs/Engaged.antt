@@ -13,29 +13,29 @@ use Rattle.event.specs.declared.Event.the-variants.{PowerOn, Configured, PowerO
 use Rattle.event.specs.declared.Row.{Row}
 use Rattle.event.specs.declared.Row.the-variants.{SwitchOn, Configure, SwitchOff, Fail, EngagePress, ByState}
 use Rattle.event.proofs.Known.{OfRow, known}
-use Rattle.control.specs.Codes.{is}
-use Rattle.control.specs.States.{machine, U, fromRE, fromEG, fromDE, byState, byRow, settled}
-use Rattle.control.specs.declared.Values.{Values}
-use Rattle.control.specs.declared.Machine.{Machine}
-use Rattle.control.specs.Numbers.{powerRows, stateRow}
+use Rattle.states.specs.Codes.{is}
+use Rattle.states.specs.States.{machine, U, fromRE, fromEG, fromDE, byState, byRow, machineAfter}
+use Rattle.states.specs.declared.Values.{Values}
+use Rattle.states.specs.declared.Machine.{Machine}
+use Rattle.states.specs.Numbers.{powerRows, stateRow}
 use Rattle.engagement.specs.Engagement.{Waiting, Ready, Driving, Engagement}
 use Rattle.engagement.specs.Run.{Run}
-use Rattle.control.proofs.CodeLaws.{same-state}
-use Rattle.control.specs.declared.State.{State}
-use Rattle.control.specs.declared.State.the-variants.{NP, CO, NA, AV, RE, EG, DE, FA}
-use Rattle.control.specs.declared.EtcsMode.{EtcsMode}
-use Rattle.control.specs.declared.EtcsMode.the-variants.{Other, AD}
-use Rattle.control.specs.declared.DriverLever.{DriverLever}
-use Rattle.control.specs.declared.DriverLever.the-variants.{Neutral, Traction, Brake}
+use Rattle.states.proofs.CodeLaws.{same-state}
+use Rattle.states.specs.declared.State.{State}
+use Rattle.states.specs.declared.State.the-variants.{NP, CO, NA, AV, RE, EG, DE, FA}
+use Rattle.states.specs.declared.EtcsMode.{EtcsMode}
+use Rattle.states.specs.declared.EtcsMode.the-variants.{Other, AD}
+use Rattle.states.specs.declared.DriverLever.{DriverLever}
+use Rattle.states.specs.declared.DriverLever.the-variants.{Neutral, Traction, Brake}
 
 zero-one : _≡_ {A = ℕ} 0 1 → ⊥
 zero-one e = omega arith
 
 -- ---- which row of the states an event takes
 
-settled-row : (m : Machine) (e : Event) (r : Bool) (v : Values) → settled m e r v ≡ byRow m (rowOf e) r v
-unfolding settled
-settled-row m e r v = refl
+after-row : (m : Machine) (e : Event) (r : Bool) (v : Values) → machineAfter m e r v ≡ byRow m (rowOf e) r v
+unfolding machineAfter
+after-row m e r v = refl
 
 -- an event's row, read back, and the state in which the rows of power and state accept it
 abbrev Is : Row → Event → State → Type 0
@@ -394,7 +394,7 @@ module _ (event : ℕ → Event) (value : ℕ → Values) (reached : ℕ → Boo
   at-row k h = accepted (event k) (after k .state) (R .power k h) (R .state k h)
 
   next : (k : ℕ) → k < n → after (suc k) ≡ byRow (after k) (rowOf (event k)) (reached k) (value (suc k))
-  next k h = R .next k h ∙ settled-row (after k) (event k) (reached k) (value (suc k))
+  next k h = R .next k h ∙ after-row (after k) (event k) (reached k) (value (suc k))
 
   holds : (m : ℕ) → m ≤ n → Inv event value reached Reached (after m .state) (after m .press) m
   holds zero h = rw (R .start) tt

@@ -9,18 +9,18 @@ use Rattle.event.specs.declared.Event.{Event}
 use Rattle.event.specs.declared.Row.{Row}
 use Rattle.event.specs.declared.Row.the-variants.{SwitchOn, Configure, SwitchOff, Fail, EngagePress, ByState}
 use Rattle.event.specs.Kinds.{rowOf}
-use Rattle.control.specs.Codes.{isAD}
-use Rattle.control.specs.States.{machine, U, fromRE, fromEG, fromDE, byState, byRow, settled, wanted, given}
-use Rattle.control.specs.declared.Values.{Values}
-use Rattle.control.specs.declared.Machine.{Machine}
+use Rattle.states.specs.Codes.{isAD}
+use Rattle.states.specs.States.{machine, U, fromRE, fromEG, fromDE, byState, byRow, machineAfter, wanted, given}
+use Rattle.states.specs.declared.Values.{Values}
+use Rattle.states.specs.declared.Machine.{Machine}
 use Rattle.engagement.specs.Engagement.{Waiting}
 use Rattle.engagement.specs.Run.{Run, Requested, Holds}
-use Rattle.control.specs.declared.State.{State}
-use Rattle.control.specs.declared.State.the-variants.{NP, CO, NA, AV, RE, EG, DE, FA}
-use Rattle.control.specs.declared.EtcsMode.{EtcsMode}
-use Rattle.control.specs.declared.EtcsMode.the-variants.{Other, AD}
-use Rattle.control.specs.declared.DriverLever.{DriverLever}
-use Rattle.control.specs.declared.DriverLever.the-variants.{Neutral, Traction, Brake}
+use Rattle.states.specs.declared.State.{State}
+use Rattle.states.specs.declared.State.the-variants.{NP, CO, NA, AV, RE, EG, DE, FA}
+use Rattle.states.specs.declared.EtcsMode.{EtcsMode}
+use Rattle.states.specs.declared.EtcsMode.the-variants.{Other, AD}
+use Rattle.states.specs.declared.DriverLever.{DriverLever}
+use Rattle.states.specs.declared.DriverLever.the-variants.{Neutral, Traction, Brake}
 use Rattle.engagement.proofs.Engaged.{engaged-exactly}
 
 zero-one : _≡_ {A = ℕ} 0 1 → ⊥
@@ -126,9 +126,9 @@ row-tells m Fail r v w q h = refl
 row-tells m EngagePress r v w q h = by-state-tells (m .state) (m .press) true r v w q h
 row-tells m ByState r v w q h = by-state-tells (m .state) (m .press) (m .press) r v w q h
 
-settled-tells : (m : Machine) (e : Event) (r : Bool) (v w : Values) (q : Bool) → Tells (m .state) (m .press) v q → Told (settled m e r w) w q
-unfolding settled
-settled-tells m e r v w q h = row-tells m (rowOf e) r v w q h
+after-tells : (m : Machine) (e : Event) (r : Bool) (v w : Values) (q : Bool) → Tells (m .state) (m .press) v q → Told (machineAfter m e r w) w q
+unfolding machineAfter
+after-tells m e r v w q h = row-tells m (rowOf e) r v w q h
 
 press-tells : (s : State) (p : Bool) (v : Values) (q : Bool) → Tells s p v q → p ≡ true → s ≡ RE
 press-tells NP p v q h e = absurd (false≢true (sym h ∙ e))
@@ -193,7 +193,7 @@ module _ (event : ℕ → Event) (value : ℕ → Values) (reached : ℕ → Boo
 
   tells : (m : ℕ) → m ≤ n → Tells (after m .state) (after m .press) (value m) (request m)
   tells zero h = rw (R .start) refl
-  tells (suc m) h = rw (R .next-request m h, R .next m h) (settled-tells (after m) (event m) (reached m) (value m) (value (suc m)) (request m) (tells m (omega arith)))
+  tells (suc m) h = rw (R .next-request m h, R .next m h) (after-tells (after m) (event m) (reached m) (value m) (value (suc m)) (request m) (tells m (omega arith)))
 
   abbrev told-at : (s : State) → after n .state ≡ s → Tells s (after n .press) (value n) (request n)
   told-at s e = told-in (after n .state) s (after n .press) (value n) (request n) e (tells n (omega arith))

@@ -5,9 +5,9 @@ use mathlib.Core.Bool.{true}
 use Prim.Native.Nat.{ℕ, suc, _≤_, _<_}
 use Rattle.event.specs.declared.Event.{Event}
 use Rattle.event.specs.declared.Event.the-variants.{PowerOn, Configured, Fault, Press, Mode}
-use Rattle.control.specs.declared.Values.{Values}
-use Rattle.control.specs.declared.EtcsMode.the-variants.{Other, AD}
-use Rattle.control.specs.declared.DriverLever.the-variants.{Neutral, Brake}
+use Rattle.states.specs.declared.Values.{Values}
+use Rattle.states.specs.declared.EtcsMode.the-variants.{Other, AD}
+use Rattle.states.specs.declared.DriverLever.the-variants.{Neutral, Brake}
 
 pub record Waiting (v : Values) : Type 0 where
   pub O : v .O ≡ true

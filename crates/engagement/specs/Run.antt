@@ -7,13 +7,13 @@ use Rattle.wire.specs.Judged.Judged.{accept}
 use Rattle.event.specs.Kinds.{kindOf}
 use Rattle.event.specs.declared.Event.{Event}
 use Rattle.event.specs.declared.Event.the-variants.{PowerOff, Mode}
-use Rattle.control.specs.States.{machine, settled, wanted, given}
-use Rattle.control.specs.declared.Values.{Values}
-use Rattle.control.specs.declared.Machine.{Machine}
-use Rattle.control.specs.Numbers.{powerRows, stateRow}
+use Rattle.states.specs.States.{machine, machineAfter, wanted, given}
+use Rattle.states.specs.declared.Values.{Values}
+use Rattle.states.specs.declared.Machine.{Machine}
+use Rattle.states.specs.Numbers.{powerRows, stateRow}
 use Rattle.engagement.specs.Engagement.{Waiting, Engagement}
-use Rattle.control.specs.declared.State.the-variants.{NP, RE, EG, DE}
-use Rattle.control.specs.declared.EtcsMode.the-variants.{Other, AD}
+use Rattle.states.specs.declared.State.the-variants.{NP, RE, EG, DE}
+use Rattle.states.specs.declared.EtcsMode.the-variants.{Other, AD}
 
 -- The AD request over a run: at some moment the mode was other, and at it and ever since the request was wanted. (`value k`, `after k`: see below.)
 pub record Requested (value : ℕ → Values) (after : ℕ → Machine) (n : ℕ) : Type 0 where
@@ -33,7 +33,7 @@ module _ (event : ℕ → Event) (value : ℕ → Values) (reached : ℕ → Boo
     pub no-request : request 0 ≡ false
     pub power : (k : ℕ) → k < n → powerRows (after k .state) (kindOf (event k)) ≡ accept tt
     pub state : (k : ℕ) → k < n → stateRow (after k .state) (kindOf (event k)) ≡ accept tt
-    pub next : (k : ℕ) → k < n → after (suc k) ≡ settled (after k) (event k) (reached k) (value (suc k))
+    pub next : (k : ℕ) → k < n → after (suc k) ≡ machineAfter (after k) (event k) (reached k) (value (suc k))
     pub next-request : (k : ℕ) → k < n → request (suc k) ≡ given (after (suc k) .state) (value (suc k)) (request k)
     pub saw : (k : ℕ) → k < n → (reached k ≡ true) ↔ Reached k
     -- "Power off returns to fresh", where not all nine conditions hold

@@ -19,10 +19,10 @@ use Rattle.event.specs.declared.Event.{Event}
 use Rattle.packets.specs.Packets.{joined}
 use Rattle.packets.specs.declared.Packet.{Packet}
 use Rattle.timing.specs.Standing.{standing}
-use Rattle.control.specs.Codes.{stateAt}
-use Rattle.control.specs.Conditions.{conditions}
-use Rattle.control.specs.Numbers.{powerRows, stateRow, stateRows}
-use Rattle.control.specs.Settled.{controlAfter}
+use Rattle.states.specs.Codes.{stateAt}
+use Rattle.conditions.specs.Conditions.{conditions}
+use Rattle.states.specs.Numbers.{powerRows, stateRow, stateRows}
+use Rattle.states.specs.ControlGroup.{controlAfter}
 use Rattle.event_packets.specs.View.{statusView, packetsIn, sizeIn}
 use Rattle.event_packets.proofs.Stored.{size-in, packets-in}
 use Rattle.event_packets.specs.declared.Shown.{Shown}
@@ -115,7 +115,7 @@ pub record Decided (e : Engine) (v : Event) (f : Effect) (m : Engine) (w : Write
 module _ (e : Engine) (v : Event) (f : Effect) (c₁ c₂ : ℕ) (before after : Shown) (m : Engine) (due : Bool) (w : Writes)
     (told₁ : c₁ ≡ conditions (routeIn e) (e .control .reports) (e .train .position) (standing (e .progress)))
     (told₂ : c₂ ≡ conditions (routeIn (f .engine)) (f .engine .control .reports) (f .engine .train .position) (standing (f .engine .progress)))
-    (settled : m ≡ withControl (f .engine) (controlAfter (f .engine .control) v (f .reached) c₂))
+    (after-rows : m ≡ withControl (f .engine) (controlAfter (f .engine .control) v (f .reached) c₂))
     (shown₁ : before ≡ shownOf e c₁) (shown₂ : after ≡ shownOf m c₂)
     (dues : due ≡ statusDue (statusView before) (statusView after))
     (writes : w ≡ writesOf f due c₂) where
@@ -124,8 +124,8 @@ module _ (e : Engine) (v : Event) (f : Effect) (c₁ c₂ : ℕ) (before after :
   decided =
       let n = stepBy e v (effectIn f) .engine in
       record {
-        engine = settled ∙ ap (λ (n : ℕ). withControl (f .engine) (controlAfter (f .engine .control) v (f .reached) n)) told₂;
-        packets = rw (writes, dues, shown₁, shown₂, settled, told₂, told₁) (packets-in n (writesOf f (statusDue (statusIn e) (statusIn n)) (conditionsIn n)) (statusIn e) (statusIn n) refl refl refl);
+        engine = after-rows ∙ ap (λ (n : ℕ). withControl (f .engine) (controlAfter (f .engine .control) v (f .reached) n)) told₂;
+        packets = rw (writes, dues, shown₁, shown₂, after-rows, told₂, told₁) (packets-in n (writesOf f (statusDue (statusIn e) (statusIn n)) (conditionsIn n)) (statusIn e) (statusIn n) refl refl refl);
       }
 
 module _ {e : Engine} {v : Event} {f : Effect} {m : Engine} {w : Writes} (d : Decided e v f m w) (memory : List ℕ) (n : ℕ) (sized : n ≡ sizeIn w) where

@@ -1,6 +1,6 @@
 // The event call: one event, with the profiles and the output memory that the host lends.
 use call::Answer;
-use control::View;
+use conditions::LookedUp;
 use effects::Effect;
 use engine_value::Engine;
 use event::Event;
@@ -11,10 +11,10 @@ use wire::Verdict;
 ghost use mathlib.Core.Path.{_≡_};
 ghost use Rattle.engine_value.specs.Engine.{routeIn, withControl};
 ghost use Rattle.timing.specs.Standing.{standing};
-ghost use Rattle.control.specs.Conditions.{conditions};
-ghost use Rattle.control.specs.Settled.{controlAfter};
+ghost use Rattle.conditions.specs.Conditions.{conditions};
+ghost use Rattle.states.specs.ControlGroup.{controlAfter};
 ghost use Rattle.call.specs.Call.{stepBy, outcomeOf, stepOf};
-ghost use Rattle.effects.specs.View.{viewOf, effectIn};
+ghost use Rattle.effects.specs.View.{lookedUpIn, effectIn};
 ghost use Rattle.engine.specs.View.{outputRow, laterRows, call, refusedStep, acceptedStep, shownOf, writesOf, Steps};
 
 // What a call answers, and the engine that it leaves.
@@ -48,11 +48,11 @@ fn accepted(m: Engine, bytes: usize) -> Stepped
 }
 
 // The rows of the states over the event's values.
-fn settle(m: Engine, v: Event, reached: bool, conditions: u16) -> Engine
+fn after_rows(m: Engine, v: Event, reached: bool, conditions: u16) -> Engine
     ensures { λ r. ⌜ r ≡ withControl m (controlAfter (m .control) v reached conditions) ⌝ }
 {
     let mut after = m;
-    let c = control::settle(m.control, v, reached, conditions);
+    let c = states::control_after(m.control, v, reached, conditions);
     after.control = c;
     after
 }
@@ -83,21 +83,21 @@ fn writes_of(f: Effect, due: bool, conditions: u16) -> Writes
 }
 
 // The nine conditions, from what they look up.
-fn conditions(e: Engine, view: View) -> u16
-    requires { ⌜ view ≡ viewOf e ⌝ }
+fn conditions(e: Engine, looked: LookedUp) -> u16
+    requires { ⌜ looked ≡ lookedUpIn e ⌝ }
     ensures { λ r. ⌜ r ≡ conditions (routeIn e) (e .control .reports) (e .train .position) (standing (e .progress)) ⌝ }
 {
-    control::conditions_by(e.load, e.control.reports, view, e.progress)
+    conditions::word_of(e.load, e.control.reports, looked, e.progress)
 }
 
 // The rows of the states, then 16, then the packets.
 fn conclude(e: Engine, v: Event, f: Effect, out: &mut [u8]) -> Stepped
-    requires { ⌜ (f .before ≡ viewOf e) × (f .after ≡ viewOf (f .engine)) ⌝ }
+    requires { ⌜ (f .before ≡ lookedUpIn e) × (f .after ≡ lookedUpIn (f .engine)) ⌝ }
     ensures { λ r. ⌜ Steps (outcomeOf e (now (out .entry)) (outputRow (now (out .entry)) (stepBy e v (effectIn f)))) r (now (out .exit)) ⌝ }
 {
     let before = shown(e, conditions(e, f.before));
     let word = conditions(f.engine, f.after);
-    let m = settle(f.engine, v, f.reached, word);
+    let m = after_rows(f.engine, v, f.reached, word);
     let after = shown(m, word);
     let due = event_packets::status_due(before, after);
     let w = writes_of(f, due, word);
@@ -114,8 +114,8 @@ fn conclude(e: Engine, v: Event, f: Effect, out: &mut [u8]) -> Stepped
 fn take(e: Engine, v: Event, journey: &[u8], book: &[u8], out: &mut [u8]) -> Stepped
     ensures { λ r. ⌜ Steps (outcomeOf e (now (out .entry)) (laterRows e v (now (journey .entry)) (now (book .entry)) (now (out .entry)))) r (now (out .exit)) ⌝ }
 {
-    let state = control::state_at(e.control.state);
-    if let Verdict::Refused(n) = control::state_rows(state, event::kind_of(v)) {
+    let state = states::state_at(e.control.state);
+    if let Verdict::Refused(n) = states::state_rows(state, event::kind_of(v)) {
         return refused(e, n);
     }
     let f = effects::effect_of(e, v, journey, book);

@@ -23,8 +23,7 @@ use Rattle.journey.specs.declared.Head.{Head}
 use Rattle.timing.specs.Position.{point, known}
 use Rattle.timing.specs.Standing.{standing}
 use Rattle.timing.specs.Changes.{Change, change, passings, when, statusPassed, statusStopped}
-use Rattle.control.specs.Conditions.{endAhead}
-use Rattle.control.specs.Seen.{bare}
+use Rattle.conditions.specs.Conditions.{endAhead}
 use Rattle.call.specs.Packets.{Status, statusDue, header, timingPoint, jpReceived, atoStatus, packetsOf}
 use Rattle.event_packets.specs.View.{timingPointOf, packets62, packets65, packets68, changesIn, firstIn, passingsIn, stoppedIn, loadedIn, packetsIn, sizeIn, Put}
 use Rattle.event_packets.specs.declared.Writes.{Writes}
@@ -85,7 +84,7 @@ size-in e w =
 
 -- ---- the values of each packet
 
-pub point-of : (h : Header) (l : Load) (p : Point) (s : ℕ) (after : Progress) (q d : ℕ) → q ≡ flag (endAhead (bare l) (standing after))
+pub point-of : (h : Header) (l : Load) (p : Point) (s : ℕ) (after : Progress) (q d : ℕ) → q ≡ flag (endAhead l (standing after))
     → d ≡ (if eqb s statusStopped then p .stopping else 0)
     → Packet.TimingPoint (record { header = h; nidc = p .nidc; nidtp = p .nidtp; «q_eoj_reached» = q; alignment = p .alignment; status = s; stopping = d }) ≡ timingPointOf h l p s after
 point-of h l p s after q d a b = rw (a, b)

@@ -18,8 +18,7 @@ use Rattle.packets.specs.declared.Header.{Header}
 use Rattle.packets.specs.declared.TimingPoint.{TimingPoint}
 use Rattle.packets.specs.declared.Packet.{Packet}
 use Rattle.timing.specs.Standing.{standing}
-use Rattle.control.specs.Conditions.{endAhead}
-use Rattle.control.specs.Seen.{bare}
+use Rattle.conditions.specs.Conditions.{endAhead}
 use Rattle.timing.specs.Changes.{Change, change, passings, when, statusStopped}
 use Rattle.call.specs.Packets.{Status, received, timingPoint, atoStatus}
 use Rattle.event_packets.specs.declared.Changes.{Changes}
@@ -52,7 +51,7 @@ timingPointOf h l p status after =
       header = h;
       nidc = p .nidc;
       nidtp = p .nidtp;
-      «q_eoj_reached» = flag (endAhead (bare l) (standing after));
+      «q_eoj_reached» = flag (endAhead l (standing after));
       alignment = p .alignment;
       status = status;
       stopping = if eqb status statusStopped then p .stopping else 0;

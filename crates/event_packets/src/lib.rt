@@ -94,7 +94,7 @@ fn stopping_of(p: Point, status: u8) -> u8
 fn timing_point_of(header: Header, l: Load, p: Point, status: u8, after: Progress) -> Packet
     ensures { λ r. ⌜ r ≡ timingPointOf header l p status after ⌝ }
 {
-    let q_eoj_reached = bit_of(control::end_ahead(l, after));
+    let q_eoj_reached = bit_of(conditions::end_ahead(l, after));
     let stopping = stopping_of(p, status);
     Packet::TimingPoint(TimingPoint {
         header: header,

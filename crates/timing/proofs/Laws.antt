@@ -17,8 +17,7 @@ use Rattle.timing.specs.declared.Found.{Found}
 use Rattle.timing.specs.declared.Named.{Named}
 use Rattle.timing.specs.declared.Found.the-variants.{At, Nothing}
 use Rattle.timing.specs.declared.Front.the-variants.{Known, Unknown}
-use Rattle.timing.specs.Position.{segmentFrom, segmentNamed, segment, point, placed, frontIn, front}
-use Rattle.timing.specs.Seen.{namedIn, segmentIn, frontBy}
+use Rattle.timing.specs.Position.{noSegment, segmentFrom, segmentNamed, point, placed, front, frontAt}
 use Rattle.timing.specs.Distance.{Report, beyond, atStop, exceeds, stopsAt}
 use Rattle.timing.specs.Load.{targetFrom}
 use Rattle.timing.specs.Standing.{following}
@@ -57,11 +56,11 @@ module _ (l : List Segment) (n i c s : ℕ) where
   named-is : eqb (getD l i blankSegment .nidc) c && eqb (getD l i blankSegment .nidsp) s ≡ Bears
   named-is = ap₂ (λ x y. eqb x c && eqb y s) (getD-field (λ x. x .nidc) l i blankSegment zoneless refl) (getD-field (λ x. x .nidsp) l i blankSegment zoneless refl)
 
-  pub segment-none : n ≤ i → segmentFrom l (n - i) i c s ≡ Nothing
+  pub segment-none : n ≤ i → segmentFrom l (n - i) i c s ≡ noSegment
   unfolding segmentFrom
   segment-none h = rw (left-none n i h)
 
-  pub segment-hit : i < n → Bears ≡ true → segmentFrom l (n - i) i c s ≡ At i
+  pub segment-hit : i < n → Bears ≡ true → segmentFrom l (n - i) i c s ≡ record { found = true; segment = getD l i blankSegment }
   unfolding segmentFrom
   segment-hit h t = rw (left-more n i h, named-is ∙ t)
 
@@ -91,38 +90,34 @@ getD-there [] k d e h = absurd (omega arith)
 getD-there (x ∷ xs) zero d e h = refl
 getD-there (x ∷ xs) (suc k) d e h = getD-there xs k d e (omega arith)
 
--- ---- the front
+-- ---- the front, by the segment that the position names
 
 module _ (s : Named) (x : Position) where
-  pub by-undefined : x .offset ≡ undefined → frontBy s x ≡ Unknown
+  pub by-undefined : x .offset ≡ undefined → front s x ≡ Unknown
+  unfolding front
   by-undefined h = rw (eq-eqb _ _ h)
 
   module _ (h : x .offset ≡ undefined → ⊥) where
-    pub by-missing : s .found ≡ false → frontBy s x ≡ Unknown
+    pub by-missing : s .found ≡ false → front s x ≡ Unknown
+    unfolding front
     by-missing f = rw (ne-eqb _ _ h, f)
 
     module _ (f : s .found ≡ true) where
-      pub by-unplaced : s .segment .placed ≡ false → frontBy s x ≡ Unknown
+      pub by-unplaced : s .segment .placed ≡ false → front s x ≡ Unknown
+      unfolding front
       by-unplaced p = rw (ne-eqb _ _ h, f, p)
 
-      pub by-past : s .segment .placed ≡ true → s .segment .length < x .offset → frontBy s x ≡ Unknown
+      pub by-past : s .segment .placed ≡ true → s .segment .length < x .offset → front s x ≡ Unknown
+      unfolding front
       by-past p l = rw (ne-eqb _ _ h, f, p, lt-leb (x .offset) (s .segment .length) l)
 
-      pub by-within : s .segment .placed ≡ true → x .offset ≤ s .segment .length → frontBy s x ≡ Known (s .segment .start + x .offset)
+      pub by-within : s .segment .placed ≡ true → x .offset ≤ s .segment .length → front s x ≡ Known (s .segment .start + x .offset)
+      unfolding front
       by-within p l = rw (ne-eqb _ _ h, f, p, le-leb (x .offset) (s .segment .length) l)
-
--- the front by the segment that the position names is the front
-pub front-named : (j : Route) (x : Position) → frontBy (segmentIn j x) x ≡ front j x
-unfolding front frontIn
-front-named j x = rw (within (segmentNamed j x))
-  where
-    within : (f : Found) → (if namedIn (j .segments) f .found && (namedIn (j .segments) f .segment .placed && leb (x .offset) (namedIn (j .segments) f .segment .length)) then Known (namedIn (j .segments) f .segment .start + x .offset) else Unknown) ≡ frontIn j x f
-    within Nothing = refl
-    within (At k) = refl
 
 -- ---- points, one at a time, with the front known
 
-module _ (j : Route) (r : Report) (f : ℕ) (at : front j (r .position) ≡ Known f) where
+module _ (j : Route) (r : Report) (f : ℕ) (at : frontAt j (r .position) ≡ Known f) where
   pub beyond-known : (k : ℕ) → beyond j r k ≡ exceeds f (r .length) (point j k) (r .skips k)
   unfolding beyond
   beyond-known k = rw at
@@ -168,19 +163,19 @@ module _ (j : Route) (r : Report) (n k : ℕ) where
 
 -- with the position unknown
 
-pub target-unknown : (j : Route) (r : Report) → front j (r .position) ≡ Unknown → (n k : ℕ) → targetFrom j r n k ≡ k
+pub target-unknown : (j : Route) (r : Report) → frontAt j (r .position) ≡ Unknown → (n k : ℕ) → targetFrom j r n k ≡ k
 unfolding targetFrom
 target-unknown j r at zero k = refl
 target-unknown j r at (suc n) k = rw at
 
-pub look-unknown : (j : Route) (r : Report) → front j (r .position) ≡ Unknown → (n k : ℕ) → looked j r n k ≡ progress k false
+pub look-unknown : (j : Route) (r : Report) → frontAt j (r .position) ≡ Unknown → (n k : ℕ) → looked j r n k ≡ progress k false
 unfolding looked
 look-unknown j r at zero k = refl
 look-unknown j r at (suc n) k = rw at
 
 -- ---- a report, by where the first point not passed stands
 
-module _ (j : Route) (r : Report) (p : Progress) (g : Named) (m : g ≡ segmentIn j (r .position)) where
+module _ (j : Route) (r : Report) (p : Progress) (g : Named) (m : g ≡ segmentNamed j (r .position)) where
   pub report-stays : p .reached ≡ true → r .position .speed ≡ 0 → record { segment = g; progress = p; from = p .next; departed = false; reached = false } ≡ reportOf j r p
   unfolding reported
   report-stays h v = rw (m, h, le-ltb 0 (r .position .speed) (omega arith))

@@ -10,7 +10,7 @@ use Rattle.engine_value.specs.Engine.{Route}
 use Rattle.engine_value.specs.declared.Point.{Point}
 use Rattle.engine_value.specs.declared.Position.{Position}
 use Rattle.engine_value.specs.declared.Engine.{Engine}
-use Rattle.timing.specs.Position.{point, front}
+use Rattle.timing.specs.Position.{point, frontAt}
 use Rattle.timing.specs.declared.Front.{Front}
 use Rattle.timing.specs.declared.Front.the-variants.{Known, Unknown}
 
@@ -55,10 +55,10 @@ stopsAt f length speed p driver = unskipped p driver && (eqb speed 0 && leZ (neg
 
 -- the same of point k at a report
 unfoldable pub beyond : Route → Report → ℕ → Bool
-beyond j r k = atFront (front j (r .position)) (λ f. exceeds f (r .length) (point j k) (r .skips k))
+beyond j r k = atFront (frontAt j (r .position)) (λ f. exceeds f (r .length) (point j k) (r .skips k))
 
 unfoldable pub atStop : Route → Report → ℕ → Bool
-atStop j r k = atFront (front j (r .position)) (λ f. stopsAt f (r .length) (r .position .speed) (point j k) (r .skips k))
+atStop j r k = atFront (frontAt j (r .position)) (λ f. stopsAt f (r .length) (r .position .speed) (point j k) (r .skips k))
 
 -- "speed above 0"
 abbrev pub moving : Report → Bool

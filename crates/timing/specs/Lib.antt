@@ -1,6 +1,5 @@
 -- Document 01, "Timing points", in its order.
 pub mod Position
-pub mod Seen
 pub mod Distance
 pub mod Standing
 pub mod Load
@@ -9,3 +8,4 @@ pub mod Changes
 pub mod Skips
 pub mod History
 pub mod Rule
+pub mod View

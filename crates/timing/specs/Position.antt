@@ -1,28 +1,28 @@
 -- The journey's segments and points, and the known position.
-use Prim.Native.Nat.{ℕ, zero, suc, _+_, _<_, min}
+use Prim.Native.Nat.{ℕ, zero, suc, _+_, min}
 use mathlib.Core.List.{List}
-use mathlib.Core.Bool.{Bool, true, false, _&&_}
+use mathlib.Core.Bool.{Bool, true, false, not, _&&_}
 use lib.ListN.{getD}
 use lib.Dec.{eqb, leb}
 use Rattle.wire.specs.Numbers.{if_then_else_}
-use Rattle.engine_value.specs.Engine.{Route, blankSegment, blankPoint, undefined}
+use Rattle.engine_value.specs.Engine.{Route, blankSegment, blankPoint, undefined, maxSegments, maxPoints}
+use Rattle.engine_value.specs.declared.Load.{Load}
 use Rattle.engine_value.specs.declared.Segment.{Segment}
 use Rattle.engine_value.specs.declared.Point.{Point}
 use Rattle.engine_value.specs.declared.Position.{Position}
-use Rattle.timing.specs.declared.Found.{Found}
-use Rattle.timing.specs.declared.Found.the-variants.{At, Nothing}
+use Rattle.timing.specs.declared.Named.{Named}
 use Rattle.timing.specs.declared.Front.{Front}
 use Rattle.timing.specs.declared.Front.the-variants.{Known, Unknown}
 
--- how many segments and points there are; the arrays hold 40 and 64
-abbrev pub segmentCount : Route → ℕ
-segmentCount j = min (j .load .«segment_count») 40
+-- how many points and segments there are; the arrays hold 64 and 40
+abbrev pub pointsLoaded : Load → ℕ
+pointsLoaded l = min (l .«point_count») maxPoints
 
 abbrev pub pointCount : Route → ℕ
-pointCount j = min (j .load .«point_count») 64
+pointCount j = pointsLoaded (j .load)
 
-abbrev pub segment : Route → ℕ → Segment
-segment j k = getD (j .segments) k blankSegment
+abbrev pub segmentCount : Route → ℕ
+segmentCount j = min (j .load .«segment_count») maxSegments
 
 abbrev pub point : Route → ℕ → Point
 point j k = getD (j .points) k blankPoint
@@ -31,37 +31,38 @@ point j k = getD (j .points) k blankPoint
 abbrev pub placed : Route → ℕ → Bool
 placed j k = point j k .placed
 
--- the first of n segments from index k on that bears the name
-unfoldable pub segmentFrom : List Segment → ℕ → ℕ → ℕ → ℕ → Found
-segmentFrom l zero k c sp = Nothing
-segmentFrom l (suc n) k c sp =
-    if eqb (getD l k blankSegment .nidc) c && eqb (getD l k blankSegment .nidsp) sp then At k else segmentFrom l n (k + 1) c sp
+-- ---- the journey segment that a position names
 
--- the journey segment that a position names, whether or not its offset is defined
-abbrev pub segmentNamed : Route → Position → Found
+abbrev pub noSegment : Named
+noSegment = record { found = false; segment = blankSegment }
+
+-- the first of n segments from index k on that bears the name
+unfoldable pub segmentFrom : List Segment → ℕ → ℕ → ℕ → ℕ → Named
+segmentFrom l zero k c sp = noSegment
+segmentFrom l (suc n) k c sp =
+    if eqb (getD l k blankSegment .nidc) c && eqb (getD l k blankSegment .nidsp) sp then record { found = true; segment = getD l k blankSegment } else segmentFrom l n (k + 1) c sp
+
+-- what the position, the conditions and row 13 look up in the journey, whether or not the offset is defined
+abbrev pub segmentNamed : Route → Position → Named
 segmentNamed j x = segmentFrom (j .segments) (segmentCount j) 0 (x .nidc) (x .nidsp)
 
-unfoldable pub frontIn : Route → Position → Found → Front
-frontIn j x Nothing = Unknown
-frontIn j x (At k) =
-    if segment j k .placed && leb (x .offset) (segment j k .length) then Known (segment j k .start + x .offset) else Unknown
+-- ---- the known position
 
--- "The position is known if the offset is defined, its segment placed and the offset within its length"; the front, counted from the journey's start
-unfoldable pub front : Route → Position → Front
-front j x = if eqb (x .offset) undefined then Unknown else frontIn j x (segmentNamed j x)
+abbrev pub offsetDefined : Position → Bool
+offsetDefined x = not (eqb (x .offset) undefined)
+
+-- "The position is known if the offset is defined, its segment placed and the offset within its length"; the front, counted from the journey's
+-- start. By the segment that the position names
+unfoldable pub front : Named → Position → Front
+front s x =
+    if offsetDefined x && (s .found && (s .segment .placed && leb (x .offset) (s .segment .length))) then Known (s .segment .start + x .offset) else Unknown
+
+abbrev pub frontAt : Route → Position → Front
+frontAt j x = front (segmentNamed j x) x
 
 abbrev pub isKnown : Front → Bool
 isKnown (Known f) = true
 isKnown Unknown = false
 
 abbrev pub known : Route → Position → Bool
-known j x = isKnown (front j x)
-
--- what a caller learns beside the answer itself
-abbrev pub IndexBelow : ℕ → Found → Type 0
-IndexBelow n (At k) = k < n
-IndexBelow n Nothing = Unit {0}
-
-abbrev pub FrontBelow : ℕ → Front → Type 0
-FrontBelow n (Known f) = f < n
-FrontBelow n Unknown = Unit {0}
+known j x = isKnown (frontAt j x)

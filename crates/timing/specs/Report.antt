@@ -5,8 +5,7 @@ use mathlib.Core.Bool.{Bool, false, not, _&&_}
 use Rattle.wire.specs.Numbers.{if_then_else_}
 use Rattle.engine_value.specs.Engine.{Route, progress}
 use Rattle.engine_value.specs.declared.Progress.{Progress}
-use Rattle.timing.specs.Position.{pointCount, placed, known}
-use Rattle.timing.specs.Seen.{segmentIn}
+use Rattle.timing.specs.Position.{pointCount, placed, segmentNamed, known}
 use Rattle.timing.specs.Distance.{Report, beyond, atStop, moving}
 use Rattle.timing.specs.Standing.{following}
 use Rattle.timing.specs.declared.Reported.{Reported}
@@ -45,7 +44,7 @@ becameReached j r p = not (stays r p) && reported j r p .reached
 -- all that a report tells; its packets 62 follow from these (`reportChanges`)
 abbrev pub reportOf : Route → Report → Progress → Reported
 reportOf j r p =
-    record { segment = segmentIn j (r .position); progress = reported j r p; from = firstLooked r p; departed = departs r p; reached = becameReached j r p }
+    record { segment = segmentNamed j (r .position); progress = reported j r p; from = firstLooked r p; departed = departs r p; reached = becameReached j r p }
 
 -- one report after the other
 unfoldable pub run : Route → Progress → List Report → Progress

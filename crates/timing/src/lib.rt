@@ -9,13 +9,13 @@ ghost use Prim.Native.Nat.{_<_, _^_, min};
 ghost use lib.IntN.{pos, negℤ};
 ghost use lib.Signed.{ltZ, leZ};
 ghost use Rattle.engine_value.specs.Engine.{routeIn};
-ghost use Rattle.timing.specs.Position.{pointCount, front, IndexBelow, FrontBelow};
-ghost use Rattle.timing.specs.Seen.{segmentIn, frontBy};
+ghost use Rattle.timing.specs.Position.{pointCount, segmentNamed, front, frontAt};
 ghost use Rattle.timing.specs.Distance.{reportIn, back, distance, unskipped, margin, exceeds, stopsAt};
 ghost use Rattle.timing.specs.Standing.{standing, standingCode, following};
 ghost use Rattle.timing.specs.Load.{target};
 ghost use Rattle.timing.specs.Report.{lookedFrom, reportOf};
 ghost use Rattle.timing.specs.Skips.{stopNamed};
+ghost use Rattle.timing.specs.View.{IndexBelow, FrontBelow};
 
 // The index of a segment or a point of the journey.
 pub enum Found {
@@ -55,7 +55,8 @@ pub struct Reported {
 
 // ---- where the train is
 
-fn at_most(n: u8, most: u8) -> u8
+// A count, within what an array holds.
+pub fn at_most(n: u8, most: u8) -> u8
     ensures { λ r. ⌜ r ≡ min n most ⌝ }
 {
     if n < most { n } else { most }
@@ -70,7 +71,7 @@ fn wide(x: u32) -> u64
 
 // The journey segment that the train's position names.
 pub fn segment_named(e: Engine) -> Named
-    ensures { λ r. ⌜ r ≡ segmentIn (routeIn e) (e .train .position) ⌝ }
+    ensures { λ r. ⌜ r ≡ segmentNamed (routeIn e) (e .train .position) ⌝ }
 {
     let nidc = e.train.position.nidc;
     let nidsp = e.train.position.nidsp;
@@ -96,7 +97,7 @@ pub fn segment_named(e: Engine) -> Named
 
 // Where the front is, if the position is known: by the segment that it names.
 pub fn front_in(s: Named, x: Position) -> Front
-    ensures { λ r. ⌜ (r ≡ frontBy s x) × FrontBelow (2 ^ 33) r ⌝ }
+    ensures { λ r. ⌜ (r ≡ front s x) × FrontBelow (2 ^ 33) r ⌝ }
 {
     if x.offset == 16777215 {
         return Front::Unknown;
@@ -115,7 +116,7 @@ pub fn front_in(s: Named, x: Position) -> Front
 
 // Where the front is, if the position is known.
 pub fn front_position(e: Engine) -> Front
-    ensures { λ r. ⌜ (r ≡ front (routeIn e) (e .train .position)) × FrontBelow (2 ^ 33) r ⌝ }
+    ensures { λ r. ⌜ (r ≡ frontAt (routeIn e) (e .train .position)) × FrontBelow (2 ^ 33) r ⌝ }
 {
     let s = segment_named(e);
     front_in(s, e.train.position)
@@ -178,7 +179,7 @@ fn stops_at(front: u64, length: u32, speed: u16, p: Point, driver: bool) -> bool
 
 // The first target, from the front on: the first point that is unplaced or has d ≤ margin.
 fn first_ahead(e: Engine, at: u64) -> u8
-    requires { ⌜ (front (routeIn e) (e .train .position) ≡ Front.Known at) × (at < 2 ^ 33) ⌝ }
+    requires { ⌜ (frontAt (routeIn e) (e .train .position) ≡ Front.Known at) × (at < 2 ^ 33) ⌝ }
     ensures { λ r. ⌜ r ≡ target (routeIn e) (e .train .position) (e .train .length) ⌝ }
 {
     let length = e.train.length;
@@ -212,7 +213,7 @@ pub fn target(e: Engine) -> u8
 
 // (b) with the front known: points from `from` on pass, to the first that is unplaced or does not pass, and that may be reached.
 fn look(e: Engine, at: u64, from: u8) -> Progress
-    requires { ⌜ (front (routeIn e) (e .train .position) ≡ Front.Known at) × (at < 2 ^ 33) ⌝ }
+    requires { ⌜ (frontAt (routeIn e) (e .train .position) ≡ Front.Known at) × (at < 2 ^ 33) ⌝ }
     ensures { λ r. ⌜ r ≡ lookedFrom (routeIn e) (reportIn e) from ⌝ }
 {
     let points = e.points;
@@ -241,7 +242,7 @@ fn look(e: Engine, at: u64, from: u8) -> Progress
 
 // (b)
 fn look_from(e: Engine, f: Front, from: u8) -> Progress
-    requires { ⌜ (f ≡ front (routeIn e) (e .train .position)) × FrontBelow (2 ^ 33) f ⌝ }
+    requires { ⌜ (f ≡ frontAt (routeIn e) (e .train .position)) × FrontBelow (2 ^ 33) f ⌝ }
     ensures { λ r. ⌜ r ≡ lookedFrom (routeIn e) (reportIn e) from ⌝ }
 {
     match f {

@@ -21,16 +21,16 @@ use Rattle.timing.specs.Position.{pointCount}
 use Rattle.timing.specs.declared.Standing.{Standing}
 use Rattle.timing.specs.declared.Standing.the-variants.{Reached}
 use Rattle.timing.proofs.Moments.{as-function}
-use Rattle.control.specs.Codes.{modeAt}
-use Rattle.control.specs.Conditions.{nine, allOf, O}
-use Rattle.control.proofs.CodeLaws.{mode-AD}
-use Rattle.control.specs.Numbers.{powerRows, stateRow}
-use Rattle.control.specs.States.{settled, given}
-use Rattle.control.specs.declared.Values.{Values}
-use Rattle.control.specs.declared.Machine.{Machine}
+use Rattle.states.specs.Codes.{modeAt}
+use Rattle.conditions.specs.Conditions.{lookedUp, nine, allOf, O}
+use Rattle.states.proofs.CodeLaws.{mode-AD}
+use Rattle.states.specs.Numbers.{powerRows, stateRow}
+use Rattle.states.specs.States.{machineAfter, given}
+use Rattle.states.specs.declared.Values.{Values}
+use Rattle.states.specs.declared.Machine.{Machine}
 use Rattle.engagement.specs.Run as run
-use Rattle.control.specs.declared.State.the-variants.{EG}
-use Rattle.control.specs.declared.EtcsMode.the-variants.{Other, AD}
+use Rattle.states.specs.declared.State.the-variants.{EG}
+use Rattle.states.specs.declared.EtcsMode.the-variants.{Other, AD}
 use Rattle.engagement.proofs.Requests.{run-holds}
 use Rattle.call.specs.Call.{Call}
 use Rattle.whole_list.specs.Values.{History, eventOfCall, isOff, latest, modeBy, reportsBy, positionBy, routeBy}
@@ -112,7 +112,7 @@ off-reports c h e = rw (e, latest)
 
 off-unfit : (c : Call) (h : History) → eventOfCall c ≡ PowerOff → valuesBy (c ∷ h) .O ≡ false
 unfolding valuesBy O
-off-unfit c h e = ap (λ n. allOf (nine (routeBy (c ∷ h)) n (positionBy (c ∷ h)) (standingBy (c ∷ h)))) (off-reports c h e)
+off-unfit c h e = ap (λ n. allOf (nine (routeBy (c ∷ h) .load) n (lookedUp (routeBy (c ∷ h)) (positionBy (c ∷ h)) (standingBy (c ∷ h))) (standingBy (c ∷ h)))) (off-reports c h e)
 
 abbrev newMode : Event → ℕ → ℕ
 newMode e n = if isOff (roleOf e) then 0 else newer (carried e .number mode) n
@@ -153,7 +153,7 @@ good-drop (suc n) (c ∷ h) g = good-drop n h (g .1)
 good-at : (h : History) → Good h → (k : ℕ) → k < length h → tableBy (upto h k) (callAt h k) ≡ accept tt
 good-at h g k l = let z : Good (callAt h k ∷ upto h k) = rw (upto-next h k l) at (good-drop (length h - suc k) h g) in z .0
 
-machine-next : (c : Call) (h : History) → machineBy (c ∷ h) ≡ settled (machineBy h) (eventOfCall c) (becameReachedBy (c ∷ h)) (valuesBy (c ∷ h))
+machine-next : (c : Call) (h : History) → machineBy (c ∷ h) ≡ machineAfter (machineBy h) (eventOfCall c) (becameReachedBy (c ∷ h)) (valuesBy (c ∷ h))
 unfolding machineBy
 machine-next c h = refl
 

@@ -25,8 +25,8 @@ use Rattle.timing.specs.declared.Found.the-variants.{At, Nothing}
 use Rattle.timing.specs.declared.Standing.{Standing}
 use Rattle.timing.proofs.Steps.{InRange, started, run-range, target-most}
 use Rattle.timing.proofs.Rule.{as-rule}
-use Rattle.control.specs.Codes.{code}
-use Rattle.control.specs.Conditions.{endAhead, lastAhead, firstAhead, profilesThere, nine, conditions, wordOf}
+use Rattle.states.specs.Codes.{code}
+use Rattle.conditions.specs.Conditions.{endAhead, lastAhead, firstAhead, profilesThere, lookedUp, nine, conditions, wordOf}
 use Rattle.whole_list.specs.Values.{History, roleOfCall, modeBy, leverBy, reportsBy, positionBy, lengthBy, routeBy, isPoint, skippedBy, reportsSince, behindAtLoad}
 use Rattle.whole_list.specs.Rules.{standingBy, conditionsBy, machineBy, stateBy, requestBy}
 use Rattle.whole_list.proofs.Decoded.{RouteIn, route-in}
@@ -163,24 +163,24 @@ first-ext s t (suc n) k e =
     ap (λ x. if isPassed x then firstAhead s n (k + 1) else k) z ∙ ap (λ m. if isPassed (t k) then m else k) ih
 
 module _ (j : Route) (s t : ℕ → Standing) (ends : RouteIn j) (same : (k : ℕ) → k < pointCount j → s k ≡ t k) where
-  end-ext : endAhead j s ≡ endAhead j t
+  end-ext : endAhead (j .load) s ≡ endAhead (j .load) t
   end-ext = go _ refl
     where
-      go : (b : Bool) → j .load .valid ≡ b → endAhead j s ≡ endAhead j t
+      go : (b : Bool) → j .load .valid ≡ b → endAhead (j .load) s ≡ endAhead (j .load) t
       go false q = rw q
       go true q = rw q (ap (λ x. not (behind x)) (same (j .load .ending) (ends .ending q)))
 
-  last-ext : lastAhead j s ≡ lastAhead j t
+  last-ext : lastAhead (j .load) s ≡ lastAhead (j .load) t
   last-ext = go _ refl
     where
-      go : (b : Bool) → j .load .valid ≡ b → lastAhead j s ≡ lastAhead j t
+      go : (b : Bool) → j .load .valid ≡ b → lastAhead (j .load) s ≡ lastAhead (j .load) t
       go false q = rw q
       go true q = rw q (ap (λ x. not (isPassed x)) (same (pointCount j - 1) (omega (arith, ends .ending q))))
 
   profiles-ext : profilesThere j s ≡ profilesThere j t
   profiles-ext = ap (λ k. j .load .valid && (leb (pointCount j) k || placed j k)) (first-ext s t (pointCount j) 0 (λ i l m. same i (omega arith)))
 
-  nine-ext : (reports : ℕ) (x : Position) → nine j reports x s ≡ nine j reports x t
+  nine-ext : (reports : ℕ) (x : Position) → nine (j .load) reports (lookedUp j x s) s ≡ nine (j .load) reports (lookedUp j x t) t
   nine-ext reports x = cc (end-ext, last-ext, profiles-ext)
 
 pub conditions-is : (h : History) → conditions (routeBy h) (reportsBy h) (positionBy h) (standing (progressRun h)) ≡ conditionsBy h

@@ -7,13 +7,14 @@ use Rattle.engine_value.specs.declared.Control.{Control}
 use Rattle.event.specs.declared.Event.{Event}
 use Rattle.event.specs.Kinds.{Role, off, load, report, other, skip, rowOf, roleOf}
 use Rattle.event.proofs.Known.{OfRole, known}
-use Rattle.control.specs.Codes.{code, stateAt, modeAt, leverAt}
-use Rattle.control.specs.Conditions.{O, T}
-use Rattle.control.proofs.CodeLaws.{state-code, O-word}
-use Rattle.control.specs.States.{machine, byRow, settled, given}
-use Rattle.control.specs.declared.Values.{Values}
-use Rattle.control.specs.declared.Machine.{Machine}
-use Rattle.control.specs.Settled.{valuesIn, machineIn, controlOf, controlAfter}
+use Rattle.states.specs.Codes.{code, stateAt, modeAt, leverAt}
+use Rattle.conditions.specs.Conditions.{O}
+use Rattle.conditions.proofs.WordLaws.{O-word}
+use Rattle.states.proofs.CodeLaws.{state-code}
+use Rattle.states.specs.States.{machine, T, byRow, machineAfter, given}
+use Rattle.states.specs.declared.Values.{Values}
+use Rattle.states.specs.declared.Machine.{Machine}
+use Rattle.states.specs.ControlGroup.{valuesIn, machineIn, controlOf, controlAfter}
 use Rattle.call.specs.Call.{Call, conditionsIn, stepBy}
 use Rattle.whole_list.specs.Values.{History, eventOfCall, modeBy, leverBy, reportsBy, positionBy, routeBy}
 use Rattle.whole_list.specs.Rules.{standingBy, conditionsBy, valuesBy, becameReachedBy, machineBy, stateBy, requestBy}
@@ -39,9 +40,9 @@ values-is h = λ i. record {
 
 -- power off does not look at the state before
 module _ (m : Machine) (r : Bool) (v : Values) where
-  settled-kept : (e : Event) → settled (machine (stateAt (kept (roleOf e) 0 (code (m .state)))) (kept (roleOf e) false (m .press))) e r v ≡ settled m e r v
-  unfolding settled
-  settled-kept e = go (roleOf e) (known e .role)
+  machine-kept : (e : Event) → machineAfter (machine (stateAt (kept (roleOf e) 0 (code (m .state)))) (kept (roleOf e) false (m .press))) e r v ≡ machineAfter m e r v
+  unfolding machineAfter
+  machine-kept e = go (roleOf e) (known e .role)
     where
       same : byRow (machine (stateAt (code (m .state))) (m .press)) (rowOf e) r v ≡ byRow m (rowOf e) r v
       same = ap (λ s. byRow (machine s (m .press)) (rowOf e) r v) (state-code (m .state))
@@ -53,8 +54,8 @@ module _ (m : Machine) (r : Bool) (v : Values) where
       go other k = same
       go (skip t on) k = same
 
-  given-kept : (e : Event) (before : Bool) → given (settled m e r v .state) v (kept (roleOf e) false before) ≡ given (settled m e r v .state) v before
-  unfolding settled
+  given-kept : (e : Event) (before : Bool) → given (machineAfter m e r v .state) v (kept (roleOf e) false before) ≡ given (machineAfter m e r v .state) v before
+  unfolding machineAfter
   given-kept e b = go (roleOf e) (known e .role)
     where
       go : (x : Role) → OfRole x e → given (byRow m (rowOf e) r v .state) v (kept x false b) ≡ given (byRow m (rowOf e) r v .state) v b
@@ -72,8 +73,8 @@ control-is h c =
     let r = becameReachedBy (c ∷ h) in
     let v : Values = valuesBy (c ∷ h) in
     let value-is : valuesIn taken (conditionsIn (effectOf h c .engine)) ≡ v = ap (valuesIn taken) (word-is h c) ∙ values-is (c ∷ h) in
-    let machine-is : settled (machineIn taken) e r v ≡ settled (machineBy h) e r v = settled-kept (machineBy h) r v e in
-    ap (λ u. controlOf taken u (settled (machineIn taken) e r u)) value-is
+    let machine-is : machineAfter (machineIn taken) e r v ≡ machineAfter (machineBy h) e r v = machine-kept (machineBy h) r v e in
+    ap (λ u. controlOf taken u (machineAfter (machineIn taken) e r u)) value-is
     ∙ ap (λ m. controlOf taken v m) machine-is
     ∙ λ i. record {
       state = code (stateBy (c ∷ h));

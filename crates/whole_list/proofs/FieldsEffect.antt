@@ -19,7 +19,7 @@ use Rattle.event.specs.declared.Event.the-variants.{PowerOff, PositionReport, L
 use Rattle.event.specs.Kinds.{mode, lever, reports, trainLength, Carried, carried, Role, off, load, report, other, skip, roleOf, newer}
 use Rattle.event.proofs.Known.{OfRole, known}
 use Rattle.route.specs.Route.{LoadValue, loadOf}
-use Rattle.timing.specs.Position.{pointCount}
+use Rattle.timing.specs.Position.{pointCount, segmentNamed}
 use Rattle.timing.specs.Distance as distance
 use Rattle.timing.specs.Standing.{standing, behind}
 use Rattle.timing.specs.Load.{target}
@@ -30,7 +30,7 @@ use Rattle.timing.specs.declared.Found.{Found}
 use Rattle.timing.specs.declared.Found.the-variants.{At, Nothing}
 use Rattle.timing.proofs.Steps.{run-snoc}
 use Rattle.timing.proofs.Rule.{standing-passed}
-use Rattle.control.specs.Codes.{code}
+use Rattle.states.specs.Codes.{code}
 use Rattle.call.specs.Effect.{Effect, offsetBeyond, sameBool, reportedIn, positionEffect, loadedIn, loadEffect, skippedIn, skipEffect, taking, effectAs, effect}
 use Rattle.call.specs.Call.{Call}
 use Rattle.whole_list.specs.Values.{History, eventOfCall, loadOfCall, roleOfCall, isOff, latest, modeBy, leverBy, reportsBy, positionBy, lengthBy, routeLoaded, routeBy, skippedBy, reportAt, reportsSince, behindAtLoad}
@@ -108,7 +108,7 @@ abbrev rowsWith : History → Role → Position → Judged LoadValue → Judged 
 rowsWith h q x m = elim q [
   | off ↦ accept tt
   | load ↦ thenJudge m (λ l. accept tt)
-  | report ↦ row 13 (offsetBeyond (routeBy h) x)
+  | report ↦ row 13 (offsetBeyond (segmentNamed (routeBy h) x) x)
   | other ↦ accept tt
   | skip t on ↦ skipRows h (stopNamed (routeBy h) t) on
 ]
@@ -188,7 +188,7 @@ module _ (h : History) (t : ℕ) (r : distance.Report) (changes : List Change) (
       ap (λ y. reported (routeBy h) y (progressRun h)) (sym e) ∙ sym (run-snoc (routeBy h) (reportsSince h) r start) in
       let same : reportedIn m ≡ effectBy h (loadThen (loadOf journey book)) t r changes became (roleOf (PositionReport x)) (carried (PositionReport x)) =
       λ i. record { engine = withProgress m (p i); loaded = none; changes = sym f i; reached = sym g i } in
-      ap (λ y. thenJudge (row 13 (offsetBeyond (routeBy h) x)) (λ u. accept y)) same
+      ap (λ y. thenJudge (row 13 (offsetBeyond (segmentNamed (routeBy h) x) x)) (λ u. accept y)) same
 
   by-load : ((l : LoadValue) → loadOf journey book ≡ accept l → t ≡ target (l .route) (positionBy h) (lengthBy h)) → By Load
   unfolding loadEffect run

@@ -24,7 +24,7 @@ use Rattle.timing.specs.Report.{reported, becameReached, run}
 use Rattle.timing.specs.Changes.{reportChanges}
 use Rattle.timing.proofs.Steps.{run-snoc}
 use Rattle.timing.proofs.Rule.{standing-passed, became-reached}
-use Rattle.control.specs.Conditions.{firstAhead}
+use Rattle.conditions.specs.Conditions.{firstAhead}
 use Rattle.call.specs.Call.{Call}
 use Rattle.whole_list.specs.Values.{History, eventOfCall, loadOfCall, roleOfCall, latest, positionBy, lengthBy, routeBy, skippedBy, reportAt, reportsSince, behindAtLoad}
 use Rattle.whole_list.specs.Rules.{standingBy, newlyReached}

@@ -34,8 +34,9 @@ use Rattle.timing.specs.declared.Found.{Found}
 use Rattle.timing.specs.declared.Found.the-variants.{At, Nothing}
 use Rattle.timing.specs.declared.Standing.{Standing}
 use Rattle.timing.specs.declared.Standing.the-variants.{Unused, Targeted, Reached, Passed}
-use Rattle.control.specs.Conditions.{endAhead}
-use Rattle.control.proofs.CodeLaws.{code-most, conditions-most}
+use Rattle.conditions.specs.Conditions.{endAhead}
+use Rattle.conditions.proofs.WordLaws.{conditions-most}
+use Rattle.states.proofs.CodeLaws.{code-most}
 use Rattle.call.specs.Packets.{header, timingPoint, jpReceived, atoStatus, statusDue, received, packetsOf}
 use Rattle.call.specs.Call.{Call}
 use Rattle.whole_list.specs.Values.{History, loadOfCall, roleOfCall, positionBy, routeBy}
@@ -80,7 +81,7 @@ module _ (j : Route) (x : Position) (r : Ranged j x) where
   unfolding timingPoint
   fits-62 c p s =
       let q = point j (c .index) in (
-        rw (header-fits, le-leb (q .nidc) 1023 (p .nidc), le-leb _ 1 (flag-most (endAhead j (standing (c .after)))), le-leb (q .alignment) 2 (p .alignment), le-leb (c .status) 8 s)
+        rw (header-fits, le-leb (q .nidc) 1023 (p .nidc), le-leb _ 1 (flag-most (endAhead (j .load) (standing (c .after)))), le-leb (q .alignment) 2 (p .alignment), le-leb (c .status) 8 s)
             (stopping-fits (c .status) (q .stopping) (p .stopping)),
         (header-typed, (tt, (omega (arith, p .nidtp), (tt, (tt, tt))))),
       )

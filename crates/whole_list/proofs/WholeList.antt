@@ -19,13 +19,13 @@ use Rattle.event.specs.declared.Row.the-variants.{SwitchOn, Configure, SwitchOf
 use Rattle.event.proofs.Known.{OfRow, known}
 use Rattle.packets.specs.Packets.{joined}
 use Rattle.timing.specs.Report.{run}
-use Rattle.control.specs.Codes.{code, stateAt}
-use Rattle.control.proofs.CodeLaws.{state-code}
-use Rattle.control.specs.Numbers.{powerRows}
-use Rattle.control.specs.States.{machine, byRow, settled}
-use Rattle.control.specs.declared.Values.{Values}
-use Rattle.control.specs.declared.State.{State}
-use Rattle.control.specs.declared.State.the-variants.{NP, CO, EG}
+use Rattle.states.specs.Codes.{code, stateAt}
+use Rattle.states.proofs.CodeLaws.{state-code}
+use Rattle.states.specs.Numbers.{powerRows}
+use Rattle.states.specs.States.{machine, byRow, machineAfter}
+use Rattle.states.specs.declared.Values.{Values}
+use Rattle.states.specs.declared.State.{State}
+use Rattle.states.specs.declared.State.the-variants.{NP, CO, EG}
 use Rattle.call.specs.Call.{Call, Accepted, Outcome, Step, conditionsIn, judged, outcomeOf, stepOf}
 use Rattle.call.proofs.Rows.{memory-length}
 use Rattle.whole_list.specs.Values.{History, eventOfCall, latest, routeBy, reportsSince, behindAtLoad}
@@ -118,8 +118,8 @@ pub record Kept (e : Engine) (h : History) (o : Option (List ℕ)) (a : Option A
   pub answered : Answered h a
 
 -- the first accepted event is power on, and leads to CO
-first-state : (e : Event) (r : Bool) (v : Values) → powerRows NP (kindOf e) ≡ accept tt → settled (machine NP false) e r v .state ≡ CO
-unfolding powerRows settled
+first-state : (e : Event) (r : Bool) (v : Values) → powerRows NP (kindOf e) ≡ accept tt → machineAfter (machine NP false) e r v .state ≡ CO
+unfolding powerRows machineAfter
 first-state e r v a = go (rowOf e) (kindOf e) (known e .row) a
   where
     go : (w : Row) (n : ℕ) → OfRow w n e → powerRows NP n ≡ accept tt → byRow (machine NP false) w r v .state ≡ CO

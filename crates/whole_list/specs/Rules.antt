@@ -13,14 +13,14 @@ use Rattle.timing.specs.History.{Stands}
 use Rattle.timing.specs.Rule.{standingByReports}
 use Rattle.timing.specs.declared.Standing.{Standing}
 use Rattle.timing.specs.declared.Standing.the-variants.{Reached}
-use Rattle.control.specs.Codes.{modeAt, leverAt}
-use Rattle.control.specs.Conditions.{conditions, O, T}
-use Rattle.control.specs.States.{machine, settled, given}
-use Rattle.control.specs.declared.Values.{Values}
-use Rattle.control.specs.declared.Machine.{Machine}
+use Rattle.states.specs.Codes.{modeAt, leverAt}
+use Rattle.conditions.specs.Conditions.{conditions, O}
+use Rattle.states.specs.States.{machine, T, machineAfter, given}
+use Rattle.states.specs.declared.Values.{Values}
+use Rattle.states.specs.declared.Machine.{Machine}
 use Rattle.engagement.specs.Engagement.{Engagement}
-use Rattle.control.specs.declared.State.{State}
-use Rattle.control.specs.declared.State.the-variants.{NP}
+use Rattle.states.specs.declared.State.{State}
+use Rattle.states.specs.declared.State.the-variants.{NP}
 use Rattle.call.specs.Call.{Call}
 use Rattle.whole_list.specs.Values.{History, eventOfCall, roleOfCall, modeBy, leverBy, reportsBy, positionBy, routeBy, reportsSince, behindAtLoad}
 
@@ -73,7 +73,7 @@ becameReachedBy (c ∷ h) = elim (roleOfCall c) [ off ↦ false | load ↦ false
 -- "The state is that of the States rows, run from NP over the accepted events."
 unfoldable pub machineBy : History → Machine
 machineBy [] = machine NP false
-machineBy (c ∷ h) = settled (machineBy h) (eventOfCall c) (becameReachedBy (c ∷ h)) (valuesBy (c ∷ h))
+machineBy (c ∷ h) = machineAfter (machineBy h) (eventOfCall c) (becameReachedBy (c ∷ h)) (valuesBy (c ∷ h))
 
 abbrev pub stateBy : History → State
 stateBy h = machineBy h .state

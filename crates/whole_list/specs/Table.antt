@@ -16,7 +16,7 @@ use Rattle.journey.specs.declared.Head.{Head}
 use Rattle.route.specs.Route.{LoadValue, loadOf}
 use Rattle.packets.specs.Packets.{joined}
 use Rattle.packets.specs.declared.Packet.{Packet}
-use Rattle.timing.specs.Position.{pointCount}
+use Rattle.timing.specs.Position.{pointCount, segmentNamed}
 use Rattle.timing.specs.Standing.{isReached, behind}
 use Rattle.timing.specs.Changes.{Change, change, statusPassed, statusStopped, statusDeparted, statusSkipped, statusRevoked}
 use Rattle.timing.specs.Skips.{stopNamed}
@@ -24,9 +24,9 @@ use Rattle.timing.specs.declared.Found.{Found}
 use Rattle.timing.specs.declared.Found.the-variants.{At, Nothing}
 use Rattle.timing.specs.declared.Standing.{Standing}
 use Rattle.timing.specs.declared.Standing.the-variants.{Unused, Targeted, Reached, Passed}
-use Rattle.control.specs.Codes.{code}
-use Rattle.control.specs.Conditions.{firstAhead}
-use Rattle.control.specs.Numbers.{powerRows, stateRow}
+use Rattle.states.specs.Codes.{code}
+use Rattle.conditions.specs.Conditions.{firstAhead}
+use Rattle.states.specs.Numbers.{powerRows, stateRow}
 use Rattle.call.specs.Packets.{Status, packetsOf}
 use Rattle.call.specs.Effect.{offsetBeyond, sameBool}
 use Rattle.call.specs.Call.{Call, Accepted}
@@ -107,7 +107,7 @@ unfoldable pub kindRows : History → Call → Judged (Unit {0})
 kindRows h c = elim (roleOfCall c) [
   | off ↦ accept tt
   | load ↦ thenJudge (loadOf (c .journey) (c .book)) (λ l. accept tt)
-  | report ↦ row 13 (offsetBeyond (routeBy h) (positionBy (c ∷ h)))
+  | report ↦ let x = positionBy (c ∷ h) in row 13 (offsetBeyond (segmentNamed (routeBy h) x) x)
   | other ↦ accept tt
   | skip t on ↦ skipRows h (stopNamed (routeBy h) t) on
 ]

@@ -20,9 +20,9 @@ use Rattle.timing.specs.Distance.{beyond}
 use Rattle.timing.specs.Standing.{standing}
 use Rattle.timing.specs.Changes.{statusPassed}
 use Rattle.timing.specs.declared.Standing.{Standing}
-use Rattle.control.specs.Codes.{code}
-use Rattle.control.specs.States.{wanted}
-use Rattle.control.specs.declared.EtcsMode.the-variants.{Other}
+use Rattle.states.specs.Codes.{code}
+use Rattle.states.specs.States.{wanted}
+use Rattle.states.specs.declared.EtcsMode.the-variants.{Other}
 use Rattle.call.specs.Call.{Call, Accepted, Outcome, stepOf, conditionsIn}
 use Rattle.whole_list.specs.Values.{History, eventOfCall, routeBy, reportAt}
 use Rattle.whole_list.specs.Rules.{StandsBy, conditionsBy, valuesBy, stateBy, requestBy, upto, Engaged}

@@ -1,29 +1,28 @@
 use denote.Ref.{now}
 use mathlib.Core.Path.{_≡_, refl, sym, ap, ap₂, subst, _∙_}
 use Rattle.engine_value.specs.Engine.{fresh}
-use Rattle.control.specs.Seen.{viewBy}
-use Rattle.control.proofs.Laws.{view-is}
+use Rattle.conditions.specs.Conditions.{lookUp}
 use Rattle.call.specs.Effect.{effect}
-use Rattle.effects.specs.View.{viewOf, Gives}
+use Rattle.effects.specs.View.{lookedUpIn, Gives}
 use Rattle.effects.proofs.Laws.{gives-values-only}
 use borrow.Author.Needs.{needs}
 use Rattle.effects.proofs.effect_of.Statement.{statement}
 use Rattle.effects.proofs.effect_of.Tie as tie
 
-viewed : (c : tie.After-view-by) → let a = c .before .before .before .before .before .args in c .view-by .result ≡ viewOf (a .e)
-viewed c =
+looked : (c : tie.After-look-up) → let a = c .before .before .before .before .before .args in c .look-up .result ≡ lookedUpIn (a .e)
+looked c =
     let s = c .before .before in
     let e = s .before .before .before .args .e in
-    c .view-by .ensures ∙ ap₂ (λ g b. viewBy g (e .train .position) b) (s .segment-named .ensures) (c .before .placed-at .ensures) ∙ view-is _ _ (e .progress)
+    c .look-up .ensures ∙ ap₂ (λ g b. lookUp g (e .train .position) b) (s .segment-named .ensures) (c .before .profiles-there .ensures)
 
 segment-named-requires : tie.Need-segment-named-requires
 segment-named-requires c κs = search needs
 
-placed-at-requires : tie.Need-placed-at-requires
-placed-at-requires c κs = search needs
+profiles-there-requires : tie.Need-profiles-there-requires
+profiles-there-requires c κs = search needs
 
-view-by-requires : tie.Need-view-by-requires
-view-by-requires c κs = search needs
+look-up-requires : tie.Need-look-up-requires
+look-up-requires c κs = search needs
 
 enum-told : tie.Need-enum-told
 enum-told c = search needs
@@ -43,8 +42,8 @@ enum-told-3 c = search needs
 cleared-requires : tie.Need-cleared-requires
 cleared-requires c κs = search needs
 
-fresh-view-requires : tie.Need-fresh-view-requires
-fresh-view-requires c κs = search needs
+fresh-looked-up-requires : tie.Need-fresh-looked-up-requires
+fresh-looked-up-requires c κs = search needs
 
 plain-requires-3 : tie.Need-plain-requires-3
 plain-requires-3 c κs = search needs
@@ -92,7 +91,7 @@ enum-known-v-4 : tie.Need-enum-known-v-4
 enum-known-v-4 c = search needs
 
 position-requires : tie.Need-position-requires
-position-requires c κs = viewed (c .before .before .before)
+position-requires c κs = looked (c .before .before .before)
 
 enum-known-v-5 : tie.Need-enum-known-v-5
 enum-known-v-5 c = search needs
@@ -107,59 +106,59 @@ enum-told-6 : tie.Need-enum-told-6
 enum-told-6 c = search needs
 
 load-requires : tie.Need-load-requires
-load-requires c κs = viewed (c .before .before)
+load-requires c κs = looked (c .before .before)
 
 enum-known-v-6 : tie.Need-enum-known-v-6
 enum-known-v-6 c = search needs
 
 skip-requires : tie.Need-skip-requires
-skip-requires c κs = viewed (c .before .before .before)
+skip-requires c κs = looked (c .before .before .before)
 
 enum-known-v-7 : tie.Need-enum-known-v-7
 enum-known-v-7 c = search needs
 
 skip-requires-2 : tie.Need-skip-requires-2
-skip-requires-2 c κs = viewed (c .before .before .before)
+skip-requires-2 c κs = looked (c .before .before .before)
 
 returns : tie.Need-returns
 unfolding effect
 returns c = let w = c .before .before .before in let s = w .before .before .before .before .before in
-    gives-values-only _ _ (s .args .e) _ _ _ _ (c .plain .ensures) refl (viewed w) (viewed w) (sym (ap (effect (s .args .e) (now (s .args .journey)) (now (s .args .book))) (c .before .enum-told .given .1)))
+    gives-values-only _ _ (s .args .e) _ _ _ _ (c .plain .ensures) refl (looked w) (looked w) (sym (ap (effect (s .args .e) (now (s .args .journey)) (now (s .args .book))) (c .before .enum-told .given .1)))
 
 returns-2 : tie.Need-returns-2
 unfolding effect
 returns-2 c = let w = c .before .before .before in let s = w .before .before .before .before .before in
-    gives-values-only _ _ (s .args .e) _ _ _ _ (c .plain2 .ensures) refl (viewed w) (viewed w) (sym (ap (effect (s .args .e) (now (s .args .journey)) (now (s .args .book))) (c .before .enum-told2 .given .1)))
+    gives-values-only _ _ (s .args .e) _ _ _ _ (c .plain2 .ensures) refl (looked w) (looked w) (sym (ap (effect (s .args .e) (now (s .args .journey)) (now (s .args .book))) (c .before .enum-told2 .given .1)))
 
 returns-3 : tie.Need-returns-3
 unfolding effect
 returns-3 c = let w = c .before .before .before .before .before in let s = w .before .before .before .before .before in
-    gives-values-only _ _ fresh _ _ _ _ (c .plain3 .ensures) (c .before .before .cleared .ensures) (viewed w) (c .before .fresh-view .ensures) (sym (ap (effect (s .args .e) (now (s .args .journey)) (now (s .args .book))) (c .before .before .before .enum-told3 .given .1)))
+    gives-values-only _ _ fresh _ _ _ _ (c .plain3 .ensures) (c .before .before .cleared .ensures) (looked w) (c .before .fresh-looked-up .ensures) (sym (ap (effect (s .args .e) (now (s .args .journey)) (now (s .args .book))) (c .before .before .before .enum-told3 .given .1)))
 
 returns-4 : tie.Need-returns-4
 unfolding effect
 returns-4 c = let w = c .before .before .before in let s = w .before .before .before .before .before in
-    gives-values-only _ _ (s .args .e) _ _ _ _ (c .plain4 .ensures) refl (viewed w) (viewed w) (sym (ap (effect (s .args .e) (now (s .args .journey)) (now (s .args .book))) (c .before .enum-told4 .given .1)))
+    gives-values-only _ _ (s .args .e) _ _ _ _ (c .plain4 .ensures) refl (looked w) (looked w) (sym (ap (effect (s .args .e) (now (s .args .journey)) (now (s .args .book))) (c .before .enum-told4 .given .1)))
 
 returns-5 : tie.Need-returns-5
 unfolding effect
 returns-5 c = let w = c .before .before .before .before .before in let s = w .before .before .before .before .before in
-    gives-values-only _ _ _ _ _ _ _ (c .plain5 .ensures) (c .before .with-reports .ensures) (viewed w) (viewed w) (sym (ap (effect (s .args .e) (now (s .args .journey)) (now (s .args .book))) (c .before .before .before .v .given .1)))
+    gives-values-only _ _ _ _ _ _ _ (c .plain5 .ensures) (c .before .with-reports .ensures) (looked w) (looked w) (sym (ap (effect (s .args .e) (now (s .args .journey)) (now (s .args .book))) (c .before .before .before .v .given .1)))
 
 returns-6 : tie.Need-returns-6
 unfolding effect
 returns-6 c = let w = c .before .before .before .before .before in let s = w .before .before .before .before .before in
-    gives-values-only _ _ _ _ _ _ _ (c .plain6 .ensures) (c .before .with-mode .ensures) (viewed w) (viewed w) (sym (ap (effect (s .args .e) (now (s .args .journey)) (now (s .args .book))) (c .before .before .before .v2 .given .1)))
+    gives-values-only _ _ _ _ _ _ _ (c .plain6 .ensures) (c .before .with-mode .ensures) (looked w) (looked w) (sym (ap (effect (s .args .e) (now (s .args .journey)) (now (s .args .book))) (c .before .before .before .v2 .given .1)))
 
 returns-7 : tie.Need-returns-7
 unfolding effect
 returns-7 c = let w = c .before .before .before .before .before in let s = w .before .before .before .before .before in
-    gives-values-only _ _ _ _ _ _ _ (c .plain7 .ensures) (c .before .with-lever .ensures) (viewed w) (viewed w) (sym (ap (effect (s .args .e) (now (s .args .journey)) (now (s .args .book))) (c .before .before .before .v3 .given .1)))
+    gives-values-only _ _ _ _ _ _ _ (c .plain7 .ensures) (c .before .with-lever .ensures) (looked w) (looked w) (sym (ap (effect (s .args .e) (now (s .args .journey)) (now (s .args .book))) (c .before .before .before .v3 .given .1)))
 
 returns-8 : tie.Need-returns-8
 unfolding effect
 returns-8 c = let w = c .before .before .before in let s = w .before .before .before .before .before in
-    gives-values-only _ _ (s .args .e) _ _ _ _ (c .plain8 .ensures) refl (viewed w) (viewed w) (sym (ap (effect (s .args .e) (now (s .args .journey)) (now (s .args .book))) (c .before .enum-told5 .given .1)))
+    gives-values-only _ _ (s .args .e) _ _ _ _ (c .plain8 .ensures) refl (looked w) (looked w) (sym (ap (effect (s .args .e) (now (s .args .journey)) (now (s .args .book))) (c .before .enum-told5 .given .1)))
 
 returns-9 : tie.Need-returns-9
 unfolding effect
@@ -169,7 +168,7 @@ returns-9 c = let w = c .before .before .before .before in let s = w .before .be
 returns-10 : tie.Need-returns-10
 unfolding effect
 returns-10 c = let w = c .before .before .before .before .before in let s = w .before .before .before .before .before in
-    gives-values-only _ _ _ _ _ _ _ (c .plain9 .ensures) (c .before .with-length .ensures) (viewed w) (viewed w) (sym (ap (effect (s .args .e) (now (s .args .journey)) (now (s .args .book))) (c .before .before .before .v5 .given .1)))
+    gives-values-only _ _ _ _ _ _ _ (c .plain9 .ensures) (c .before .with-length .ensures) (looked w) (looked w) (sym (ap (effect (s .args .e) (now (s .args .journey)) (now (s .args .book))) (c .before .before .before .v5 .given .1)))
 
 returns-11 : tie.Need-returns-11
 unfolding effect
@@ -191,15 +190,15 @@ effect-of-spec =
     tie.close
     (tie.spec
     segment-named-requires
-    placed-at-requires
-    view-by-requires
+    profiles-there-requires
+    look-up-requires
     enum-told
     plain-requires
     enum-told-2
     plain-requires-2
     enum-told-3
     cleared-requires
-    fresh-view-requires
+    fresh-looked-up-requires
     plain-requires-3
     enum-told-4
     plain-requires-4

@@ -22,7 +22,7 @@ returns c =
     let b = l .before .before .before in
     let a = b .args in
     let h = c .before .if1 .taken in
-    gives-number (a .e) (l .load-route .result .number) (a .view) _ _ (ne-eqb (l .load-route .result .number) 0 h) (c .plain .ensures) (b .pre)
+    gives-number (a .e) (l .load-route .result .number) (a .looked) _ _ (ne-eqb (l .load-route .result .number) 0 h) (c .plain .ensures) (b .pre)
     (load-number (a .e) (now (a .journey)) (now (a .book)) (l .load-route .result) (l .load-route .ensures .seen) h)
 
 with-route-requires : tie.Need-with-route-requires
@@ -34,8 +34,8 @@ with-target-requires c κs = search needs
 no-changes-requires : tie.Need-no-changes-requires
 no-changes-requires c κs = search needs
 
-view-of-requires : tie.Need-view-of-requires
-view-of-requires c κs = search needs
+looked-up-requires : tie.Need-looked-up-requires
+looked-up-requires c κs = search needs
 
 returns-2 : tie.Need-returns-2
 returns-2 c =
@@ -47,7 +47,7 @@ returns-2 c =
     let a = s .args in
     load-taken (a .e) (now (a .journey)) (now (a .book)) (l .load-route .result) (l .load-route .ensures .seen) _ _ (r .before .if1 .left)
     (t .with-target .ensures ∙ ap (λ (x : Engine). withProgress x (progress (target (routeIn x) (x .train .position) (x .train .length)) false)) (r .with-route .ensures))
-    (n .no-changes .ensures) _ _ (s .pre) (c .view-of .ensures)
+    (n .no-changes .ensures) _ _ (s .pre) (c .looked-up .ensures)
 
 pub load-spec : {M : Type 1} → statement M
 load-spec =
@@ -59,5 +59,5 @@ load-spec =
     with-route-requires
     with-target-requires
     no-changes-requires
-    view-of-requires
+    looked-up-requires
     returns-2)

@@ -2,28 +2,25 @@ use mathlib.Core.Path.{_≡_, refl, sym, ap, ap₂, _∙_}
 use Rattle.engine_value.specs.Engine.{routeIn}
 use Rattle.engine_value.specs.declared.Position.{Position}
 use Rattle.engine_value.specs.declared.Engine.{Engine}
-use Rattle.timing.specs.Position.{placed}
-use Rattle.timing.specs.Seen.{segmentIn}
+use Rattle.timing.specs.Position.{segmentNamed}
+use Rattle.timing.specs.Standing.{standing}
 use Rattle.timing.specs.declared.Reported.{Reported}
-use Rattle.control.specs.Seen.{viewBy}
-use Rattle.control.specs.declared.View.{View}
-use Rattle.control.proofs.Laws.{view-is}
+use Rattle.conditions.specs.Conditions.{profilesThere, lookUp}
+use Rattle.conditions.specs.declared.LookedUp.{LookedUp}
 use Rattle.call.specs.Effect.{offsetBeyond}
-use Rattle.effects.specs.View.{beyondBy}
-use Rattle.effects.proofs.Laws.{gives-number, beyond-is, position-13, position-reported}
+use Rattle.effects.proofs.Laws.{gives-number, position-13, position-reported}
 use borrow.Author.Needs.{needs}
 use Rattle.effects.proofs.position.Statement.{statement}
 use Rattle.effects.proofs.position.Tie as tie
 
-tested : (c : tie.After-offset-beyond) → let a = c .before .before .before .before .args in c .offset-beyond .result ≡ offsetBeyond (routeIn (a .e)) (a .x)
+tested : (c : tie.After-offset-beyond) → let a = c .before .before .before .before .args in c .offset-beyond .result ≡ offsetBeyond (segmentNamed (routeIn (a .e)) (a .x)) (a .x)
 tested c =
     let r = c .before .before in
     let p = r .before in
     let a = p .before .args in
     c .offset-beyond .ensures
-    ∙ ap (λ (t : Reported). beyondBy (t .segment) (a .x)) (r .report .ensures)
-    ∙ ap (λ (m : Engine). beyondBy (segmentIn (routeIn m) (m .train .position)) (a .x)) (p .with-position .ensures)
-    ∙ beyond-is (routeIn (a .e)) (a .x)
+    ∙ ap (λ (t : Reported). offsetBeyond (t .segment) (a .x)) (r .report .ensures)
+    ∙ ap (λ (m : Engine). offsetBeyond (segmentNamed (routeIn m) (m .train .position)) (a .x)) (p .with-position .ensures)
 
 with-position-requires : tie.Need-with-position-requires
 with-position-requires c κs = search needs
@@ -39,7 +36,7 @@ plain-requires c κs = search needs
 
 returns : tie.Need-returns
 returns c = let t = c .before .before in let s = t .before .before .before .before in
-    gives-number (s .args .e) 13 (s .args .view) _ _ refl (c .plain .ensures) (s .pre) (sym (position-13 (s .args .e) (s .args .x) (sym (tested t) ∙ c .before .if1 .taken)))
+    gives-number (s .args .e) 13 (s .args .looked) _ _ refl (c .plain .ensures) (s .pre) (sym (position-13 (s .args .e) (s .args .x) (sym (tested t) ∙ c .before .if1 .taken)))
 
 no-head-requires : tie.Need-no-head-requires
 no-head-requires c κs = search needs
@@ -47,13 +44,13 @@ no-head-requires c κs = search needs
 changes-of-requires : tie.Need-changes-of-requires
 changes-of-requires c κs = search needs
 
-placed-after-requires : tie.Need-placed-after-requires
-placed-after-requires c κs =
+profiles-after-requires : tie.Need-profiles-after-requires
+profiles-after-requires c κs =
     let p = c .before .before .before .before .before .before .before in
-    ap (λ (w : View). w .placed) (p .before .pre) ∙ sym (ap (λ (m : Engine). placed (routeIn m) (m .progress .next)) (p .with-position .ensures))
+    ap (λ (w : LookedUp). w .profiles) (p .before .pre) ∙ sym (ap (λ (m : Engine). profilesThere (routeIn m) (standing (m .progress))) (p .with-position .ensures))
 
-view-by-requires : tie.Need-view-by-requires
-view-by-requires c κs = search needs
+look-up-requires : tie.Need-look-up-requires
+look-up-requires c κs = search needs
 
 returns-2 : tie.Need-returns-2
 returns-2 c =
@@ -64,10 +61,9 @@ returns-2 c =
     let a = p .before .args in
     let m = p .with-position .result in
     position-reported (a .e) (a .x) m (r .report .result) _ (c .before .before .before .before .no-head .result) (sym (tested t) ∙ i .if1 .left) (p .with-position .ensures) (r .report .ensures) (c .before .before .before .changes-of .ensures) _ _ (p .before .pre)
-    (c .view-by .ensures
-    ∙ ap₂ (λ s b. viewBy s (a .x) b) (ap (λ (t : Reported). t .segment) (r .report .ensures)) (c .before .placed-after .ensures)
-    ∙ ap (λ (y : Position). viewBy (segmentIn (routeIn m) (m .train .position)) y (placed (routeIn m) (r .report .result .progress .next))) (sym (ap (λ (n : Engine). n .train .position) (p .with-position .ensures)))
-    ∙ view-is (routeIn m) (m .train .position) (r .report .result .progress))
+    (c .look-up .ensures
+    ∙ ap₂ (λ s b. lookUp s (a .x) b) (ap (λ (t : Reported). t .segment) (r .report .ensures)) (c .before .profiles-after .ensures)
+    ∙ ap (λ (y : Position). lookUp (segmentNamed (routeIn m) (m .train .position)) y (profilesThere (routeIn m) (standing (r .report .result .progress)))) (sym (ap (λ (n : Engine). n .train .position) (p .with-position .ensures))))
 
 pub position-spec : {M : Type 1} → statement M
 position-spec =
@@ -80,6 +76,6 @@ position-spec =
     returns
     no-head-requires
     changes-of-requires
-    placed-after-requires
-    view-by-requires
+    profiles-after-requires
+    look-up-requires
     returns-2)

@@ -1,5 +1,5 @@
 use mathlib.Core.Path.{refl, sym, ap, subst, _∙_}
-use Rattle.timing.specs.Position.{IndexBelow}
+use Rattle.timing.specs.View.{IndexBelow}
 use Rattle.call.specs.Effect.{skipEffect}
 use Rattle.effects.specs.View.{Gives}
 use Rattle.effects.proofs.Laws.{gives-number}
@@ -22,7 +22,7 @@ plain-requires c κs = search needs
 returns : tie.Need-returns
 unfolding skipEffect
 returns c = let s = c .before .before .before in let b = s .before in
-    gives-number (b .args .e) 14 (b .args .view) _ _ refl (c .plain .ensures) (b .pre) (sym (ap (skipEffect _ _) (sym (s .find-stop .ensures .0) ∙ c .before .enum-told .given .1)))
+    gives-number (b .args .e) 14 (b .args .looked) _ _ refl (c .plain .ensures) (b .pre) (sym (ap (skipEffect _ _) (sym (s .find-stop .ensures .0) ∙ c .before .enum-told .given .1)))
 
 skip-at-requires : tie.Need-skip-at-requires
 skip-at-requires c κs = let s = c .before .before .before in (subst (IndexBelow 64) (c .before .k .given .1) (s .find-stop .ensures .1), s .before .pre)

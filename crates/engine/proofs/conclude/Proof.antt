@@ -4,7 +4,7 @@ use Rattle.engine.proofs.conclude.Statement.{statement}
 use Rattle.engine.proofs.conclude.Tie as tie
 
 known : (c : tie.After-size) → let a = c .before .before .before .before .before .before .before .before .before .args in
-    Decided (a .e) (a .v) (a .f) (c .before .before .before .before .settle .result) (c .before .writes-of .result)
+    Decided (a .e) (a .v) (a .f) (c .before .before .before .before .after-rows .result) (c .before .writes-of .result)
 known c =
     let w = c .before in
     let d = w .before in
@@ -14,7 +14,7 @@ known c =
     let s₁ = c₂ .before in
     let c₁ = s₁ .before in
     let a = c₁ .before .before .args in
-    decided (a .e) (a .v) (a .f) _ _ _ _ _ _ _ (c₁ .conditions .ensures) (c₂ .conditions2 .ensures) (m .settle .ensures) (s₁ .shown .ensures) (s₂ .shown2 .ensures) (d .status-due .ensures) (w .writes-of .ensures)
+    decided (a .e) (a .v) (a .f) _ _ _ _ _ _ _ (c₁ .conditions .ensures) (c₂ .conditions2 .ensures) (m .after-rows .ensures) (s₁ .shown .ensures) (s₂ .shown2 .ensures) (d .status-due .ensures) (w .writes-of .ensures)
 
 conditions-requires : tie.Need-conditions-requires
 conditions-requires c κs = search needs
@@ -25,8 +25,8 @@ shown-requires c κs = search needs
 conditions-requires-2 : tie.Need-conditions-requires-2
 conditions-requires-2 c κs = search needs
 
-settle-requires : tie.Need-settle-requires
-settle-requires c κs = search needs
+after-rows-requires : tie.Need-after-rows-requires
+after-rows-requires c κs = search needs
 
 shown-requires-2 : tie.Need-shown-requires-2
 shown-requires-2 c κs = search needs
@@ -70,7 +70,7 @@ conclude-spec =
     conditions-requires
     shown-requires
     conditions-requires-2
-    settle-requires
+    after-rows-requires
     shown-requires-2
     status-due-requires
     writes-of-requires

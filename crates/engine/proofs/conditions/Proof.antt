@@ -1,16 +1,17 @@
 use mathlib.Core.Path.{ap, _∙_}
-use Rattle.control.specs.Seen.{conditionsBy}
-use Rattle.control.proofs.Laws.{conditions-view}
+use Rattle.timing.specs.Standing.{standing}
+use Rattle.conditions.specs.Conditions.{nine, wordOf, conditions}
 use borrow.Author.Needs.{needs}
 use Rattle.engine.proofs.conditions.Statement.{statement}
 use Rattle.engine.proofs.conditions.Tie as tie
 
-conditions-by-requires : tie.Need-conditions-by-requires
-conditions-by-requires c κs = search needs
+word-of-requires : tie.Need-word-of-requires
+word-of-requires c κs = search needs
 
 returns : tie.Need-returns
+unfolding conditions
 returns c = let s = c .before in let e = s .args .e in
-    c .conditions-by .ensures .0 ∙ ap (λ w. conditionsBy (e .load) (e .control .reports) w (e .progress)) (s .pre) ∙ conditions-view _ _ _ (e .progress)
+    c .word-of .ensures .0 ∙ ap (λ w. wordOf (nine (e .load) (e .control .reports) w (standing (e .progress)))) (s .pre)
 
 pub conditions-spec : {M : Type 1} → statement M
-conditions-spec = tie.close (tie.spec conditions-by-requires returns)
+conditions-spec = tie.close (tie.spec word-of-requires returns)

@@ -1,6 +1,5 @@
 use mathlib.Core.Path.{ap, _∙_}
-use Rattle.timing.specs.Seen.{frontBy}
-use Rattle.timing.proofs.Laws.{front-named}
+use Rattle.timing.specs.Position.{front}
 use borrow.Author.Needs.{needs}
 use Rattle.timing.proofs.front_position.Statement.{statement}
 use Rattle.timing.proofs.front_position.Tie as tie
@@ -13,7 +12,7 @@ front-in-requires c κs = search needs
 
 returns : tie.Need-returns
 returns c = let e = c .before .before .args .e in
-    (c .front-in .ensures .0 ∙ ap (λ s. frontBy s (e .train .position)) (c .before .segment-named .ensures) ∙ front-named _ _, c .front-in .ensures .1)
+    (c .front-in .ensures .0 ∙ ap (λ s. front s (e .train .position)) (c .before .segment-named .ensures), c .front-in .ensures .1)
 
 pub front-position-spec : {M : Type 1} → statement M
 front-position-spec = tie.close (tie.spec segment-named-requires front-in-requires returns)

@@ -1,6 +1,6 @@
 use mathlib.Core.Path.{ap, _∙_}
-use Rattle.timing.specs.Seen.{frontBy}
-use Rattle.timing.proofs.Laws.{front-named, report-stays, report-departs, report-looks}
+use Rattle.timing.specs.Position.{front}
+use Rattle.timing.proofs.Laws.{report-stays, report-departs, report-looks}
 use borrow.Author.Needs.{needs}
 use Rattle.timing.proofs.report.Statement.{statement}
 use Rattle.timing.proofs.report.Tie as tie
@@ -20,7 +20,7 @@ front-in-requires c κs = search needs
 
 look-from-requires : tie.Need-look-from-requires
 look-from-requires c κs = let s = c .before .before .before .before .before .before in
-    (c .front-in .ensures .0 ∙ ap (λ g. frontBy g (s .before .args .e .train .position)) (s .segment-named .ensures) ∙ front-named _ _, c .front-in .ensures .1)
+    (c .front-in .ensures .0 ∙ ap (λ g. front g (s .before .args .e .train .position)) (s .segment-named .ensures), c .front-in .ensures .1)
 
 returns-2 : tie.Need-returns-2
 returns-2 c = let s = c .before .before .before in let g = s .before .before .before .before .segment-named in
@@ -31,7 +31,7 @@ front-in-requires-2 c κs = search needs
 
 look-from-requires-2 : tie.Need-look-from-requires-2
 look-from-requires-2 c κs = let s = c .before .before .before in
-    (c .front-in2 .ensures .0 ∙ ap (λ g. frontBy g (s .before .args .e .train .position)) (s .segment-named .ensures) ∙ front-named _ _, c .front-in2 .ensures .1)
+    (c .front-in2 .ensures .0 ∙ ap (λ g. front g (s .before .args .e .train .position)) (s .segment-named .ensures), c .front-in2 .ensures .1)
 
 returns-3 : tie.Need-returns-3
 returns-3 c = let g = c .before .before .before .before .segment-named in

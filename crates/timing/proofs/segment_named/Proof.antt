@@ -8,7 +8,6 @@ use native.Mathlib.Omega.{arith}
 use borrow.Author.Needs.{needs}
 use Rattle.engine_value.specs.Engine.{blankSegment}
 use Rattle.timing.specs.Position.{segmentFrom}
-use Rattle.timing.specs.Seen.{namedIn}
 use Rattle.timing.proofs.Laws.{getD-there, and-first, left-all, segment-none, segment-hit, segment-miss}
 use Rattle.timing.proofs.segment_named.Statement.{statement}
 use Rattle.timing.proofs.segment_named.Tie as tie
@@ -42,7 +41,7 @@ returns c =
     let l = b .args .e .segments in
     let z : length l ≡ 40 = (sym (length-map l _) ∙ b .good .0 .1 .1 .1 .1 .0 .1 .0 .1) in
     ap (λ g. record { found = true; segment = g }) (getD-there l (s .loop .i) _ blankSegment (omega arith))
-    ∙ ap (namedIn l) (sym (segment-hit _ _ _ _ _ (omega arith) (ap₂ (λ x y. x && y) (eq-eqb _ _ (c .before .before .if1 .taken)) (c .if2 .taken))) ∙ s .loop .inv
+    ∙ (sym (segment-hit _ _ _ _ _ (omega arith) (ap₂ (λ x y. x && y) (eq-eqb _ _ (c .before .before .if1 .taken)) (c .if2 .taken))) ∙ s .loop .inv
     ∙ ap (λ n. segmentFrom l n 0 (b .args .e .train .position .nidc) (b .args .e .train .position .nidsp)) (s .before .at-most .ensures))
 
 add-i : tie.Need-add-i Inv-loop μ-loop
@@ -65,7 +64,7 @@ returns-2 c =
     let b = c .before .before .before .before .before in
     let l = b .args .e .segments in
     ap (λ g. record { found = false; segment = g }) (c .blank-segment .ensures)
-    ∙ ap (namedIn l) (sym (segment-none _ _ _ _ _ (omega arith)) ∙ c .before .before .loop .inv
+    ∙ (sym (segment-none _ _ _ _ _ (omega arith)) ∙ c .before .before .loop .inv
     ∙ ap (λ n. segmentFrom l n 0 (b .args .e .train .position .nidc) (b .args .e .train .position .nidsp)) (c .before .before .before .at-most .ensures))
 
 pub segment-named-spec : {M : Type 1} → statement M

@@ -1,0 +1,12 @@
+use borrow.Author.Tests.{le-leb, lt-leb}
+use Rattle.conditions.proofs.in_zone.Statement.{statement}
+use Rattle.conditions.proofs.in_zone.Tie as tie
+
+returns : tie.Need-returns
+returns c = rw (le-leb _ _ (c .before .if1 .taken))
+
+returns-2 : tie.Need-returns-2
+returns-2 c = rw (lt-leb _ _ (c .if1 .left))
+
+pub in-zone-spec : {M : Type 1} → statement M
+in-zone-spec = tie.close (tie.spec returns returns-2)

@@ -1,0 +1,2 @@
+-- Document 01, "Nine conditions".
+pub mod Conditions

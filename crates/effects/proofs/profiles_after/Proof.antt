@@ -1,0 +1,18 @@
+use mathlib.Core.Path.{sym, _∙_}
+use Rattle.engine_value.specs.Engine.{routeIn}
+use Rattle.conditions.proofs.Laws.{profiles-same}
+use borrow.Author.Needs.{needs}
+use Rattle.effects.proofs.profiles_after.Statement.{statement}
+use Rattle.effects.proofs.profiles_after.Tie as tie
+
+profiles-there-requires : tie.Need-profiles-there-requires
+profiles-there-requires c κs = search needs
+
+returns : tie.Need-returns
+returns c = let s = c .before .before .before in s .pre ∙ profiles-same (routeIn (s .args .m)) (s .args .m .progress) (s .args .p) (sym (c .if1 .taken))
+
+returns-2 : tie.Need-returns-2
+returns-2 c = search needs
+
+pub profiles-after-spec : {M : Type 1} → statement M
+profiles-after-spec = tie.close (tie.spec profiles-there-requires returns returns-2)

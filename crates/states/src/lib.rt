@@ -1,0 +1,428 @@
+// The ATO states: their codes, the rows of the states, the AD request, rows 3 to 6 of the table of numbers.
+ghost use mathlib.Core.Path.{_≡_};
+ghost use mathlib.Core.Bool.{false, not, _&&_, _||_};
+ghost use Prim.Native.Nat.{_≤_};
+ghost use Rattle.wire.specs.View.{verdictView};
+ghost use Rattle.states.specs.Codes.{code, stateAt, is, modeAt, isAD, leverAt, isNeutral, isBrake};
+ghost use Rattle.states.specs.States.{machine, T, N, U, fromRE, fromEG, fromDE, byState, machineAfter, wanted, given};
+ghost use Rattle.states.specs.ControlGroup.{allNine, valuesIn, machineIn, controlAfter};
+ghost use Rattle.states.specs.Numbers.{powerRows, stateRow, stateRows};
+use conditions::ALL_CONDITIONS;
+use engine_value::Control;
+use event::Event;
+use event::Row;
+use event::row_of;
+use wire::Verdict;
+
+// The states of document 01, by their codes 0 to 7 in this order.
+pub enum State {
+    NP,
+    CO,
+    NA,
+    AV,
+    RE,
+    EG,
+    DE,
+    FA,
+}
+
+// The ETCS mode: 0 other, 1 AD.
+pub enum EtcsMode {
+    Other,
+    AD,
+}
+
+// The lever: 0 neutral, 1 traction, 2 brake.
+pub enum DriverLever {
+    Neutral,
+    Traction,
+    Brake,
+}
+
+// What the rows look at, after an event: O, all nine conditions; T, the train conditions; the lever and the mode.
+pub struct Values {
+    pub O: bool,
+    pub T: bool,
+    pub lever: DriverLever,
+    pub mode: EtcsMode,
+}
+
+// The state, and whether a press is pending.
+pub struct Machine {
+    pub state: State,
+    pub press: bool,
+}
+
+// ---- codes
+
+pub fn state_at(code: u8) -> State
+    ensures { λ r. ⌜ r ≡ stateAt code ⌝ }
+{
+    match code {
+        0 => State::NP,
+        1 => State::CO,
+        2 => State::NA,
+        3 => State::AV,
+        4 => State::RE,
+        5 => State::EG,
+        6 => State::DE,
+        _ => State::FA,
+    }
+}
+
+pub fn code_of(s: State) -> u8
+    ensures { λ r. ⌜ (r ≡ code s) × (r ≤ 7) ⌝ }
+{
+    match s {
+        State::NP => 0,
+        State::CO => 1,
+        State::NA => 2,
+        State::AV => 3,
+        State::RE => 4,
+        State::EG => 5,
+        State::DE => 6,
+        State::FA => 7,
+    }
+}
+
+pub fn mode_at(n: u8) -> EtcsMode
+    ensures { λ r. ⌜ r ≡ modeAt n ⌝ }
+{
+    if n == 1 {
+        EtcsMode::AD
+    } else {
+        EtcsMode::Other
+    }
+}
+
+pub fn lever_at(n: u8) -> DriverLever
+    ensures { λ r. ⌜ r ≡ leverAt n ⌝ }
+{
+    if n == 0 {
+        return DriverLever::Neutral;
+    }
+    if n == 1 {
+        DriverLever::Traction
+    } else {
+        DriverLever::Brake
+    }
+}
+
+fn is_ad(m: EtcsMode) -> bool
+    ensures { λ r. ⌜ r ≡ isAD m ⌝ }
+{
+    match m {
+        EtcsMode::Other => false,
+        EtcsMode::AD => true,
+    }
+}
+
+fn is_neutral(l: DriverLever) -> bool
+    ensures { λ r. ⌜ r ≡ isNeutral l ⌝ }
+{
+    match l {
+        DriverLever::Neutral => true,
+        DriverLever::Traction => false,
+        DriverLever::Brake => false,
+    }
+}
+
+fn is_brake(l: DriverLever) -> bool
+    ensures { λ r. ⌜ r ≡ isBrake l ⌝ }
+{
+    match l {
+        DriverLever::Neutral => false,
+        DriverLever::Traction => false,
+        DriverLever::Brake => true,
+    }
+}
+
+fn same(a: State, b: State) -> bool
+    ensures { λ r. ⌜ r ≡ is a b ⌝ }
+{
+    code_of(a) == code_of(b)
+}
+
+// ---- the rows of the states
+
+// The state that the values alone give.
+fn u(v: Values) -> State
+    ensures { λ r. ⌜ r ≡ U v ⌝ }
+{
+    if !v.O {
+        return State::NA;
+    }
+    if !v.T {
+        return State::AV;
+    }
+    let lever = v.lever;
+    if !is_neutral(lever) {
+        return State::AV;
+    }
+    let mode = v.mode;
+    if is_ad(mode) { State::AV } else { State::RE }
+}
+
+// A press pending, O, T, N and AD.
+fn engages(press: bool, v: Values) -> bool
+    ensures { λ r. ⌜ r ≡ (press && (v .O && (v .T && (N v && isAD (v .mode))))) ⌝ }
+{
+    if !press {
+        return false;
+    }
+    if !v.O {
+        return false;
+    }
+    if !v.T {
+        return false;
+    }
+    let lever = v.lever;
+    if !is_neutral(lever) {
+        return false;
+    }
+    let mode = v.mode;
+    is_ad(mode)
+}
+
+fn at_rest(s: State) -> Machine
+    ensures { λ r. ⌜ r ≡ machine s false ⌝ }
+{
+    Machine {
+        state: s,
+        press: false,
+    }
+}
+
+fn from_re(press: bool, v: Values) -> Machine
+    ensures { λ r. ⌜ r ≡ fromRE press v ⌝ }
+{
+    if engages(press, v) {
+        return at_rest(State::EG);
+    }
+    let s = u(v);
+    if !press {
+        return at_rest(s);
+    }
+    let stays = same(s, State::RE);
+    Machine {
+        state: s,
+        press: stays,
+    }
+}
+
+// The lever at brake, mode other, or a point reached.
+fn leaves(reached: bool, v: Values) -> bool
+    ensures { λ r. ⌜ r ≡ (isBrake (v .lever) || (not (isAD (v .mode)) || reached)) ⌝ }
+{
+    let lever = v.lever;
+    let mode = v.mode;
+    if is_brake(lever) {
+        true
+    } else if is_ad(mode) {
+        reached
+    } else {
+        true
+    }
+}
+
+fn from_eg(reached: bool, v: Values) -> State
+    ensures { λ r. ⌜ r ≡ fromEG reached v ⌝ }
+{
+    if leaves(reached, v) {
+        return u(v);
+    }
+    if !v.O {
+        return State::DE;
+    }
+    if v.T { State::EG } else { State::DE }
+}
+
+fn from_de(v: Values) -> State
+    ensures { λ r. ⌜ r ≡ fromDE v ⌝ }
+{
+    if leaves(false, v) { u(v) } else { State::DE }
+}
+
+// The row of the state before, for an event with no row of its own.
+fn by_state(s: State, press: bool, reached: bool, v: Values) -> Machine
+    ensures { λ r. ⌜ r ≡ byState s press reached v ⌝ }
+{
+    match s {
+        State::NP => at_rest(State::NP),
+        State::CO => at_rest(State::CO),
+        State::NA => at_rest(u(v)),
+        State::AV => at_rest(u(v)),
+        State::RE => from_re(press, v),
+        State::EG => at_rest(from_eg(reached, v)),
+        State::DE => at_rest(from_de(v)),
+        State::FA => at_rest(State::FA),
+    }
+}
+
+// State and press after an event.
+fn machine_after(m: Machine, event: Event, reached: bool, v: Values) -> Machine
+    ensures { λ r. ⌜ r ≡ machineAfter m event reached v ⌝ }
+{
+    let s = m.state;
+    let row = row_of(event);
+    match row {
+        Row::SwitchOn => at_rest(State::CO),
+        Row::Configure => at_rest(u(v)),
+        Row::SwitchOff => at_rest(State::NP),
+        Row::Fail => at_rest(State::FA),
+        Row::EngagePress => by_state(s, true, reached, v),
+        Row::ByState => by_state(s, m.press, reached, v),
+    }
+}
+
+// ---- the AD request
+
+fn ad_neutral(v: Values) -> bool
+    ensures { λ r. ⌜ r ≡ (isAD (v .mode) && N v) ⌝ }
+{
+    let mode = v.mode;
+    if !is_ad(mode) {
+        return false;
+    }
+    let lever = v.lever;
+    is_neutral(lever)
+}
+
+fn wanted(s: State, v: Values) -> bool
+    ensures { λ r. ⌜ r ≡ wanted s v ⌝ }
+{
+    match s {
+        State::NP => false,
+        State::CO => false,
+        State::NA => false,
+        State::AV => ad_neutral(v),
+        State::RE => true,
+        State::EG => true,
+        State::DE => true,
+        State::FA => false,
+    }
+}
+
+fn given(s: State, v: Values, before: bool) -> bool
+    ensures { λ r. ⌜ r ≡ given s v before ⌝ }
+{
+    if !wanted(s, v) {
+        return false;
+    }
+    let mode = v.mode;
+    if before { true } else { !is_ad(mode) }
+}
+
+// ---- the control group
+
+fn train_conditions(reports: u8) -> bool
+    ensures { λ r. ⌜ r ≡ T reports ⌝ }
+{
+    reports / 16 % 2 == 1
+}
+
+pub fn all_nine(word: u16) -> bool
+    ensures { λ r. ⌜ r ≡ allNine word ⌝ }
+{
+    word == ALL_CONDITIONS
+}
+
+fn values_in(c: Control, word: u16) -> Values
+    ensures { λ r. ⌜ r ≡ valuesIn c word ⌝ }
+{
+    let o = all_nine(word);
+    let t = train_conditions(c.reports);
+    let lever = lever_at(c.lever);
+    let mode = mode_at(c.mode);
+    Values {
+        O: o,
+        T: t,
+        lever: lever,
+        mode: mode,
+    }
+}
+
+fn machine_in(c: Control) -> Machine
+    ensures { λ r. ⌜ r ≡ machineIn c ⌝ }
+{
+    let s = state_at(c.state);
+    Machine {
+        state: s,
+        press: c.press,
+    }
+}
+
+// The control group after an event, from the group with the event's values already in it; `reached`: a point became reached in this event;
+// `word`: the nine conditions after it.
+pub fn control_after(c: Control, event: Event, reached: bool, word: u16) -> Control
+    ensures { λ r. ⌜ r ≡ controlAfter c event reached word ⌝ }
+{
+    let v = values_in(c, word);
+    let m = machine_after(machine_in(c), event, reached, v);
+    let s = m.state;
+    let request = given(s, v, c.request);
+    let code = code_of(s);
+    Control {
+        state: code,
+        mode: c.mode,
+        lever: c.lever,
+        reports: c.reports,
+        press: m.press,
+        request: request,
+    }
+}
+
+// ---- the places "power" and "state" of the table of numbers
+
+fn power_rows(s: State, kind: u8) -> Verdict
+    ensures { λ r. ⌜ verdictView r ≡ powerRows s kind ⌝ }
+{
+    if same(s, State::NP) {
+        return if kind == 1 {
+            Verdict::Accepted
+        } else {
+            Verdict::Refused(3)
+        };
+    }
+    if kind == 1 {
+        return Verdict::Refused(4);
+    }
+    if same(s, State::FA) {
+        return if kind == 3 {
+            Verdict::Accepted
+        } else {
+            Verdict::Refused(5)
+        };
+    }
+    Verdict::Accepted
+}
+
+fn state_row(s: State, kind: u8) -> Verdict
+    ensures { λ r. ⌜ verdictView r ≡ stateRow s kind ⌝ }
+{
+    if kind == 2 {
+        return if same(s, State::CO) {
+            Verdict::Accepted
+        } else {
+            Verdict::Refused(6)
+        };
+    }
+    if kind == 8 {
+        return if same(s, State::RE) {
+            Verdict::Accepted
+        } else {
+            Verdict::Refused(6)
+        };
+    }
+    Verdict::Accepted
+}
+
+// Both places, one after the other.
+pub fn state_rows(s: State, kind: u8) -> Verdict
+    ensures { λ r. ⌜ verdictView r ≡ stateRows s kind ⌝ }
+{
+    match power_rows(s, kind) {
+        Verdict::Accepted => state_row(s, kind),
+        Verdict::Refused(n) => Verdict::Refused(n),
+    }
+}
