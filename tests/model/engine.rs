@@ -432,7 +432,7 @@ fn point_content(route: &Route, k: u8, end_not_reached: bool, status: u8) -> Con
     Content::Point {
         nidc: route.segments()[usize::from(point.segment)].nidc,
         nidtp: point.nidtp,
-        eoj: u8::from(end_not_reached),
+        q_eoj_reached: u8::from(end_not_reached),
         alignment: point.alignment,
         status,
         stopping: if status == 1 { point.stopping } else { 0 },

@@ -13,8 +13,8 @@ pub struct Header {
 
 #[derive(Clone, Copy, PartialEq, Eq, Debug)]
 pub enum Content {
-    /// Packet 62. `eoj` is Q_EOJ_REACHED: 0 once the End of Journey is reached or passed.
-    Point { nidc: u16, nidtp: u32, eoj: u8, alignment: u8, status: u8, stopping: u8 },
+    /// Packet 62. Q_EOJ_REACHED is 0 once the End of Journey is reached or passed.
+    Point { nidc: u16, nidtp: u32, q_eoj_reached: u8, alignment: u8, status: u8, stopping: u8 },
     /// Packet 65.
     Load { nidc: u16, atots: u16, date: u16, seconds: u32, counter: u8, status: u8 },
     /// Packet 68.
@@ -100,9 +100,9 @@ impl Content {
 
     fn in_range(&self) -> bool {
         match *self {
-            Content::Point { nidc, eoj, alignment, status, stopping, .. } => {
+            Content::Point { nidc, q_eoj_reached, alignment, status, stopping, .. } => {
                 let stopping_fits = stopping == 0 || (status == 1 && stopping <= 127);
-                nidc <= 1023 && eoj <= 1 && alignment <= 2 && status <= 8 && stopping_fits
+                nidc <= 1023 && q_eoj_reached <= 1 && alignment <= 2 && status <= 8 && stopping_fits
             }
             Content::Load { nidc, atots, date, status, .. } => {
                 nidc <= 1024 && atots <= 16_384 && date <= 32_767 && status == 0
@@ -113,10 +113,10 @@ impl Content {
 
     fn put(&self, to: &mut Writer) {
         match *self {
-            Content::Point { nidc, nidtp, eoj, alignment, status, stopping } => {
+            Content::Point { nidc, nidtp, q_eoj_reached, alignment, status, stopping } => {
                 to.put(nidc.to_be_bytes());
                 to.put(nidtp.to_be_bytes());
-                to.put([eoj + 2 * alignment + 8 * status, stopping]);
+                to.put([q_eoj_reached + 2 * alignment + 8 * status, stopping]);
             }
             Content::Load { nidc, atots, date, seconds, counter, status } => {
                 to.put(nidc.to_be_bytes());
@@ -135,8 +135,8 @@ impl Content {
             62 => {
                 let (nidc, nidtp) = (from.u16()?, from.u32()?);
                 let info = within(from.u8()?, 0, 127)?;
-                let (eoj, alignment, status) = (info & 1, info >> 1 & 3, info >> 3);
-                Content::Point { nidc, nidtp, eoj, alignment, status, stopping: from.u8()? }
+                let (q_eoj_reached, alignment, status) = (info & 1, info >> 1 & 3, info >> 3);
+                Content::Point { nidc, nidtp, q_eoj_reached, alignment, status, stopping: from.u8()? }
             }
             65 => Content::Load {
                 nidc: from.u16()?,

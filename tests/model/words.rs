@@ -138,12 +138,12 @@ fn lacking(conditions: u16) -> String {
 /// A packet's content in words; `name` gives the name of a timing point.
 fn content_in_words(content: &Content, name: &dyn Fn(u32) -> String) -> String {
     match *content {
-        Content::Point { nidc, nidtp, eoj, alignment, status, stopping } => {
-            let end = if eoj == 0 { "reached or passed" } else { "ahead" };
+        Content::Point { nidc, nidtp, q_eoj_reached, alignment, status, stopping } => {
+            let end = if q_eoj_reached == 0 { "reached or passed" } else { "ahead" };
             let what = format!("{} {}", name(nidtp), STATUSES[usize::from(status)]);
             let alignment = ALIGNMENTS[usize::from(alignment)];
             format!(
-                "62 {what}: NID_C {nidc}, NID_TP {nidtp}, Q_EOJ_REACHED {eoj} (End of Journey {end}), \
+                "62 {what}: NID_C {nidc}, NID_TP {nidtp}, Q_EOJ_REACHED {q_eoj_reached} (End of Journey {end}), \
                  alignment {alignment}, stopping data {stopping}"
             )
         }

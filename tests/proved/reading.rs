@@ -16,8 +16,8 @@ fn expected(bytes: &[u8]) -> PacketFields {
     let header = Header { nidc, nidsp, offset, speed, operational };
     let read = |kind| PacketFields { accepted: true, kind, size: packet.size(), ..PacketFields::default() };
     match packet.content {
-        Content::Point { nidc, nidtp, eoj, alignment, status, stopping } => {
-            let timing_point = TimingPoint { header, nidc, nidtp, q_eoj_reached: eoj, alignment, status, stopping };
+        Content::Point { nidc, nidtp, q_eoj_reached, alignment, status, stopping } => {
+            let timing_point = TimingPoint { header, nidc, nidtp, q_eoj_reached, alignment, status, stopping };
             PacketFields { timing_point, ..read(62) }
         }
         Content::Load { nidc, atots, date, seconds, counter, status } => {
