@@ -13,6 +13,7 @@ use Rattle.engine_value.specs.declared.Point.{Point}
 use Rattle.engine_value.specs.declared.Progress.{Progress}
 use Rattle.engine_value.specs.declared.Engine.{Engine}
 use Rattle.journey.specs.declared.Head.{Head}
+use Rattle.packets.specs.Layouts.{kindSize, kind62, kind65, kind68}
 use Rattle.packets.specs.Packets.{joined}
 use Rattle.packets.specs.declared.Header.{Header}
 use Rattle.packets.specs.declared.TimingPoint.{TimingPoint}
@@ -73,9 +74,9 @@ packetsIn e w = packets65 e w ++ (packets62 e (changesIn (w .changes) (e .progre
 -- their bytes: 29, 25 and 19 each
 abbrev pub sizeIn : Writes → ℕ
 sizeIn w =
-    29 * flag (w .loaded)
-    + 25 * (flag (w .changes .first) + (w .changes .to - w .changes .from) + flag (w .changes .stopped))
-    + 19 * flag (w .due)
+    kindSize kind65 * flag (w .loaded)
+    + kindSize kind62 * (flag (w .changes .first) + (w .changes .to - w .changes .from) + flag (w .changes .stopped))
+    + kindSize kind68 * flag (w .due)
 
 -- packets put from a position on, and the position r behind them; they are at most 255
 pub record Put (at : ℕ) (ps : List Packet) (before after : List ℕ) (r : ℕ) : Type 0 where

@@ -132,7 +132,7 @@ fn country(e: Engine) -> u16
     if is_known(e) {
         e.train.position.nidc
     } else {
-        1024
+        packets::NIDC_UNKNOWN
     }
 }
 
@@ -197,7 +197,9 @@ pub fn size(w: Writes) -> usize
 {
     let c = w.changes;
     let changed = one_if(c.first) + count_of(c.from, c.to) + one_if(c.stopped);
-    29 * one_if(w.loaded) + 25 * changed + 19 * one_if(w.due)
+    packets::JP_RECEIVED_SIZE * one_if(w.loaded)
+        + packets::TIMING_POINT_SIZE * changed
+        + packets::ATO_STATUS_SIZE * one_if(w.due)
 }
 
 // ---- writing: each of these puts its packets from a position on, and tells the position behind them
@@ -210,7 +212,7 @@ fn put_received(e: Engine, w: Writes, out: &mut [u8]) -> usize
     }
     let p = jp_received(e, w.head);
     packet_writer::put_packet(p, out, 0);
-    29
+    packets::JP_RECEIVED_SIZE
 }
 
 fn put_first(e: Engine, c: Changes, out: &mut [u8], at: usize) -> usize
@@ -222,7 +224,7 @@ fn put_first(e: Engine, c: Changes, out: &mut [u8], at: usize) -> usize
     }
     let p = timing_point(e, c.index, c.status, c.after);
     packet_writer::put_packet(p, out, at);
-    at + 25
+    at + packets::TIMING_POINT_SIZE
 }
 
 fn put_passings(e: Engine, from: u8, to: u8, out: &mut [u8], at: usize) -> usize
@@ -246,7 +248,7 @@ fn put_passings(e: Engine, from: u8, to: u8, out: &mut [u8], at: usize) -> usize
         let point = if i < 64 { points[i] } else { blank };
         let packet = timing_point_of(header, e.load, point, 0, after);
         packet_writer::put_packet(packet, out, p);
-        p += 25;
+        p += packets::TIMING_POINT_SIZE;
         k += 1;
     }
     p
@@ -261,7 +263,7 @@ fn put_stopped(e: Engine, c: Changes, out: &mut [u8], at: usize) -> usize
     }
     let p = timing_point(e, e.progress.next, 1, e.progress);
     packet_writer::put_packet(p, out, at);
-    at + 25
+    at + packets::TIMING_POINT_SIZE
 }
 
 fn put_status(e: Engine, w: Writes, out: &mut [u8], at: usize)

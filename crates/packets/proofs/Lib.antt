@@ -1,3 +1,4 @@
 pub mod PacketLaws
 pub mod RoundTrips
+pub mod Cutting
 pub mod Examples

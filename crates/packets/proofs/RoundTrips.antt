@@ -1,13 +1,13 @@
 -- Writing and reading undo each other, in both orders; so no packet has two byte forms and no bytes have two readings.
-use Prim.Native.Nat.{ℕ, suc, _+_}
+use Prim.Native.Nat.{ℕ, zero, suc, _+_, _≤_}
 use mathlib.Core.Path.{_≡_, refl, sym, ap, _∙_, subst}
 use mathlib.Core.List.{List, [], _∷_, _++_, append-nil}
 use mathlib.Core.Bool.{Bool, true, false, not, _&&_}
 use native.Mathlib.Omega.{arith}
-use lib.ListN.{length, getD, drop, drop-of-length-le}
-use lib.Seq.{drop-cons, drop-at}
-use lib.Dec.{eqb, eqb·suc-zero}
-use borrow.Author.Tests.{eqb-true, eq-eqb}
+use lib.ListN.{length, getD, take, drop, drop-of-length-le, take-append-drop}
+use lib.Seq.{drop-cons, drop-at, take-at, length-take-le}
+use lib.Dec.{eqb, ltb, lit<, eqb·suc-zero}
+use borrow.Author.Tests.{eqb-true, eq-eqb, ltb-false}
 use Rattle.wire.specs.Numbers.{Bytes, if_then_else_}
 use Rattle.wire.specs.Lists.{All}
 use Rattle.wire.specs.Judged.{Judged, thenJudge, row}
@@ -17,8 +17,8 @@ use Rattle.layout.specs.Layout.{Values, bytes, size, valuesAt, fits}
 use Rattle.layout.proofs.LayoutLaws.{length-bytes, sound, Typed, read-written as values-back, written-read as bytes-back, read-typed as values-typed}
 use Rattle.packets.specs.Layouts.{PacketKind, headerLayout, contentAt, kindSize, kinds}
 use Rattle.packets.specs.View.{PacketValues, packetView}
-use Rattle.packets.specs.Packets.{valueBytes, packetBytes, sizeOf, valuesFit, packetFits, kindFrom, packetAt, judgedPacket, packetOf}
-use Rattle.packets.proofs.PacketLaws.{length-values}
+use Rattle.packets.specs.Packets.{valueBytes, packetBytes, sizeOf, valuesFit, packetFits, kindFrom, packetAt, judgedPacket, packetOf, writtenCount, writtenMemory}
+use Rattle.packets.proofs.PacketLaws.{length-values, written-all}
 use Rattle.packets.specs.declared.Packet.{Packet}
 
 -- ---- each kind
@@ -36,7 +36,7 @@ pub record Known (p : Packet) : Type 0 where
   pub told : kindFrom kinds (packetView p .kind .number) ≡ accept (packetView p .kind)
   pub sound-content : sound (packetView p .kind .content) ≡ true
 
-known : (p : Packet) → Known p
+pub known : (p : Packet) → Known p
 known (Packet.TimingPoint p) = record { remade = refl; told = refl; sound-content = refl }
 known (Packet.JpReceived p) = record { remade = refl; told = refl; sound-content = refl }
 known (Packet.AtoStatus p) = record { remade = refl; told = refl; sound-content = refl }
@@ -153,3 +153,46 @@ module _ (s : List ℕ) (p : Packet) (e : packetOf s ≡ accept p) where
 -- no packet has two byte forms
 pub one-form : (s t : List ℕ) (p : Packet) → Bytes s → Bytes t → packetOf s ≡ accept p → packetOf t ≡ accept p → s ≡ t
 one-form s t p b d e f = sym (written-read s p e b) ∙ written-read t p f d
+
+-- ---- the writer itself
+
+bytes-take : (n : ℕ) (l : List ℕ) → Bytes l → Bytes (take n l)
+bytes-take zero l b i = lit< tt
+bytes-take (suc n) [] b i = lit< tt
+bytes-take (suc n) (x ∷ l) b zero = b 0
+bytes-take (suc n) (x ∷ l) b (suc i) = bytes-take n l (λ j. b (suc j)) i
+
+-- what an accepted writing tells
+written-inv : (p : Packet) (memory : List ℕ) (n : ℕ) → writtenCount p memory ≡ accept n → (packetFits p ≡ true) × (sizeOf p ≤ length memory) × (sizeOf p ≡ n)
+unfolding writtenCount
+written-inv p memory n = go _ refl _ refl
+  where
+    go : (a : Bool) → packetFits p ≡ a → (b : Bool) → ltb (length memory) (sizeOf p) ≡ b
+        → thenJudge (row 19 (not a)) (λ _. thenJudge (row 16 b) (λ _. accept (sizeOf p))) ≡ accept n → (packetFits p ≡ true) × (sizeOf p ≤ length memory) × (sizeOf p ≡ n)
+    go true f false r e = (f, ltb-false _ _ r, cc)
+    go true f true r e = let z : _≡_ {A = ℕ} 0 1 = cc in absurd (omega arith)
+    go false f b r e = let z : _≡_ {A = ℕ} 0 1 = cc in absurd (omega arith)
+
+-- what the writer leaves in memory is read to the same packet
+pub read-memory : (p : Packet) (memory : List ℕ) (n : ℕ) → TypedPacket p → writtenCount p memory ≡ accept n → packetOf (take n (writtenMemory p memory)) ≡ accept p
+read-memory p memory n t e =
+    let w = written-inv p memory n e in
+    let front : take n (packetBytes p ++ drop (sizeOf p) memory) ≡ packetBytes p = take-at (packetBytes p) _ n (length-values (packetView p) ∙ w .2) in
+    ap (λ (m : List ℕ). packetOf (take n m)) (written-all p memory (w .0) (w .1) .1) ∙ ap packetOf front ∙ read-written p (w .0) t
+
+-- what was read and is written again restores its bytes, wherever there is room; the bytes behind are kept
+pub write-read : (s memory : List ℕ) (p : Packet) → Bytes s → packetOf s ≡ accept p → length s ≤ length memory
+    → (writtenCount p memory ≡ accept (length s)) × (writtenMemory p memory ≡ s ++ drop (length s) memory)
+write-read s memory p b e h =
+    let same : packetBytes p ≡ s = written-read s p e b in
+    let n : length s ≡ sizeOf p = ap length (sym same) ∙ length-values (packetView p) in
+    let w = written-all p memory (read-fits s p e) (omega arith) in
+    (w .0 ∙ ap accept (sym n), w .1 ∙ rw (same, n))
+
+-- written over the bytes that it was read from, it leaves the memory as it was
+pub write-over : (memory : List ℕ) (n : ℕ) (p : Packet) → Bytes memory → n ≤ length memory → packetOf (take n memory) ≡ accept p
+    → (writtenCount p memory ≡ accept n) × (writtenMemory p memory ≡ memory)
+write-over memory n p b h e =
+    let k : length (take n memory) ≡ n = length-take-le n memory h in
+    let w = write-read (take n memory) memory p (bytes-take n memory b) e (omega arith) in
+    (w .0 ∙ ap accept k, w .1 ∙ rw k (take-append-drop n memory))

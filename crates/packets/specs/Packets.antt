@@ -1,8 +1,8 @@
 -- Document 01, "Packets": bytes, size and ranges of a packet; the reader and the writer of one packet.
-use Prim.Native.Nat.{ℕ}
+use Prim.Native.Nat.{ℕ, zero, suc, min}
 use mathlib.Core.List.{List, [], _∷_, _++_}
 use mathlib.Core.Bool.{Bool, not, _&&_}
-use lib.ListN.{length, getD, drop}
+use lib.ListN.{length, getD, take, drop}
 use lib.Dec.{eqb, ltb}
 use Rattle.wire.specs.Numbers.{if_then_else_}
 use Rattle.wire.specs.Judged.{Judged, row, _>>=_, _>>_}
@@ -43,14 +43,6 @@ abbrev pub kindFrom : List PacketKind → ℕ → Judged PacketKind
 kindFrom [] n = refuse 18
 kindFrom (k ∷ ks) n = if eqb n (k .number) then accept k else kindFrom ks n
 
--- the bytes of the packet in front, by its number; 0 where no packet has it
-abbrev pub sizeFor : Judged PacketKind → ℕ
-sizeFor (refuse n) = 0
-sizeFor (accept k) = kindSize k
-
-abbrev pub sizeAt : List ℕ → ℕ
-sizeAt s = sizeFor (kindFrom kinds (getD s 0 0))
-
 -- the packet of a kind, with the values that stand in its bytes
 abbrev pub packetAt : PacketKind → List ℕ → Packet
 packetAt k s = k .packet (valuesAt headerLayout 1 s) (valuesAt (k .content) contentAt s)
@@ -85,3 +77,26 @@ memoryAfter (accept n) p memory = packetBytes p ++ drop n memory
 
 unfoldable pub writtenMemory : Packet → List ℕ → List ℕ
 writtenMemory p memory = memoryAfter (writtenCount p memory) p memory
+
+-- ---- packets in memory
+
+-- the bytes of the packet in front, by its number; 0 where no packet has it
+abbrev pub sizeFor : Judged PacketKind → ℕ
+sizeFor (refuse n) = 0
+sizeFor (accept k) = kindSize k
+
+abbrev pub sizeAt : List ℕ → ℕ
+sizeAt s = sizeFor (kindFrom kinds (getD s 0 0))
+
+-- the bytes of the piece in front: a packet or, where no packet has the number, all that are left
+abbrev pub frontSize : List ℕ → ℕ
+frontSize s = if eqb (sizeAt s) 0 then length s else min (sizeAt s) (length s)
+
+-- bytes cut into pieces, at most n of them
+unfoldable pub cut : ℕ → List ℕ → List (List ℕ)
+cut zero l = []
+cut (suc n) [] = []
+cut (suc n) (b ∷ l) = take (frontSize (b ∷ l)) (b ∷ l) ∷ cut n (drop (frontSize (b ∷ l)) (b ∷ l))
+
+unfoldable pub cutPackets : List ℕ → List (List ℕ)
+cutPackets l = cut (length l) l

@@ -3,7 +3,7 @@ ghost use mathlib.Core.Path.{_≡_};
 ghost use Rattle.layout.specs.Layout.{fits};
 ghost use Rattle.packets.specs.Layouts.{headerLayout};
 ghost use Rattle.packets.specs.View.{headerView};
-ghost use Rattle.packets.specs.Packets.{sizeOf, sizeAt, packetFits};
+ghost use Rattle.packets.specs.Packets.{sizeOf, sizeAt, frontSize, packetFits};
 
 // SUBSET-140, Table 3.
 #[repr(C)]
@@ -66,6 +66,9 @@ pub const JP_RECEIVED_SIZE: usize = 29;
 
 pub const ATO_STATUS_SIZE: usize = 19;
 
+// NID_C in the content of 65 where the position is not known.
+pub const NIDC_UNKNOWN: u16 = 1024;
+
 // The highest values of the fields that are not free.
 const NIDC_MAX: u16 = 1023;
 
@@ -78,8 +81,6 @@ const STATUS_MAX: u8 = 8;
 const STATUS_STOPPED: u8 = 1;
 
 const STOPPING_MAX: u8 = 127;
-
-const NIDC_UNKNOWN: u16 = 1024;
 
 const ATOTS_MAX: u16 = 16384;
 
@@ -113,6 +114,17 @@ pub fn size_at(s: &[u8]) -> usize
         ATO_STATUS => ATO_STATUS_SIZE,
         _ => 0,
     }
+}
+
+// The bytes of the piece in front: a packet or, where no packet has the number, all that are left.
+pub fn front_size(s: &[u8]) -> usize
+    ensures { λ r. ⌜ r ≡ frontSize (now (s .entry)) ⌝ }
+{
+    let n = size_at(s);
+    if n == 0 {
+        return s.len();
+    }
+    if n < s.len() { n } else { s.len() }
 }
 
 fn header_fits(h: Header) -> bool

@@ -16,8 +16,10 @@ use Rattle.wire.proofs.NumberLaws.{sets-past}
 use Rattle.wire.specs.Parse.{field}
 use Rattle.wire.specs.Parse.Parse.{bad, good}
 use Rattle.wire.proofs.ReaderLaws.{field-short, field-good, field-inv, then-inv, cond-good}
+use Rattle.packets.specs.Packets.{frontSize}
+use Rattle.packets.proofs.Cutting.{cut-none, cut-first}
 use Rattle.player_text.specs.Calls.{Given, some, block, profiles, call}
-use Rattle.player_text.specs.Lines.{Put, decimal, hex, hexByte, hexLine, packetSize, packetLines, packetText}
+use Rattle.player_text.specs.Lines.{Put, decimal, hex, hexByte, hexLine, hexLines, packetText}
 
 -- ---- texts
 
@@ -181,58 +183,15 @@ pub flag-byte : (b : Bool) → boolByte b ≡ flag b
 flag-byte true = refl
 flag-byte false = refl
 
--- a packet is not empty
-pub size-pos : (b left : ℕ) → 1 ≤ left → 1 ≤ packetSize b left
-size-pos b left h = go (eqb b 62) (eqb b 65) (eqb b 68)
-  where
-    go : (x y z : Bool) → 1 ≤ cond x 25 (cond y 29 (cond z 19 left))
-    go true y z = omega arith
-    go false true z = omega arith
-    go false false true = omega arith
-    go false false false = h
-
-pub size-most : (b left : ℕ) → packetSize b left ≤ left + 29
-size-most b left = go (eqb b 62) (eqb b 65) (eqb b 68)
-  where
-    go : (x y z : Bool) → cond x 25 (cond y 29 (cond z 19 left)) ≤ left + 29
-    go true y z = omega arith
-    go false true z = omega arith
-    go false false true = omega arith
-    go false false false = omega arith
-
--- any count of packets that is large enough gives the same lines
-enough : (j k : ℕ) (l : List ℕ) → length l ≤ j → length l ≤ k → packetLines j l ≡ packetLines k l
-unfolding packetLines
-enough zero zero l p q = refl
-enough zero (suc k) [] p q = refl
-enough (suc j) zero [] p q = refl
-enough zero (suc k) (b ∷ l) p q = absurd (omega arith)
-enough (suc j) zero (b ∷ l) p q = absurd (omega arith)
-enough (suc j) (suc k) [] p q = refl
-enough (suc j) (suc k) (b ∷ l) p q =
-    let n = packetSize b (length (b ∷ l)) in
-    let g : 1 ≤ packetSize b (length (b ∷ l)) = size-pos b (length (b ∷ l)) (omega arith) in
-    ap (λ (x : List ℕ). hexLine (take n (b ∷ l)) ++ x)
-    (enough j k (drop n (b ∷ l)) (rw length-drop (omega arith)) (rw length-drop (omega arith)))
-
-first-packet : (l : List ℕ) → 1 ≤ length l
-    → hexLine (take (packetSize (getD l 0 0) (length l)) l) ++ packetText (drop (packetSize (getD l 0 0) (length l)) l) ≡ packetText l
-unfolding packetLines
-first-packet [] h = absurd (omega arith)
-first-packet (b ∷ l) h =
-    let n = packetSize b (length (b ∷ l)) in
-    let g : 1 ≤ packetSize b (length (b ∷ l)) = size-pos b (length (b ∷ l)) h in
-    ap (λ (x : List ℕ). hexLine (take n (b ∷ l)) ++ x)
-    (enough (length (drop n (b ∷ l))) (length l) (drop n (b ∷ l)) (omega arith) (rw length-drop (omega arith)))
-
 -- the packet at a position, and those behind it
 module _ (s : List ℕ) (i : ℕ) where
   pub packets-end : length s ≤ i → packetText (drop i s) ≡ []
-  unfolding packetLines
-  packets-end h = rw (drop-of-length-le s h)
+  unfolding hexLines
+  packets-end h = rw (drop-of-length-le s h, cut-none)
 
-  pub packets-more : (n : ℕ) → n ≡ packetSize (getD s i 0) (length s - i) → i < length s
+  pub packets-more : (n : ℕ) → n ≡ frontSize (drop i s) → i < length s
       → hexLine (take n (drop i s)) ++ packetText (drop (i + n) s) ≡ packetText (drop i s)
+  unfolding hexLines
   packets-more n e h =
-      let z : n ≡ packetSize (getD (drop i s) 0 0) (length (drop i s)) = rw (getD-drop, add-zero, length-drop) e in
-      rw (← drop-drop n i s, z) (first-packet (drop i s) (rw length-drop (omega arith)))
+      let some : 1 ≤ length (drop i s) = rw length-drop (omega arith) in
+      rw (← drop-drop n i s, e, cut-first (drop i s) some)

@@ -15,10 +15,11 @@ use Rattle.wire.specs.Judged.Judged.{refuse, accept}
 use Rattle.wire.specs.Parse.{field}
 use Rattle.wire.specs.Parse.Parse.{good}
 use Rattle.wire.proofs.ReaderLaws.{field-good}
+use Rattle.packets.specs.Packets.{frontSize, cut, cutPackets}
+use Rattle.packets.proofs.Cutting.{front-some}
 use Rattle.call.specs.Call.{Accepted}
 use Rattle.player_text.specs.Calls.{Given, some, block, profiles, call}
-use Rattle.player_text.specs.Lines.{hex, decimal, packetSize, packetLines, lines, Put}
-use Rattle.player_text.proofs.Laws.{size-pos}
+use Rattle.player_text.specs.Lines.{hex, hexLines, decimal, lines, Put}
 
 -- where there is room, a list stands whole at its position
 pub put-whole : {t u : List ℕ} {i j : ℕ} (l : List ℕ) → Put t i l u j → i + length l ≤ length t
@@ -41,18 +42,18 @@ length-decimal (suc k) n = rw length-append (go (ltb n 10) (length-decimal k (n 
     go true h = omega arith
     go false h = omega arith
 
-length-packets : (k : ℕ) (l : List ℕ) → length (packetLines k l) ≤ 3 * length l
-unfolding packetLines
+length-packets : (k : ℕ) (l : List ℕ) → length (hexLines (cut k l)) ≤ 3 * length l
+unfolding hexLines cut
 length-packets zero l = omega arith
 length-packets (suc k) [] = omega arith
 length-packets (suc k) (b ∷ l) =
-    let n = packetSize b (length (b ∷ l)) in
-    let g : 1 ≤ packetSize b (length (b ∷ l)) = size-pos b (length (b ∷ l)) (omega arith) in
+    let n = frontSize (b ∷ l) in
+    let g : 1 ≤ frontSize (b ∷ l) = front-some (b ∷ l) (omega arith) in
     let rest = simp length-drop at (length-packets k (drop n (b ∷ l))) in
     rw (length-append, length-append, length-hex, length-take) (omega (arith, rest))
 
 pub lines-fit : (a : Judged Accepted) (m : List ℕ) → length m ≤ 4096 → length (lines a m) ≤ 16384
-unfolding lines
+unfolding lines cutPackets
 lines-fit (refuse n) m h = simp length-append (omega (arith, length-decimal 20 n))
 lines-fit (accept a) m h =
     let t : length (take (a .bytes) m) ≤ 4096 = rw length-take (omega arith) in

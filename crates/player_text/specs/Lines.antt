@@ -3,12 +3,13 @@ use Prim.Native.Nat.{ℕ, zero, suc, _+_, _/_, _%_, min, max}
 use mathlib.Core.Path.{_≡_}
 use mathlib.Core.List.{List, [], _∷_, _++_}
 use mathlib.Core.Bool.{Bool}
-use lib.ListN.{length, take, drop}
+use lib.ListN.{length, take}
 use lib.Seq.{sets}
-use lib.Dec.{eqb, ltb}
+use lib.Dec.{ltb}
 use Rattle.wire.specs.Numbers.{flag, if_then_else_}
 use Rattle.wire.specs.Judged.{Judged}
 use Rattle.wire.specs.Judged.Judged.{refuse, accept}
+use Rattle.packets.specs.Packets.{cutPackets}
 use Rattle.call.specs.Call.{Accepted}
 
 -- ---- numbers as text, in ASCII
@@ -44,23 +45,13 @@ spaced n = space ++ decimal 20 n
 abbrev pub hexLine : List ℕ → List ℕ
 hexLine l = hex l ++ newline
 
--- the bytes of a packet with this number; with any other number, all that is left
-abbrev pub packetSize : ℕ → ℕ → ℕ
-packetSize number left =
-    if eqb number 62 then 25 else
-    if eqb number 65 then 29 else
-    if eqb number 68 then 19 else left
-
--- a line a packet, for k packets at most
-unfoldable pub packetLines : ℕ → List ℕ → List ℕ
-packetLines zero l = []
-packetLines (suc k) [] = []
-packetLines (suc k) (b ∷ l) =
-    let n = packetSize b (length (b ∷ l)) in
-    hexLine (take n (b ∷ l)) ++ packetLines k (drop n (b ∷ l))
+-- "a line of uppercase hexadecimal a packet"
+unfoldable pub hexLines : List (List ℕ) → List ℕ
+hexLines [] = []
+hexLines (p ∷ ps) = hexLine p ++ hexLines ps
 
 abbrev pub packetText : List ℕ → List ℕ
-packetText l = packetLines (length l) l
+packetText l = hexLines (cutPackets l)
 
 abbrev pub refusedLine : ℕ → List ℕ
 refusedLine n = (82 ∷ []) ++ (spaced n ++ newline)

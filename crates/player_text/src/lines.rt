@@ -3,11 +3,10 @@ ghost use Prim.Native.Nat.{_+_, _%_};
 ghost use mathlib.Core.Path.{_≡_};
 ghost use mathlib.Core.List.{[], _∷_};
 ghost use Rattle.call.specs.Call.{answerOf};
-ghost use Rattle.player_text.specs.Lines.{hexByte, hexLine, packetSize, packetText, decimal, spaced, refusedLine, acceptedLine, Put};
+ghost use Rattle.player_text.specs.Lines.{hexByte, hexLine, packetText, decimal, spaced, refusedLine, acceptedLine, Put};
 ghost use Rattle.player_text.specs.Lines.{digit as Lines·digit, lines as Lines·lines};
-use crate::parts::Part;
-use crate::parts::bytes_of;
 use crate::parts::front;
+use crate::parts::rest;
 use call::Answer;
 
 // One byte at a position, and the next position; where the text is full, nothing.
@@ -47,18 +46,6 @@ fn put_line(text: &mut [u8], at: usize, s: &[u8]) -> usize
     put(text, next, b'\n')
 }
 
-// The size of the packet with this number; with another number it is all that is left.
-fn packet_size(number: u8, left: usize) -> usize
-    ensures { λ r. ⌜ r ≡ packetSize number left ⌝ }
-{
-    match number {
-        62 => 25,
-        65 => 29,
-        68 => 19,
-        _ => left,
-    }
-}
-
 // A line for each packet.
 fn put_packets(text: &mut [u8], at: usize, s: &[u8]) -> usize
     ensures { λ r. ⌜ Put (now (text .entry)) at (packetText (now (s .entry))) (now (text .exit)) r ⌝ }
@@ -66,13 +53,10 @@ fn put_packets(text: &mut [u8], at: usize, s: &[u8]) -> usize
     let mut next = at;
     let mut from = 0;
     while from < s.len() {
-        let end = from + packet_size(s[from], s.len() - from);
-        let packet = Part {
-            start: from,
-            end: end,
-        };
-        next = put_line(text, next, bytes_of(s, packet));
-        from = end;
+        let left = rest(s, from);
+        let n = packets::front_size(left);
+        next = put_line(text, next, front(left, n));
+        from = from + n;
     }
     next
 }

@@ -1,7 +1,7 @@
 // Parts of a slice.
 ghost use Prim.Native.Nat.{min};
 ghost use mathlib.Core.Path.{_≡_};
-ghost use lib.ListN.{length, take};
+ghost use lib.ListN.{length, take, drop};
 ghost use Rattle.player_text.specs.Parts.{partOf};
 
 // From a start to an end.
@@ -30,6 +30,19 @@ pub fn front(s: &[u8], n: usize) -> &[u8]
     ensures { λ r. ⌜ now r ≡ take n (now (s .entry)) ⌝ }
 {
     bytes_of(s, Part { start: 0, end: n })
+}
+
+// The bytes from a position on.
+pub fn rest(s: &[u8], at: usize) -> &[u8]
+    ensures { λ r. ⌜ now r ≡ drop at (now (s .entry)) ⌝ }
+{
+    bytes_of(
+        s,
+        Part {
+            start: at,
+            end: s.len(),
+        },
+    )
 }
 
 // The bytes of a part go to the front of the slice, and it answers how many there are.

@@ -15,7 +15,7 @@ use Rattle.event.specs.declared.Event.{Event}
 use Rattle.event.specs.Kinds.{Role, off, load, report, other, skip}
 use Rattle.event.proofs.Known.{OfRole, known}
 use Rattle.event.specs.declared.Event.the-variants as kind
-use Rattle.packets.specs.Packets.{packetOf}
+use Rattle.packets.specs.Packets.{packetOf, cut, cutPackets}
 use Rattle.packets.specs.declared.TimingPoint.{TimingPoint}
 use Rattle.packets.specs.declared.Packet.{Packet}
 use Rattle.timing.specs.Position.{point, pointCount}
@@ -31,7 +31,7 @@ use Rattle.call.specs.Call.{Call, stepOf}
 use Rattle.whole_list.specs.Values.{History, eventOfCall, positionBy, routeBy, reportAt, roleOfCall}
 use Rattle.whole_list.specs.Table.{skipChange, changesBy, headOfCall, statusBy, progressBy, packetsBy, tableBy}
 use Rattle.whole_list.specs.Calls.{engineAfter, historyOf}
-use Rattle.whole_list.specs.Recorded.{cut, cutPackets, In}
+use Rattle.whole_list.specs.Recorded.{In}
 use Rattle.whole_list.specs.WholeList.{bytesOfEach, JudgedByTable, TrulyPassed, NothingAhead}
 use Rattle.whole_list.proofs.Fields.{progressRun, in-range}
 use Rattle.whole_list.proofs.FieldsStep.{route-kept, position-new, report-is, changes-is}

@@ -1,62 +1,29 @@
 -- What an event writes is read again in memory, packet by packet; which packet 68 is the last one; and what it tells.
-use mathlib.Core.Path.{_≡_, refl, sym, _∙_, ap}
+use mathlib.Core.Path.{_≡_, refl, _∙_, ap}
 use mathlib.Core.Bool.{Bool, true, false}
 use mathlib.Core.List.{List, [], _∷_, _++_, map}
 use mathlib.Core.Option.{Option, none, some}
-use Prim.Native.Nat.{ℕ, zero, suc, _≤_}
+use Prim.Native.Nat.{ℕ, _≤_}
 use native.Mathlib.Omega.{arith}
-use lib.Dec.{eqb}
-use lib.ListN.{length, drop, getD, length-append}
-use lib.Seq.{take-append-seam, drop-append-seam}
-use borrow.Author.Tests.{le-leb, ne-eqb}
+use lib.ListN.{length, take, drop}
+use lib.Seq.{take-append-seam}
+use borrow.Author.Tests.{le-leb}
 use Rattle.wire.specs.Numbers.{if_then_else_}
 use Rattle.engine_value.specs.Engine.{Route, max2, max4, undefined}
 use Rattle.engine_value.specs.declared.Position.{Position}
 use Rattle.journey.specs.declared.Head.{Head}
-use Rattle.packets.specs.Packets.{valueBytes, packetBytes, joined, sizeOf}
-use Rattle.packets.proofs.PacketLaws.{length-packetBytes}
+use Rattle.packets.specs.Packets.{valueBytes, packetBytes, joined, cutPackets}
+use Rattle.packets.proofs.Cutting.{cut-joined}
 use Rattle.packets.proofs.RoundTrips.{read-written}
 use Rattle.packets.specs.declared.Packet.{Packet}
 use Rattle.timing.specs.Changes.{Change, when}
 use Rattle.call.specs.Packets.{header, timingPoint, jpReceived, atoStatus, Status, statusDue, received, packetsOf}
-use Rattle.whole_list.specs.Recorded.{sizeBy, cut, cutPackets, newest}
+use Rattle.whole_list.specs.Recorded.{newest}
 use Rattle.whole_list.specs.WholeList.{bytesOfEach, StatusPacket}
 
--- ---- packets one after the other
-
--- a packet's first byte tells its size
-size-first : (p : Packet) (rest : List ℕ) → sizeBy (getD (packetBytes p ++ rest) 0 0) ≡ length (packetBytes p)
-unfolding valueBytes
-size-first (Packet.TimingPoint p) rest = sym (length-packetBytes (Packet.TimingPoint p))
-size-first (Packet.JpReceived p) rest = sym (length-packetBytes (Packet.JpReceived p))
-size-first (Packet.AtoStatus p) rest = sym (length-packetBytes (Packet.AtoStatus p))
-
-size-some : (p : Packet) → 1 ≤ sizeOf p
-size-some (Packet.TimingPoint p) = omega arith
-size-some (Packet.JpReceived p) = omega arith
-size-some (Packet.AtoStatus p) = omega arith
-
-joined-long : (ps : List Packet) → length ps ≤ length (joined ps)
-joined-long [] = omega arith
-joined-long (p ∷ ps) = simp (length-append, length-packetBytes) (omega (arith, joined-long ps, size-some p))
-
-cut-joined : (ps : List Packet) (n : ℕ) → length ps ≤ n → cut n (joined ps) ≡ bytesOfEach ps
-unfolding cut
-cut-joined [] zero h = refl
-cut-joined [] (suc n) h = refl
-cut-joined (p ∷ ps) zero h = absurd (omega arith)
-cut-joined (p ∷ ps) (suc n) h =
-    let some : eqb (length (packetBytes p)) 0 ≡ false = ne-eqb (length (packetBytes p)) 0 (λ e. omega (arith, size-some p, length-packetBytes p)) in
-    rw (size-first p (joined ps), some, take-append-seam, drop-append-seam, cut-joined ps n (omega arith))
-
--- what was written in front is read there
-pub front-read : (ps : List Packet) (rest : List ℕ) → cutPackets (length (joined ps)) (joined ps ++ rest) ≡ bytesOfEach ps
-unfolding cutPackets
-front-read ps rest = rw take-append-seam (cut-joined ps (length (joined ps)) (joined-long ps))
-
 -- the packets in the memory of an accepted call
-pub memory-read : (ps : List Packet) (memory : List ℕ) → cutPackets (length (joined ps)) (joined ps ++ drop (length (joined ps)) memory) ≡ bytesOfEach ps
-memory-read ps memory = front-read ps (drop (length (joined ps)) memory)
+pub memory-read : (ps : List Packet) (memory : List ℕ) → cutPackets (take (length (joined ps)) (joined ps ++ drop (length (joined ps)) memory)) ≡ bytesOfEach ps
+memory-read ps memory = rw take-append-seam (cut-joined ps)
 
 -- ---- the last packet 68 of an event
 

@@ -17,7 +17,7 @@ use Rattle.event.specs.declared.Event.{Event}
 use Rattle.event.specs.declared.Row.{Row}
 use Rattle.event.specs.declared.Row.the-variants.{SwitchOn, Configure, SwitchOff, Fail, EngagePress, ByState}
 use Rattle.event.proofs.Known.{OfRow, known}
-use Rattle.packets.specs.Packets.{joined}
+use Rattle.packets.specs.Packets.{joined, cut, cutPackets}
 use Rattle.timing.specs.Report.{run}
 use Rattle.states.specs.Codes.{code, stateAt}
 use Rattle.states.proofs.CodeLaws.{state-code}
@@ -32,7 +32,7 @@ use Rattle.whole_list.specs.Values.{History, eventOfCall, latest, routeB
 use Rattle.whole_list.specs.Rules.{conditionsBy, machineBy, stateBy, requestBy, Engaged}
 use Rattle.whole_list.specs.Table.{packetsBy, answerBy, tableBy}
 use Rattle.whole_list.specs.Calls.{play, engineAfter, trace, withAccepted, acceptedIn, historyOf, laterAnswer, lastAnswer, keep, acceptedCalls}
-use Rattle.whole_list.specs.Recorded.{bytesWritten, cut, cutPackets, newest, lastStatus}
+use Rattle.whole_list.specs.Recorded.{bytesWritten, packetsAfter, newest, lastStatus}
 use Rattle.whole_list.specs.WholeList.{EngagedExactly, PointsStand, bytesOfEach, StatusPacket, StatusWritten, JudgedByTable, WholeList, NothingAhead, NoTrace, RequestExactly}
 use Rattle.whole_list.proofs.Fields.{skipsOf, progressRun, engineOf, stands-at}
 use Rattle.whole_list.proofs.FieldsControl.{conditions-in}
@@ -78,8 +78,8 @@ module _ (h : History) (c : Call) where
       go (refuse m) e = same-number _ (tableBy h c) m n (ap (λ r. r .answer) (refused-is m e)) e
       go (accept u) e = no-number _ (tableBy h c) (answerBy h c) u n (ap (λ r. r .answer) (accepted-is e)) e
 
-  written-is : tableBy h c ≡ accept tt → cutPackets (bytesWritten (stepOf (engineOf h) c .answer)) (stepOf (engineOf h) c .memory) ≡ bytesOfEach (packetsBy h c)
-  written-is e = ap (λ r. cutPackets (bytesWritten (r .answer)) (r .memory)) (accepted-is e) ∙ memory-read (packetsBy h c) (c .memory)
+  written-is : tableBy h c ≡ accept tt → packetsAfter (stepOf (engineOf h) c .answer) (stepOf (engineOf h) c .memory) ≡ bytesOfEach (packetsBy h c)
+  written-is e = ap (λ r. packetsAfter (r .answer) (r .memory)) (accepted-is e) ∙ memory-read (packetsBy h c) (c .memory)
 
   behind-is : tableBy h c ≡ accept tt → drop (bytesWritten (stepOf (engineOf h) c .answer)) (stepOf (engineOf h) c .memory) ≡ drop (bytesWritten (stepOf (engineOf h) c .answer)) (c .memory)
   behind-is e =
@@ -142,7 +142,7 @@ named-more (x ∷ h) c o e n = names-next o (x ∷ h) c n
 
 -- the call's outcome in the trace
 abbrev Next : Call → History → Option (List ℕ) → Option Accepted → Outcome → Type 0
-Next c h o a r = Kept (r .engine) (withAccepted (r .answer) c h) (newest o (cutPackets (bytesWritten (r .answer)) (r .memory))) (laterAnswer (r .answer) a)
+Next c h o a r = Kept (r .engine) (withAccepted (r .answer) c h) (newest o (packetsAfter (r .answer) (r .memory))) (laterAnswer (r .answer) a)
 
 keeps-one : (h : History) (o : Option (List ℕ)) (a : Option Accepted) (c : Call) → Good h → Named h o → Answered h a → Next c h o a (stepOf (engineOf h) c)
 unfolding cutPackets cut newest

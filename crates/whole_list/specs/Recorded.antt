@@ -3,12 +3,13 @@ use mathlib.Core.List.{List, [], _∷_}
 use mathlib.Core.Logic.{_⊎_}
 use mathlib.Core.Option.{Option, some}
 use mathlib.Core.Path.{_≡_}
-use Prim.Native.Nat.{ℕ, zero, suc}
-use lib.ListN.{take, drop, getD}
+use Prim.Native.Nat.{ℕ}
+use lib.ListN.{take, getD}
 use lib.Dec.{eqb}
 use Rattle.wire.specs.Numbers.{if_then_else_}
 use Rattle.wire.specs.Judged.{Judged}
 use Rattle.wire.specs.Judged.Judged.{refuse, accept}
+use Rattle.packets.specs.Packets.{cutPackets}
 use Rattle.call.specs.Call.{Accepted}
 use Rattle.whole_list.specs.Calls.{Done}
 
@@ -17,20 +18,12 @@ abbrev pub bytesWritten : Judged Accepted → ℕ
 bytesWritten (refuse n) = 0
 bytesWritten (accept a) = a .bytes
 
--- "for 62, 65, 68 .. 25, 29, 19 bytes"; 0 for another number
-abbrev pub sizeBy : ℕ → ℕ
-sizeBy n = if eqb n 62 then 25 else if eqb n 65 then 29 else if eqb n 68 then 19 else 0
-
--- the bytes cut into packets by their numbers, at most n of them
-unfoldable pub cut : ℕ → List ℕ → List (List ℕ)
-cut zero l = []
-cut (suc n) l = if eqb (sizeBy (getD l 0 0)) 0 then [] else take (sizeBy (getD l 0 0)) l ∷ cut n (drop (sizeBy (getD l 0 0)) l)
-
-unfoldable pub cutPackets : ℕ → List ℕ → List (List ℕ)
-cutPackets n memory = cut n (take n memory)
+-- "a packet 68 is read in its call's output memory as that call left it": the packets at the front of that memory
+abbrev pub packetsAfter : Judged Accepted → List ℕ → List (List ℕ)
+packetsAfter answer memory = cutPackets (take (bytesWritten answer) memory)
 
 abbrev pub recordedBy : Done → List (List ℕ)
-recordedBy d = cutPackets (bytesWritten (d .answer)) (d .memory)
+recordedBy d = packetsAfter (d .answer) (d .memory)
 
 abbrev pub numberIn : List ℕ → ℕ
 numberIn p = getD p 0 0

@@ -2,7 +2,7 @@
 use mathlib.Core.Path.{_≡_}
 use mathlib.Core.Logic.{_≢_, _↔_}
 use mathlib.Core.Bool.{true}
-use mathlib.Core.List.{List, [], _∷_, _++_}
+use mathlib.Core.List.{List, [], _∷_, _++_, map}
 use mathlib.Core.Option.{Option, none, some}
 use Prim.Native.Nat.{ℕ, _≤_, _<_}
 use lib.ListN.{length, drop}
@@ -28,7 +28,7 @@ use Rattle.whole_list.specs.Values.{History, eventOfCall, routeBy, repor
 use Rattle.whole_list.specs.Rules.{StandsBy, conditionsBy, valuesBy, stateBy, requestBy, upto, Engaged}
 use Rattle.whole_list.specs.Table.{packetsBy, answerBy, tableBy}
 use Rattle.whole_list.specs.Calls.{engineAfter, trace, historyOf, lastAnswer, acceptedCalls}
-use Rattle.whole_list.specs.Recorded.{bytesWritten, cutPackets, lastStatus, In}
+use Rattle.whole_list.specs.Recorded.{bytesWritten, packetsAfter, lastStatus, In}
 
 -- 1. "Engaged is state 5, in the engine and in the last accepted answer": e is the engine, h the history, `last` the last accepted answer
 pub record EngagedExactly (e : Engine) (h : History) (last : Option Accepted) : Type 0 where
@@ -42,8 +42,7 @@ pub record PointsStand (e : Engine) (h : History) : Type 0 where
   pub each : (k : ℕ) → k < pointCount (routeBy h) → (s : Standing) → (standing (e .progress) k ≡ s) ↔ StandsBy h k s
 
 abbrev pub bytesOfEach : List Packet → List (List ℕ)
-bytesOfEach [] = []
-bytesOfEach (p ∷ l) = packetBytes p ∷ bytesOfEach l
+bytesOfEach l = map packetBytes l
 
 -- a packet 68 with these values
 pub record StatusPacket (packet : List ℕ) (state conditions : ℕ) : Type 0 where
@@ -68,7 +67,7 @@ pub record JudgedByTable (e : Engine) (h : History) (c : Call) (r : Outcome) : T
   pub refused-memory : (n : ℕ) → tableBy h c ≡ refuse n → r .memory ≡ c .memory
   -- accepted: what is answered, the packets that stand at the front of memory, and that the bytes behind them are kept
   pub answer : tableBy h c ≡ accept tt → r .answer ≡ accept (answerBy h c)
-  pub packets : tableBy h c ≡ accept tt → cutPackets (bytesWritten (r .answer)) (r .memory) ≡ bytesOfEach (packetsBy h c)
+  pub packets : tableBy h c ≡ accept tt → packetsAfter (r .answer) (r .memory) ≡ bytesOfEach (packetsBy h c)
   pub behind : tableBy h c ≡ accept tt → drop (bytesWritten (r .answer)) (r .memory) ≡ drop (bytesWritten (r .answer)) (c .memory)
   pub as-long : length (r .memory) ≡ length (c .memory)
 
@@ -100,7 +99,7 @@ pub record TrulyPassed (h : History) (packet : List ℕ) : Type 0 where
 abbrev pub NothingAhead : List Call → Call → Type 0
 NothingAhead earlier c =
     let r = stepOf (engineAfter earlier) c in
-    (packet : List ℕ) → In packet (cutPackets (bytesWritten (r .answer)) (r .memory))
+    (packet : List ℕ) → In packet (packetsAfter (r .answer) (r .memory))
     → (p : TimingPoint) → packetOf packet ≡ accept (Packet.TimingPoint p) → p .status ≡ statusPassed
     → TrulyPassed (c ∷ historyOf earlier) packet
 

@@ -3,10 +3,12 @@ use Prim.Native.Nat.{ℕ, _+_, _-_, _<_, _≤_}
 use mathlib.Core.Path.{_≡_, refl, ap, _∙_}
 use mathlib.Core.List.{List, [], _++_, append-assoc, append-nil}
 use denote.Ref.{now}
-use lib.ListN.{length, getD, take, drop}
+use lib.ListN.{length, take, drop, length-drop}
 use native.Mathlib.Omega.{arith}
+use Rattle.packets.specs.Packets.{frontSize}
+use Rattle.packets.proofs.Cutting.{front-some, front-most}
 use Rattle.player_text.specs.Lines.{Put, hexLine, packetText}
-use Rattle.player_text.proofs.Laws.{put-none, put-then, put-length, size-pos, size-most, packets-more, packets-end}
+use Rattle.player_text.proofs.Laws.{put-none, put-then, put-length, packets-more, packets-end}
 use borrow.Author.Needs.{needs}
 use Rattle.player_text.proofs.lines.put_packets.Statement.{statement}
 use Rattle.player_text.proofs.lines.put_packets.Tie as tie
@@ -20,46 +22,45 @@ abbrev μ-loop : tie.MeasureT-loop
 loop-holds : tie.Need-loop-holds Inv-loop μ-loop
 loop-holds c = ([], put-none _ _, refl)
 
-shared-slice-read-packet-size : tie.Need-shared-slice-read-packet-size Inv-loop μ-loop
-shared-slice-read-packet-size c = search needs
+rest-requires : tie.Need-rest-requires Inv-loop μ-loop
+rest-requires c κs = search needs
 
-sub-packet-size : tie.Need-sub-packet-size Inv-loop μ-loop
-sub-packet-size c = search needs
+front-size-requires : tie.Need-front-size-requires Inv-loop μ-loop
+front-size-requires c κs = search needs
 
-packet-size-requires : tie.Need-packet-size-requires Inv-loop μ-loop
-packet-size-requires c κs = search needs
-
-add-end : tie.Need-add-end Inv-loop μ-loop
-add-end c =
-    let s = now (c .before .before .before .before .before .before .args .s) in
-    let i = c .before .before .before .loop .from in
-    omega (arith, c .packet-size .ensures, size-most (getD s i 0) (length s - i))
-
-bytes-of-requires : tie.Need-bytes-of-requires Inv-loop μ-loop
-bytes-of-requires c κs = search needs
+front-requires : tie.Need-front-requires Inv-loop μ-loop
+front-requires c κs = search needs
 
 put-line-requires : tie.Need-put-line-requires Inv-loop μ-loop
 put-line-requires c κs = search needs
+
+-- the piece at a position
+size-is : (c : tie.After-slice-known2 Inv-loop μ-loop) → c .before .before .before .before .before .front-size .result ≡ frontSize (drop (c .before .before .before .before .before .before .before .before .loop .from) (now (c .before .before .before .before .before .before .before .before .before .before .before .args .s)))
+size-is c = c .before .before .before .before .before .front-size .ensures ∙ ap frontSize (c .before .before .before .before .before .before .rest .ensures)
+
+add-from : tie.Need-add-from Inv-loop μ-loop
+add-from c =
+    let s = now (c .before .before .before .before .before .before .before .before .before .before .before .args .s) in
+    let i = c .before .before .before .before .before .before .before .before .loop .from in
+    omega (arith, size-is c, front-most (drop i s), length-drop i s)
 
 loop-less : tie.Need-loop-less Inv-loop μ-loop
 loop-less c =
     let s = now (c .before .before .before .before .before .before .before .before .before .before .before .args .s) in
     let i = c .before .before .before .before .before .before .before .before .loop .from in
-    let h : 1 ≤ length s - i = omega arith in
-    omega (arith, c .before .before .before .before .before .packet-size .ensures, size-pos (getD s i 0) (length s - i) h)
+    let h : 1 ≤ length (drop i s) = rw length-drop (omega arith) in
+    omega (arith, size-is c, front-some (drop i s) h)
 
 loop-again : tie.Need-loop-again Inv-loop μ-loop
 loop-again c =
     let s = now (c .before .before .before .before .before .before .before .before .before .before .before .args .s) in
     let i = c .before .before .before .before .before .before .before .before .loop .from in
-    let n = c .before .before .before .before .before .packet-size .result in
+    let n = c .before .before .before .before .before .front-size .result in
     let (done, p, e) = c .before .before .before .before .before .before .before .before .loop .inv in
-    let h : i < length s = omega arith in
-    let z : i + n - i ≡ n = omega arith in
-    let packet = c .before .before .before .bytes-of .ensures ∙ ap (λ (k : ℕ). take k (drop i s)) z in (
+    let packet = c .before .before .before .front .ensures ∙ ap (take n) (c .before .before .before .before .before .before .rest .ensures) in (
       done ++ hexLine (take n (drop i s)),
       put-then _ _ p (rw packet at (c .before .before .put-line .ensures)),
-      append-assoc done _ _ ∙ ap (λ (l : List ℕ). done ++ l) (packets-more s i n (c .before .before .before .before .before .packet-size .ensures) h) ∙ e,
+      append-assoc done _ _ ∙ ap (λ (l : List ℕ). done ++ l) (packets-more s i n (size-is c) (omega arith)) ∙ e,
     )
 
 same-length : tie.Need-same-length Inv-loop μ-loop
@@ -79,12 +80,11 @@ put-packets-spec =
     Inv-loop
     μ-loop
     loop-holds
-    shared-slice-read-packet-size
-    sub-packet-size
-    packet-size-requires
-    add-end
-    bytes-of-requires
+    rest-requires
+    front-size-requires
+    front-requires
     put-line-requires
+    add-from
     loop-less
     loop-again
     same-length
