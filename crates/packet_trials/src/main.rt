@@ -130,7 +130,7 @@ fn write_short(text: &[u8], p: Packet) {
     write(text, p, &mut memory);
 }
 
-// ---- packets, zero but for the fields named
+// ---- packets
 
 fn header(nidc: u16, nidsp: u32, offset: u32, speed: u16, operational: u32) -> Header {
     Header {
@@ -142,29 +142,48 @@ fn header(nidc: u16, nidsp: u32, offset: u32, speed: u16, operational: u32) -> H
     }
 }
 
-fn headed(nidc: u16, offset: u32) -> Packet {
-    Packet::AtoStatus(AtoStatus {
-        header: header(nidc, 0, offset, 0, 0),
-        state: 0,
-        conditions: 0,
-    })
+fn zero_header() -> Header {
+    header(0, 0, 0, 0, 0)
 }
 
-fn point(nidc: u16, q_eoj_reached: u8, alignment: u8, status: u8, stopping: u8) -> Packet {
+// The bytes are Q_EOJ_REACHED, alignment, status and stopping data.
+fn timing_point(h: Header, nidc: u16, nidtp: u32, bytes: [u8; 4]) -> Packet {
     Packet::TimingPoint(TimingPoint {
-        header: header(0, 0, 0, 0, 0),
+        header: h,
         nidc: nidc,
-        nidtp: 0,
-        q_eoj_reached: q_eoj_reached,
-        alignment: alignment,
-        status: status,
-        stopping: stopping,
+        nidtp: nidtp,
+        q_eoj_reached: bytes[0],
+        alignment: bytes[1],
+        status: bytes[2],
+        stopping: bytes[3],
     })
 }
 
+fn ato_status(h: Header, state: u8, conditions: u16) -> Packet {
+    Packet::AtoStatus(AtoStatus {
+        header: h,
+        state: state,
+        conditions: conditions,
+    })
+}
+
+// Zero but for the fields named.
+fn headed(nidc: u16, offset: u32) -> Packet {
+    ato_status(header(nidc, 0, offset, 0, 0), 0, 0)
+}
+
+fn state(state: u8, conditions: u16) -> Packet {
+    ato_status(zero_header(), state, conditions)
+}
+
+fn point(nidc: u16, bytes: [u8; 4]) -> Packet {
+    timing_point(zero_header(), nidc, 0, bytes)
+}
+
+// Seconds and counter at their ends.
 fn received(nidc: u16, atots: u16, date: u16, status: u8) -> Packet {
     Packet::JpReceived(JpReceived {
-        header: header(0, 0, 0, 0, 0),
+        header: zero_header(),
         nidc: nidc,
         atots: atots,
         date: date,
@@ -174,49 +193,23 @@ fn received(nidc: u16, atots: u16, date: u16, status: u8) -> Packet {
     })
 }
 
-fn state(state: u8, conditions: u16) -> Packet {
-    Packet::AtoStatus(AtoStatus {
-        header: header(0, 0, 0, 0, 0),
-        state: state,
-        conditions: conditions,
-    })
-}
-
 // ---- trials
 
 // "Input 00 01 01 prints .. 4400000000000000FFFFFF0000FFFFFFFF0801."
 fn power_on() -> Packet {
-    Packet::AtoStatus(AtoStatus {
-        header: header(0, 0, 16777215, 0, 4294967295),
-        state: 1,
-        conditions: 128,
-    })
+    ato_status(header(0, 0, 16777215, 0, 4294967295), 1, 128)
 }
 
 // "P7 the stop at 39,900 writes 3E 0011 000001F4 00009BDC 0000 FFFFFFFF 0011 00001B59 09 00."
 fn stopped() -> Packet {
-    Packet::TimingPoint(TimingPoint {
-        header: header(17, 500, 39900, 0, 4294967295),
-        nidc: 17,
-        nidtp: 7001,
-        q_eoj_reached: 1,
-        alignment: 0,
-        status: 1,
-        stopping: 0,
-    })
+    let h = header(17, 500, 39900, 0, 4294967295);
+    timing_point(h, 17, 7001, [1, 0, 1, 0])
 }
 
 // Each field of 62 at the end of its range: info 1 + 2 × 2 + 8 × 8 is 45 hexadecimal.
 fn greatest() -> Packet {
-    Packet::TimingPoint(TimingPoint {
-        header: header(1023, 4294967295, 16777215, 65535, 0),
-        nidc: 1023,
-        nidtp: 4294967295,
-        q_eoj_reached: 1,
-        alignment: 2,
-        status: 8,
-        stopping: 0,
-    })
+    let h = header(1023, 4294967295, 16777215, 65535, 0);
+    timing_point(h, 1023, 4294967295, [1, 2, 8, 0])
 }
 
 // The bytes at the front, and the AA behind them kept.
@@ -225,27 +218,28 @@ fn written() {
     write_whole(b"P7", stopped());
     write_whole(b"62 at its ends", greatest());
     // status 1 is 08, 127 is 7F
-    write_whole(b"62 stopping data", point(0, 0, 0, 1, 127));
+    write_whole(b"62 stopping data", point(0, [0, 0, 1, 127]));
     // 1,024 is 0400, 16,384 is 4000, 32,767 is 7FFF
     write_whole(b"65 at its ends", received(1024, 16384, 32767, 0));
     // 7 + 16 × 511 is 1FF7
     write_whole(b"68 at its ends", state(7, 511));
 }
 
-// P7 behind the power on packet: 19 and 25 of 45 bytes, then one that stays; in 43 bytes the second is refused.
+// P7 behind the power on packet.
+fn append(text: &[u8], memory: &mut [u8]) {
+    packet_writer::write_packet(power_on(), memory);
+    label(text);
+    show_written(packet_writer::append_packet(stopped(), memory, 19));
+    hexadecimal(memory);
+    end_line();
+}
+
+// 19 and 25 of 45 bytes, then one that stays; in 43 bytes the second packet is refused.
 fn appended() {
     let mut memory = [0xAAu8; 45];
-    packet_writer::write_packet(power_on(), &mut memory);
-    label(b"P7 behind power on");
-    show_written(packet_writer::append_packet(stopped(), &mut memory, 19));
-    hexadecimal(&memory);
-    end_line();
+    append(b"P7 behind power on", &mut memory);
     let mut short = [0xAAu8; 43];
-    packet_writer::write_packet(power_on(), &mut short);
-    label(b"P7 with one byte less than it needs");
-    show_written(packet_writer::append_packet(stopped(), &mut short, 19));
-    hexadecimal(&short);
-    end_line();
+    append(b"P7 with one byte less than it needs", &mut short);
 }
 
 // 16: one byte less than the packet has.
@@ -257,12 +251,12 @@ fn no_room() {
 
 // 19: each field one above its range, and stopping data with another status than 1.
 fn out_of_range62() {
-    write_short(b"62 NID_C 1024", point(1024, 0, 0, 0, 0));
-    write_short(b"62 Q_EOJ_REACHED 2", point(0, 2, 0, 0, 0));
-    write_short(b"62 alignment 3", point(0, 0, 3, 0, 0));
-    write_short(b"62 status 9", point(0, 0, 0, 9, 0));
-    write_short(b"62 stopping data 128", point(0, 0, 0, 1, 128));
-    write_short(b"62 stopping data 1, status 0", point(0, 0, 0, 0, 1));
+    write_short(b"62 NID_C 1024", point(1024, [0, 0, 0, 0]));
+    write_short(b"62 Q_EOJ_REACHED 2", point(0, [2, 0, 0, 0]));
+    write_short(b"62 alignment 3", point(0, [0, 3, 0, 0]));
+    write_short(b"62 status 9", point(0, [0, 0, 9, 0]));
+    write_short(b"62 stopping data 128", point(0, [0, 0, 1, 128]));
+    write_short(b"62 stopping data 1, status 0", point(0, [0, 0, 0, 1]));
 }
 
 fn out_of_range65() {
@@ -279,34 +273,26 @@ fn out_of_range68() {
     write_short(b"68 conditions 512", state(0, 512));
 }
 
-// The bytes of `written`, and their fields.
-fn read_back() {
-    read(
-        b"power on",
-        b"\x44\x00\x00\x00\x00\x00\x00\x00\xFF\xFF\xFF\x00\x00\xFF\xFF\xFF\xFF\x08\x01",
-    );
-    read(
-        b"P7",
-        b"\x3E\x00\x11\x00\x00\x01\xF4\x00\x00\x9B\xDC\x00\x00\xFF\xFF\xFF\xFF\x00\x11\x00\x00\x1B\x59\x09\x00",
-    );
-    read(
-        b"62 at its ends",
-        b"\x3E\x03\xFF\xFF\xFF\xFF\xFF\x00\xFF\xFF\xFF\xFF\xFF\x00\x00\x00\x00\x03\xFF\xFF\xFF\xFF\xFF\x45\x00",
-    );
-    read(
-        b"65 at its ends",
-        b"\x41\x00\x00\x00\x00\x00\x00\x00\x00\x00\x00\x00\x00\x00\x00\x00\x00\x04\x00\x40\x00\x7F\xFF\xFF\xFF\xFF\xFF\xFF\x00",
-    );
-    read(
-        b"68 at its ends",
-        b"\x44\x00\x00\x00\x00\x00\x00\x00\x00\x00\x00\x00\x00\x00\x00\x00\x00\x1F\xF7",
-    );
-}
-
 fn read_front(text: &[u8], s: &[u8], n: usize) {
     if n <= s.len() {
         read(text, &s[..n]);
     }
+}
+
+// The bytes that the writer leaves, read by their own size.
+fn read_written(text: &[u8], p: Packet) {
+    let mut memory = [0xAAu8; 32];
+    packet_writer::write_packet(p, &mut memory);
+    read_front(text, &memory, packets::size_at(&memory));
+}
+
+// The packets of `written`, and their fields.
+fn read_back() {
+    read_written(b"power on", power_on());
+    read_written(b"P7", stopped());
+    read_written(b"62 at its ends", greatest());
+    read_written(b"65 at its ends", received(1024, 16384, 32767, 0));
+    read_written(b"68 at its ends", state(7, 511));
 }
 
 // So many bytes, up to 30, zero but for the number.
@@ -336,70 +322,65 @@ fn numbers() {
     sized(b"255 of 29 bytes", 255, 29);
 }
 
-// A packet 62 of status 1, zero otherwise, with one byte altered.
-fn altered62(text: &[u8], at: usize, b: u8) {
-    let mut s = [0u8; 25];
-    s[0] = 62;
-    s[23] = 8;
-    if at < 25 {
+// A packet's bytes, with one byte altered.
+fn altered(text: &[u8], base: [u8; 29], at: usize, b: u8) {
+    let mut s = base;
+    if at < 29 {
         s[at] = b;
-        read(text, &s);
+        read_front(text, &s, packets::size_at(&s));
     }
+}
+
+// Zero but for the number.
+fn zeros(packet: u8) -> [u8; 29] {
+    let mut s = [0u8; 29];
+    s[0] = packet;
+    s
+}
+
+// A packet 62 of status 1, zero otherwise.
+fn status1() -> [u8; 29] {
+    let mut s = zeros(62);
+    s[23] = 8;
+    s
 }
 
 // 19: the content is NID_C at 17, NID_TP at 19, info at 23, stopping data at 24; an info with status 1 is 08.
 fn alter62() {
-    altered62(b"62 NID_C 1024", 17, 0x04);
-    altered62(b"62 alignment 3", 23, 0x0E);
-    altered62(b"62 status 8", 23, 0x40);
-    altered62(b"62 status 9", 23, 0x48);
-    altered62(b"62 spare bit 7", 23, 0x88);
-    altered62(b"62 stopping data 127", 24, 0x7F);
-    altered62(b"62 spare bit of stopping data", 24, 0x80);
-    read(
-        b"62 stopping data 1, status 0",
-        b"\x3E\x00\x00\x00\x00\x00\x00\x00\x00\x00\x00\x00\x00\x00\x00\x00\x00\x00\x00\x00\x00\x00\x00\x00\x01",
-    );
+    altered(b"62 NID_C 1024", status1(), 17, 0x04);
+    altered(b"62 alignment 3", status1(), 23, 0x0E);
+    altered(b"62 status 8", status1(), 23, 0x40);
+    altered(b"62 status 9", status1(), 23, 0x48);
+    altered(b"62 spare bit 7", status1(), 23, 0x88);
+    altered(b"62 stopping data 127", status1(), 24, 0x7F);
+    altered(b"62 spare bit of stopping data", status1(), 24, 0x80);
+    altered(b"62 stopping data 1, status 0", zeros(62), 24, 0x01);
 }
 
-// A packet 65 with NID_C 1,024 and NID_ATOTS 16,384, zero otherwise, with one byte altered.
-fn altered65(text: &[u8], at: usize, b: u8) {
-    let mut s = [0u8; 29];
-    s[0] = 65;
+// A packet 65 with NID_C 1,024 and NID_ATOTS 16,384, zero otherwise.
+fn ends65() -> [u8; 29] {
+    let mut s = zeros(65);
     s[17] = 4;
     s[19] = 64;
-    if at < 29 {
-        s[at] = b;
-        read(text, &s);
-    }
+    s
 }
 
 // 19: the content is NID_C at 17, NID_ATOTS at 19, date at 21, seconds at 23, counter at 27, status at 28.
 fn alter65() {
-    altered65(b"65 NID_C 1025", 18, 0x01);
-    altered65(b"65 NID_ATOTS 16385", 20, 0x01);
-    altered65(b"65 date 32768", 21, 0x80);
-    altered65(b"65 status 1", 28, 0x01);
-}
-
-// A packet 68, zero otherwise, with one byte altered.
-fn altered68(text: &[u8], at: usize, b: u8) {
-    let mut s = [0u8; 19];
-    s[0] = 68;
-    if at < 19 {
-        s[at] = b;
-        read(text, &s);
-    }
+    altered(b"65 NID_C 1025", ends65(), 18, 0x01);
+    altered(b"65 NID_ATOTS 16385", ends65(), 20, 0x01);
+    altered(b"65 date 32768", ends65(), 21, 0x80);
+    altered(b"65 status 1", ends65(), 28, 0x01);
 }
 
 // 19: the header is NID_C at 1, NID_SP at 3, offset at 7, speed at 11, NID_OPERATIONAL at 13; the content is the word at 17.
 fn alter68() {
-    altered68(b"header NID_C 1024", 1, 0x04);
-    altered68(b"offset 16777216", 7, 0x01);
-    altered68(b"68 state 8", 18, 0x08);
-    altered68(b"68 spare bit 13", 17, 0x20);
-    altered68(b"68 spare bit 14", 17, 0x40);
-    altered68(b"68 spare bit 15", 17, 0x80);
+    altered(b"header NID_C 1024", zeros(68), 1, 0x04);
+    altered(b"offset 16777216", zeros(68), 7, 0x01);
+    altered(b"68 state 8", zeros(68), 18, 0x08);
+    altered(b"68 spare bit 13", zeros(68), 17, 0x20);
+    altered(b"68 spare bit 14", zeros(68), 17, 0x40);
+    altered(b"68 spare bit 15", zeros(68), 17, 0x80);
 }
 
 fn main() {
