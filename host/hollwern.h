@@ -10,7 +10,7 @@
  * Everything else is refused by number: any bytes, of any length, may be lent as event, journey, book and packet.
  * There is no hidden state: a host may keep several engines, copy them, and use each from its own thread. Beside memcpy nothing is
  * linked in.
- * A load took 40,864 bytes of stack, another event 19,840 (measured, not proved): provide 64 KB. */
+ * Stack: provide 64 KB; docs/ASSURANCE.md has what a call took (measured, not proved). */
 #ifndef HOLLWERN_H
 #define HOLLWERN_H
 #include <assert.h>
