@@ -5,7 +5,7 @@ use mathlib.Core.Bool.{Bool, true, false, cond, not, _&&_, _||_}
 use mathlib.Core.Option.{Option, none, some}
 use lib.Dec.{eqb}
 use Rattle.wire.specs.Numbers.{flag, if_then_else_}
-use Rattle.engine_value.specs.Engine.{Route}
+use Rattle.engine_value.specs.Engine.{Route, unknownNidc}
 use Rattle.engine_value.specs.declared.Position.{Position}
 use Rattle.packets.specs.declared.Header.{Header}
 use Rattle.packets.specs.declared.TimingPoint.{TimingPoint}
@@ -44,7 +44,7 @@ unfoldable pub jpReceived : Route → Position → Head → Packet
 jpReceived j x h =
     Packet.JpReceived (record {
       header = header j x;
-      nidc = if known j x then x .nidc else 1024;
+      nidc = if known j x then x .nidc else unknownNidc;
       atots = h .atots;
       date = h .date;
       seconds = h .seconds;

@@ -12,12 +12,10 @@ pub const MAX_SEGMENTS: usize = 40;
 
 pub const MAX_ZONES: usize = 4;
 
-// The greatest NID_C and NID_TP of a layout, and the NID_C that packet 65 writes where the position is not known.
+// The greatest NID_C and NID_TP of a layout.
 pub const MAX_NIDC: u32 = 1023;
 
 pub const MAX_NIDTP: u32 = 4294967294;
-
-pub const UNKNOWN_NIDC: u16 = 1024;
 
 // The offset that means undefined, and NID_OPERATIONAL where there is none.
 pub const UNDEFINED: u32 = 16777215;

@@ -8,7 +8,7 @@ use lib.Dec.{eqb}
 use lib.Seq.{sets}
 use native.Mathlib.Omega.{arith}
 use Rattle.wire.specs.Numbers.{flag, if_then_else_}
-use Rattle.engine_value.specs.Engine.{Route, routeIn, progress}
+use Rattle.engine_value.specs.Engine.{Route, routeIn, progress, unknownNidc}
 use Rattle.engine_value.specs.declared.Load.{Load}
 use Rattle.engine_value.specs.declared.Point.{Point}
 use Rattle.engine_value.specs.declared.Progress.{Progress}
@@ -94,7 +94,7 @@ module _ (j : Route) (x : Position) (h : Header) (told : h ≡ header j x) where
   unfolding timingPoint
   packet-62 k s after p a = rw (a, told)
 
-  pub packet-65 : (head : Head) (n : ℕ) → n ≡ (if known j x then x .nidc else 1024)
+  pub packet-65 : (head : Head) (n : ℕ) → n ≡ (if known j x then x .nidc else unknownNidc)
       → Packet.JpReceived (record { header = h; nidc = n; atots = head .atots; date = head .date; seconds = head .seconds; counter = head .counter; status = 0 }) ≡ jpReceived j x head
   unfolding jpReceived
   packet-65 head n a = rw (a, told)

@@ -1,6 +1,7 @@
 // The packets of an accepted event, written one behind the other into the output memory.
 use engine_value::Engine;
 use engine_value::Load;
+use engine_value::MAX_POINTS;
 use engine_value::Point;
 use engine_value::Progress;
 use journey::Head;
@@ -15,7 +16,7 @@ ghost use Prim.Native.Nat.{_-_, _≤_};
 ghost use lib.Dec.{eqb};
 ghost use lib.Seq.{sets};
 ghost use Rattle.wire.specs.Numbers.{flag, if_then_else_};
-ghost use Rattle.engine_value.specs.Engine.{routeIn};
+ghost use Rattle.engine_value.specs.Engine.{routeIn, unknownNidc};
 ghost use Rattle.packets.specs.Packets.{joined};
 ghost use Rattle.timing.specs.Position.{point, known};
 ghost use Rattle.timing.specs.Changes.{change, passings, statusStopped};
@@ -65,13 +66,13 @@ fn header_of(e: Engine) -> Header
     }
 }
 
-// Point k of the journey; blank beyond the 64th.
+// Point k of the journey; blank beyond the last of the array.
 fn point_at(e: Engine, k: u8) -> Point
     ensures { λ r. ⌜ r ≡ point (routeIn e) k ⌝ }
 {
     let i = k as usize;
     let points = e.points;
-    if i < 64 {
+    if i < MAX_POINTS {
         return points[i];
     }
     engine_value::blank_point()
@@ -127,7 +128,7 @@ fn is_known(e: Engine) -> bool
 
 // NID_C of the position, 1,024 unless it is known.
 fn country(e: Engine) -> u16
-    ensures { λ r. ⌜ r ≡ (if known (routeIn e) (e .train .position) then e .train .position .nidc else 1024) ⌝ }
+    ensures { λ r. ⌜ r ≡ (if known (routeIn e) (e .train .position) then e .train .position .nidc else unknownNidc) ⌝ }
 {
     if is_known(e) {
         e.train.position.nidc
@@ -245,7 +246,7 @@ fn put_passings(e: Engine, from: u8, to: u8, out: &mut [u8], at: usize) -> usize
             reached: false,
         };
         let i = k as usize;
-        let point = if i < 64 { points[i] } else { blank };
+        let point = if i < MAX_POINTS { points[i] } else { blank };
         let packet = timing_point_of(header, e.load, point, 0, after);
         packet_writer::put_packet(packet, out, p);
         p += packets::TIMING_POINT_SIZE;
