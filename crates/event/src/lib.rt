@@ -11,6 +11,33 @@ ghost use Rattle.event.specs.Kinds.{kindOf, rowOf};
 ghost use Rattle.event.specs.Events.{eventWith, eventOfKind, eventOf};
 ghost use Rattle.event.specs.View.{eventView};
 
+// The kinds of events by their numbers.
+pub const POWER_ON: u8 = 1;
+
+pub const CONFIGURED: u8 = 2;
+
+pub const POWER_OFF: u8 = 3;
+
+pub const FAULT: u8 = 4;
+
+pub const REPORTS: u8 = 5;
+
+pub const MODE: u8 = 6;
+
+pub const LEVER: u8 = 7;
+
+pub const PRESS: u8 = 8;
+
+pub const POSITION_REPORT: u8 = 9;
+
+pub const LENGTH: u8 = 10;
+
+pub const LOAD: u8 = 11;
+
+pub const SKIP: u8 = 12;
+
+pub const REVOKE: u8 = 13;
+
 pub enum Event {
     PowerOn,
     Configured,
@@ -184,19 +211,19 @@ pub fn kind_of(e: Event) -> u8
     ensures { λ r. ⌜ r ≡ kindOf e ⌝ }
 {
     match e {
-        Event::PowerOn => 1,
-        Event::Configured => 2,
-        Event::PowerOff => 3,
-        Event::Fault => 4,
-        Event::Reports(_) => 5,
-        Event::Mode(_) => 6,
-        Event::Lever(_) => 7,
-        Event::Press => 8,
-        Event::PositionReport(_) => 9,
-        Event::Length(_) => 10,
-        Event::Load => 11,
-        Event::Skip(_) => 12,
-        Event::Revoke(_) => 13,
+        Event::PowerOn => POWER_ON,
+        Event::Configured => CONFIGURED,
+        Event::PowerOff => POWER_OFF,
+        Event::Fault => FAULT,
+        Event::Reports(_) => REPORTS,
+        Event::Mode(_) => MODE,
+        Event::Lever(_) => LEVER,
+        Event::Press => PRESS,
+        Event::PositionReport(_) => POSITION_REPORT,
+        Event::Length(_) => LENGTH,
+        Event::Load => LOAD,
+        Event::Skip(_) => SKIP,
+        Event::Revoke(_) => REVOKE,
     }
 }
 
