@@ -50,8 +50,12 @@ typedef struct {
     uint32_t nidsp, offset;
     uint16_t speed;
 } Position;
-typedef struct { Position position; uint32_t length; } Train;
-typedef struct { uint8_t state, mode, lever, reports; bool press, request; } Control;
+typedef struct {
+    Position position;
+    uint32_t length;
+    uint8_t mode, lever, reports;
+} Train;
+typedef struct { uint8_t state; bool press, request; } Control;
 typedef struct {
     Point points[64];
     bool skips[64];
@@ -117,8 +121,8 @@ typedef struct {
 } PacketFields;
 
 static_assert(sizeof(bool) == 1 && sizeof(size_t) == 8, "x86-64");
-static_assert(sizeof(Segment) == 56 && sizeof(Point) == 20 && sizeof(Load) == 12 && sizeof(Train) == 20, "layout");
-static_assert(offsetof(Engine, load) == 3584 && offsetof(Engine, control) == 3620 && sizeof(Engine) == 3628, "layout");
+static_assert(sizeof(Segment) == 56 && sizeof(Point) == 20 && sizeof(Load) == 12 && sizeof(Train) == 24, "layout");
+static_assert(offsetof(Engine, load) == 3584 && offsetof(Engine, control) == 3624 && sizeof(Engine) == 3628, "layout");
 static_assert(offsetof(Answer, request) == 3 && offsetof(Answer, bytes) == 8 && sizeof(Answer) == 16, "layout");
 static_assert(offsetof(Shown, conditions) == 2 && offsetof(Shown, standings) == 5 && sizeof(Shown) == 70, "layout");
 static_assert(sizeof(Header) == 20 && sizeof(TimingPoint) == 32 && sizeof(JpReceived) == 36 && sizeof(AtoStatus) == 24, "layout");

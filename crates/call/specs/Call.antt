@@ -48,7 +48,7 @@ answerOf (Answer.Refused n) = refuse n
 
 -- the nine conditions as the engine shows them
 unfoldable pub conditionsIn : Engine → ℕ
-conditionsIn e = conditions (routeIn e) (e .control .reports) (e .train .position) (standing (e .progress))
+conditionsIn e = conditions (routeIn e) (e .train .reports) (e .train .position) (standing (e .progress))
 
 abbrev pub statusIn : Engine → Status
 statusIn e = record { state = e .control .state; conditions = conditionsIn e; speed = e .train .position .speed }
@@ -63,7 +63,7 @@ stepTo e f m = record { engine = m; packets = packetsOf (routeIn m) (m .train .p
 
 -- "After each accepted event": the rows of the states over the event's values
 abbrev pub stepBy : Engine → Event → Effect → Step
-stepBy e event f = stepTo e f (withControl (f .engine) (controlAfter (f .engine .control) event (f .reached) (conditionsIn (f .engine))))
+stepBy e event f = stepTo e f (withControl (f .engine) (controlAfter (f .engine .train) (f .engine .control) event (f .reached) (conditionsIn (f .engine))))
 
 -- the table of numbers; output: "16 shorter than this event's packets"
 unfoldable pub judged : Engine → Call → Judged Step

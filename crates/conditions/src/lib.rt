@@ -201,8 +201,8 @@ pub fn word_of(l: Load, reports: u8, w: LookedUp, p: Progress) -> u16
 
 // The same of an engine.
 pub fn conditions(e: Engine) -> u16
-    ensures { λ r. ⌜ (r ≡ conditions (routeIn e) (e .control .reports) (e .train .position) (standing (e .progress))) × (r ≤ allConditions) ⌝ }
+    ensures { λ r. ⌜ (r ≡ conditions (routeIn e) (e .train .reports) (e .train .position) (standing (e .progress))) × (r ≤ allConditions) ⌝ }
 {
     let w = looked_up(e);
-    word_of(e.load, e.control.reports, w, e.progress)
+    word_of(e.load, e.train.reports, w, e.progress)
 }

@@ -3,7 +3,6 @@ use conditions::LookedUp;
 use engine_value::Engine;
 use engine_value::Position;
 use engine_value::Progress;
-use engine_value::Train;
 use engine_value::UNDEFINED;
 use event::Event;
 use event_packets::Changes;
@@ -107,7 +106,7 @@ fn with_mode(e: Engine, n: u8) -> Engine
     ensures { λ r. ⌜ r ≡ taking e (bringing (number mode n)) ⌝ }
 {
     let mut m = e;
-    m.control.mode = n;
+    m.train.mode = n;
     m
 }
 
@@ -115,7 +114,7 @@ fn with_lever(e: Engine, n: u8) -> Engine
     ensures { λ r. ⌜ r ≡ taking e (bringing (number lever n)) ⌝ }
 {
     let mut m = e;
-    m.control.lever = n;
+    m.train.lever = n;
     m
 }
 
@@ -123,7 +122,7 @@ fn with_reports(e: Engine, n: u8) -> Engine
     ensures { λ r. ⌜ r ≡ taking e (bringing (number reports n)) ⌝ }
 {
     let mut m = e;
-    m.control.reports = n;
+    m.train.reports = n;
     m
 }
 
@@ -138,10 +137,8 @@ fn with_length(e: Engine, n: u32) -> Engine
 fn with_position(e: Engine, x: Position) -> Engine
     ensures { λ r. ⌜ r ≡ withPosition e x ⌝ }
 {
-    let train = Train {
-        position: x,
-        length: e.train.length,
-    };
+    let mut train = e.train;
+    train.position = x;
     let mut m = e;
     m.train = train;
     m

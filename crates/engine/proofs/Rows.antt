@@ -113,9 +113,9 @@ pub record Decided (e : Engine) (v : Event) (f : Effect) (m : Engine) (w : Write
 
 -- so they are, by the conditions c₁ before the event and c₂ after it
 module _ (e : Engine) (v : Event) (f : Effect) (c₁ c₂ : ℕ) (before after : Shown) (m : Engine) (due : Bool) (w : Writes)
-    (told₁ : c₁ ≡ conditions (routeIn e) (e .control .reports) (e .train .position) (standing (e .progress)))
-    (told₂ : c₂ ≡ conditions (routeIn (f .engine)) (f .engine .control .reports) (f .engine .train .position) (standing (f .engine .progress)))
-    (after-rows : m ≡ withControl (f .engine) (controlAfter (f .engine .control) v (f .reached) c₂))
+    (told₁ : c₁ ≡ conditions (routeIn e) (e .train .reports) (e .train .position) (standing (e .progress)))
+    (told₂ : c₂ ≡ conditions (routeIn (f .engine)) (f .engine .train .reports) (f .engine .train .position) (standing (f .engine .progress)))
+    (after-rows : m ≡ withControl (f .engine) (controlAfter (f .engine .train) (f .engine .control) v (f .reached) c₂))
     (shown₁ : before ≡ shownOf e c₁) (shown₂ : after ≡ shownOf m c₂)
     (dues : due ≡ statusDue (statusView before) (statusView after))
     (writes : w ≡ writesOf f due c₂) where
@@ -124,7 +124,7 @@ module _ (e : Engine) (v : Event) (f : Effect) (c₁ c₂ : ℕ) (before after :
   decided =
       let n = stepBy e v (effectIn f) .engine in
       record {
-        engine = after-rows ∙ ap (λ (n : ℕ). withControl (f .engine) (controlAfter (f .engine .control) v (f .reached) n)) told₂;
+        engine = after-rows ∙ ap (λ (n : ℕ). withControl (f .engine) (controlAfter (f .engine .train) (f .engine .control) v (f .reached) n)) told₂;
         packets = rw (writes, dues, shown₁, shown₂, after-rows, told₂, told₁) (packets-in n (writesOf f (statusDue (statusIn e) (statusIn n)) (conditionsIn n)) (statusIn e) (statusIn n) refl refl refl);
       }
 

@@ -49,10 +49,10 @@ fn accepted(m: Engine, bytes: usize) -> Stepped
 
 // The rows of the states over the event's values.
 fn after_rows(m: Engine, v: Event, reached: bool, conditions: u16) -> Engine
-    ensures { λ r. ⌜ r ≡ withControl m (controlAfter (m .control) v reached conditions) ⌝ }
+    ensures { λ r. ⌜ r ≡ withControl m (controlAfter (m .train) (m .control) v reached conditions) ⌝ }
 {
     let mut after = m;
-    let c = states::control_after(m.control, v, reached, conditions);
+    let c = states::control_after(m.train, m.control, v, reached, conditions);
     after.control = c;
     after
 }
@@ -85,9 +85,9 @@ fn writes_of(f: Effect, due: bool, conditions: u16) -> Writes
 // The nine conditions, from what they look up.
 fn conditions(e: Engine, looked: LookedUp) -> u16
     requires { ⌜ looked ≡ lookedUpIn e ⌝ }
-    ensures { λ r. ⌜ r ≡ conditions (routeIn e) (e .control .reports) (e .train .position) (standing (e .progress)) ⌝ }
+    ensures { λ r. ⌜ r ≡ conditions (routeIn e) (e .train .reports) (e .train .position) (standing (e .progress)) ⌝ }
 {
-    conditions::word_of(e.load, e.control.reports, looked, e.progress)
+    conditions::word_of(e.load, e.train.reports, looked, e.progress)
 }
 
 // The rows of the states, then 16, then the packets.

@@ -82,10 +82,10 @@ abbrev pub freshPosition : Position
 freshPosition = record { nidc = 0; nidsp = 0; offset = undefined; speed = 0 }
 
 abbrev pub freshTrain : Train
-freshTrain = record { position = freshPosition; length = 0 }
+freshTrain = record { position = freshPosition; length = 0; mode = 0; lever = 0; reports = 0 }
 
 abbrev pub freshControl : Control
-freshControl = record { state = 0; mode = 0; lever = 0; reports = 0; press = false; request = false }
+freshControl = record { state = 0; press = false; request = false }
 
 abbrev pub noSkips : List Bool
 noSkips = replicate maxPoints false
@@ -133,4 +133,4 @@ abbrev pub withControl : Engine → Control → Engine
 withControl e c = record { points = e .points; skips = e .skips; segments = e .segments; load = e .load; progress = e .progress; train = e .train; control = c }
 
 abbrev pub withPosition : Engine → Position → Engine
-withPosition e p = withTrain e (record { position = p; length = e .train .length })
+withPosition e p = withTrain e (record { position = p; length = e .train .length; mode = e .train .mode; lever = e .train .lever; reports = e .train .reports })

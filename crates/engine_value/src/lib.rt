@@ -81,19 +81,20 @@ pub struct Position {
     pub speed: u16,
 }
 
+// What the latest events tell of the train, each value as the event has it.
 #[repr(C)]
 pub struct Train {
     pub position: Position,
     pub length: u32,
-}
-
-// The ATO state and its inputs, by their codes.
-#[repr(C)]
-pub struct Control {
-    pub state: u8,
     pub mode: u8,
     pub lever: u8,
     pub reports: u8,
+}
+
+// The ATO state by its code, whether a press is pending, and the AD request.
+#[repr(C)]
+pub struct Control {
+    pub state: u8,
     pub press: bool,
     pub request: bool,
 }
@@ -172,6 +173,9 @@ pub fn fresh_train() -> Train
     Train {
         position: position,
         length: 0,
+        mode: 0,
+        lever: 0,
+        reports: 0,
     }
 }
 
@@ -180,9 +184,6 @@ pub fn fresh_control() -> Control
 {
     Control {
         state: 0,
-        mode: 0,
-        lever: 0,
-        reports: 0,
         press: false,
         request: false,
     }

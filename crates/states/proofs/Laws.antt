@@ -18,5 +18,5 @@ press-stays press v e q = rw (e, q)
 -- ---- the control group
 
 pub control-is : (c : Control) (v : Values) (m : Machine) (k : ℕ) (q : Bool) → k ≡ code (m .state) → q ≡ given (m .state) v (c .request)
-    → record { state = k; mode = c .mode; lever = c .lever; reports = c .reports; press = m .press; request = q } ≡ controlOf c v m
+    → record { state = k; press = m .press; request = q } ≡ controlOf c v m
 control-is c v m k q e f = rw (e, f)

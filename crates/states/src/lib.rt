@@ -9,7 +9,12 @@ ghost use Rattle.states.specs.ControlGroup.{allNine, valuesIn, machineIn
 ghost use Rattle.states.specs.Numbers.{powerRows, stateRow, stateRows};
 use conditions::ALL_CONDITIONS;
 use engine_value::Control;
+use engine_value::Train;
+use event::CONFIGURED;
 use event::Event;
+use event::POWER_OFF;
+use event::POWER_ON;
+use event::PRESS;
 use event::Row;
 use event::row_of;
 use wire::Verdict;
@@ -327,13 +332,13 @@ pub fn all_nine(word: u16) -> bool
     word == ALL_CONDITIONS
 }
 
-fn values_in(c: Control, word: u16) -> Values
-    ensures { λ r. ⌜ r ≡ valuesIn c word ⌝ }
+fn values_in(train: Train, word: u16) -> Values
+    ensures { λ r. ⌜ r ≡ valuesIn train word ⌝ }
 {
     let o = all_nine(word);
-    let t = train_conditions(c.reports);
-    let lever = lever_at(c.lever);
-    let mode = mode_at(c.mode);
+    let t = train_conditions(train.reports);
+    let lever = lever_at(train.lever);
+    let mode = mode_at(train.mode);
     Values {
         O: o,
         T: t,
@@ -352,21 +357,18 @@ fn machine_in(c: Control) -> Machine
     }
 }
 
-// The control group after an event, from the group with the event's values already in it; `reached`: a point became reached in this event;
-// `word`: the nine conditions after it.
-pub fn control_after(c: Control, event: Event, reached: bool, word: u16) -> Control
-    ensures { λ r. ⌜ r ≡ controlAfter c event reached word ⌝ }
+// The control group after an event, from the train's values with those of the event already in them;
+// `reached`: a point became reached in this event; `word`: the nine conditions after it.
+pub fn control_after(train: Train, c: Control, event: Event, reached: bool, word: u16) -> Control
+    ensures { λ r. ⌜ r ≡ controlAfter train c event reached word ⌝ }
 {
-    let v = values_in(c, word);
+    let v = values_in(train, word);
     let m = machine_after(machine_in(c), event, reached, v);
     let s = m.state;
     let request = given(s, v, c.request);
     let code = code_of(s);
     Control {
         state: code,
-        mode: c.mode,
-        lever: c.lever,
-        reports: c.reports,
         press: m.press,
         request: request,
     }
@@ -378,17 +380,17 @@ fn power_rows(s: State, kind: u8) -> Verdict
     ensures { λ r. ⌜ verdictView r ≡ powerRows s kind ⌝ }
 {
     if same(s, State::NP) {
-        return if kind == 1 {
+        return if kind == POWER_ON {
             Verdict::Accepted
         } else {
             Verdict::Refused(3)
         };
     }
-    if kind == 1 {
+    if kind == POWER_ON {
         return Verdict::Refused(4);
     }
     if same(s, State::FA) {
-        return if kind == 3 {
+        return if kind == POWER_OFF {
             Verdict::Accepted
         } else {
             Verdict::Refused(5)
@@ -400,14 +402,14 @@ fn power_rows(s: State, kind: u8) -> Verdict
 fn state_row(s: State, kind: u8) -> Verdict
     ensures { λ r. ⌜ verdictView r ≡ stateRow s kind ⌝ }
 {
-    if kind == 2 {
+    if kind == CONFIGURED {
         return if same(s, State::CO) {
             Verdict::Accepted
         } else {
             Verdict::Refused(6)
         };
     }
-    if kind == 8 {
+    if kind == PRESS {
         return if same(s, State::RE) {
             Verdict::Accepted
         } else {

@@ -13,6 +13,7 @@ use Rattle.engine_value.specs.Engine.{Route, noSkips, progress, blankPoint}
 use Rattle.engine_value.specs.declared.Point.{Point}
 use Rattle.engine_value.specs.declared.Position.{Position}
 use Rattle.engine_value.specs.declared.Progress.{Progress}
+use Rattle.engine_value.specs.declared.Train.{Train}
 use Rattle.engine_value.specs.declared.Control.{Control}
 use Rattle.engine_value.specs.declared.Engine.{Engine}
 use Rattle.event.specs.Kinds.{Role, off, load, report, other, skip}
@@ -51,8 +52,11 @@ skipsOf (c ∷ h) = skipsThen (roleOfCall c) (routeBy h) (skipsOf h)
 unfoldable pub progressRun : History → Progress
 progressRun h = run (routeBy h) (progress (behindAtLoad h) false) (reportsSince h)
 
+abbrev pub trainBy : History → Train
+trainBy h = record { position = positionBy h; length = lengthBy h; mode = modeBy h; lever = leverBy h; reports = reportsBy h }
+
 abbrev pub controlBy : History → Control
-controlBy h = record { state = code (stateBy h); mode = modeBy h; lever = leverBy h; reports = reportsBy h; press = machineBy h .press; request = requestBy h }
+controlBy h = record { state = code (stateBy h); press = machineBy h .press; request = requestBy h }
 
 abbrev pub engineOf : History → Engine
 engineOf h = record {
@@ -61,7 +65,7 @@ engineOf h = record {
   segments = routeBy h .segments;
   load = routeBy h .load;
   progress = progressRun h;
-  train = record { position = positionBy h; length = lengthBy h };
+  train = trainBy h;
   control = controlBy h;
 }
 

@@ -18,7 +18,7 @@ use Rattle.states.specs.ControlGroup.{valuesIn, machineIn, controlOf, controlAf
 use Rattle.call.specs.Call.{Call, conditionsIn, stepBy}
 use Rattle.whole_list.specs.Values.{History, eventOfCall, modeBy, leverBy, reportsBy, positionBy, routeBy}
 use Rattle.whole_list.specs.Rules.{standingBy, conditionsBy, valuesBy, becameReachedBy, machineBy, stateBy, requestBy}
-use Rattle.whole_list.proofs.Fields.{controlBy, engineOf, conditions-is}
+use Rattle.whole_list.proofs.Fields.{trainBy, controlBy, engineOf, conditions-is}
 use Rattle.whole_list.proofs.FieldsEffect.{kept, effectOf}
 
 word-is : (h : History) (c : Call) → conditionsIn (effectOf h c .engine) ≡ conditionsBy (c ∷ h)
@@ -29,7 +29,7 @@ pub conditions-in : (h : History) → conditionsIn (engineOf h) ≡ conditionsBy
 unfolding conditionsIn
 conditions-in h = conditions-is h
 
-values-is : (h : History) → valuesIn (controlBy h) (conditionsBy h) ≡ valuesBy h
+values-is : (h : History) → valuesIn (trainBy h) (conditionsBy h) ≡ valuesBy h
 unfolding valuesBy conditionsBy
 values-is h = λ i. record {
   O = sym (O-word (routeBy h) (reportsBy h) (positionBy h) (standingBy h)) i;
@@ -65,22 +65,19 @@ module _ (m : Machine) (r : Bool) (v : Values) where
       go other k = refl
       go (skip t on) k = refl
 
-pub control-is : (h : History) (c : Call) → controlAfter (effectOf h c .engine .control) (eventOfCall c) (becameReachedBy (c ∷ h)) (conditionsIn (effectOf h c .engine)) ≡ controlBy (c ∷ h)
+pub control-is : (h : History) (c : Call) → controlAfter (effectOf h c .engine .train) (effectOf h c .engine .control) (eventOfCall c) (becameReachedBy (c ∷ h)) (conditionsIn (effectOf h c .engine)) ≡ controlBy (c ∷ h)
 unfolding controlAfter machineBy requestBy
 control-is h c =
     let taken : Control = effectOf h c .engine .control in
     let e = eventOfCall c in
     let r = becameReachedBy (c ∷ h) in
     let v : Values = valuesBy (c ∷ h) in
-    let value-is : valuesIn taken (conditionsIn (effectOf h c .engine)) ≡ v = ap (valuesIn taken) (word-is h c) ∙ values-is (c ∷ h) in
+    let value-is : valuesIn (trainBy (c ∷ h)) (conditionsIn (effectOf h c .engine)) ≡ v = ap (valuesIn (trainBy (c ∷ h))) (word-is h c) ∙ values-is (c ∷ h) in
     let machine-is : machineAfter (machineIn taken) e r v ≡ machineAfter (machineBy h) e r v = machine-kept (machineBy h) r v e in
     ap (λ u. controlOf taken u (machineAfter (machineIn taken) e r u)) value-is
     ∙ ap (λ m. controlOf taken v m) machine-is
     ∙ λ i. record {
       state = code (stateBy (c ∷ h));
-      mode = modeBy (c ∷ h);
-      lever = leverBy (c ∷ h);
-      reports = reportsBy (c ∷ h);
       press = machineBy (c ∷ h) .press;
       request = given-kept (machineBy h) r v e (requestBy h) i;
     }

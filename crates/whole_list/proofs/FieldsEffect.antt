@@ -59,9 +59,6 @@ abbrev pub effectOf : History → Call → Effect
 effectOf h c = record {
   engine = withControl (engineOf (c ∷ h)) (record {
     state = kept (roleOfCall c) 0 (code (stateBy h));
-    mode = modeBy (c ∷ h);
-    lever = leverBy (c ∷ h);
-    reports = reportsBy (c ∷ h);
     press = kept (roleOfCall c) false (machineBy h .press);
     request = kept (roleOfCall c) false (requestBy h);
   });
@@ -88,12 +85,15 @@ module _ (h : History) (o : Option LoadValue) (t : ℕ) (r : distance.Report) (c
       segments = routeWith q .segments;
       load = routeWith q .load;
       progress = progressThen q;
-      train = record { position = valueThen (λ c. c .position) freshPosition q c (positionBy h); length = valueThen (λ c. c .number trainLength) 0 q c (lengthBy h) };
-      control = record {
-        state = kept q 0 (code (stateBy h));
+      train = record {
+        position = valueThen (λ c. c .position) freshPosition q c (positionBy h);
+        length = valueThen (λ c. c .number trainLength) 0 q c (lengthBy h);
         mode = valueThen (λ c. c .number mode) 0 q c (modeBy h);
         lever = valueThen (λ c. c .number lever) 0 q c (leverBy h);
         reports = valueThen (λ c. c .number reports) 0 q c (reportsBy h);
+      };
+      control = record {
+        state = kept q 0 (code (stateBy h));
         press = kept q false (machineBy h .press);
         request = kept q false (requestBy h);
       };

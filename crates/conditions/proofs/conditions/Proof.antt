@@ -14,7 +14,7 @@ word-of-requires c κs = search needs
 returns : tie.Need-returns
 unfolding conditions
 returns c = let e = c .before .before .args .e in
-    (c .word-of .ensures .0 ∙ ap (λ w. wordOf (nine (e .load) (e .control .reports) w (standing (e .progress)))) (c .before .looked-up .ensures), c .word-of .ensures .1)
+    (c .word-of .ensures .0 ∙ ap (λ w. wordOf (nine (e .load) (e .train .reports) w (standing (e .progress)))) (c .before .looked-up .ensures), c .word-of .ensures .1)
 
 pub conditions-spec : {M : Type 1} → statement M
 conditions-spec = tie.close (tie.spec looked-up-requires word-of-requires returns)
