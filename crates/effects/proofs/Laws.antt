@@ -8,6 +8,7 @@ use lib.Dec.{eqb, ltb}
 use borrow.Author.Tests.{eq-eqb, ne-eqb}
 use Rattle.wire.specs.Judged.{Judged, thenJudge}
 use Rattle.wire.specs.Judged.Judged.{refuse, accept}
+use Rattle.wire.specs.declared.Verdict.{Verdict}
 use Rattle.engine_value.specs.Engine.{routeIn, undefined, progress, withRoute, withSkips, withProgress, withPosition}
 use Rattle.engine_value.specs.declared.Position.{Position}
 use Rattle.engine_value.specs.declared.Engine.{Engine}
@@ -29,23 +30,22 @@ use Rattle.journey.specs.declared.Head.{Head}
 use Rattle.call.specs.Effect as model
 use Rattle.call.specs.Effect.{valuesOnly, offsetBeyond, positionEffect, loadedIn, loadEffect, sameBool, skipEffect}
 use Rattle.effects.specs.declared.Effect.{Effect}
-use Rattle.effects.specs.View.{noChanges, oneChange, changesOf, skipStatus, routeView, lookedUpIn, plainEffect, effectIn, effectView, Gives}
+use Rattle.effects.specs.View.{noChanges, oneChange, reportedChanges, skipStatus, routeView, lookedUpIn, plainEffect, acceptedView, effectView, Gives}
 
-pub gives-values-only : (e m n : Engine) (v w : LookedUp) (f : Effect) (x : Judged model.Effect) → f ≡ plainEffect m 0 v w → m ≡ n → v ≡ lookedUpIn e → w ≡ lookedUpIn n
+pub gives-values-only : (e m n : Engine) (v w : LookedUp) (f : Effect) (x : Judged model.Effect) → f ≡ plainEffect m Verdict.Accepted v w → m ≡ n → v ≡ lookedUpIn e → w ≡ lookedUpIn n
     → accept (valuesOnly n) ≡ x → Gives e x f
 unfolding passings
 gives-values-only e m n v w f x q a s t y = record { effect = rw (q, a) y; before = rw q s; after = rw (q, a) t }
 
 -- a row that refuses
-pub gives-number : (e : Engine) (k : ℕ) (w : LookedUp) (f : Effect) (x : Judged model.Effect) → eqb k 0 ≡ false → f ≡ plainEffect e k w w → w ≡ lookedUpIn e → refuse k ≡ x → Gives e x f
-gives-number e k w f x h q t y = record { effect = rw (q, h) y; before = rw q t; after = rw q t }
+pub gives-number : (e : Engine) (k : ℕ) (w : LookedUp) (f : Effect) (x : Judged model.Effect) → f ≡ plainEffect e (Verdict.Refused k) w w → w ≡ lookedUpIn e → refuse k ≡ x → Gives e x f
+gives-number e k w f x q t y = record { effect = rw q y; before = rw q t; after = rw q t }
 
--- an effect with a number other than 0 is a refusal
-pub seen-number : (f : Effect) → (f .number ≡ 0 → ⊥) → effectView f ≡ refuse (f .number)
-seen-number f h = rw (ne-eqb (f .number) 0 h)
+pub seen-number : (f : Effect) (n : ℕ) → f .verdict ≡ Verdict.Refused n → effectView f ≡ refuse n
+seen-number f n q = rw q
 
-pub seen-effect : (f : Effect) → f .number ≡ 0 → effectView f ≡ accept (effectIn f)
-seen-effect f h = rw (eq-eqb (f .number) 0 h)
+pub seen-effect : (f : Effect) → f .verdict ≡ Verdict.Accepted → effectView f ≡ accept (acceptedView f)
+seen-effect f q = rw q
 
 -- 13
 module _ (s : Named) (x : Position) where
@@ -72,9 +72,9 @@ module _ (e : Engine) (x : Position) where
   position-13 h = rw h
 
   pub position-reported : (m : Engine) (t : Reported) (ch : Changes) (head : Head) → offsetBeyond (segmentNamed (routeIn e) x) x ≡ false → m ≡ withPosition e x
-      → t ≡ reportOf (routeIn m) (reportIn m) (m .progress) → ch ≡ changesOf (m .progress .next) t
+      → t ≡ reportOf (routeIn m) (reportIn m) (m .progress) → ch ≡ reportedChanges (m .progress .next) t
       → (v w : LookedUp) → v ≡ lookedUpIn e → w ≡ lookedUpIn (withProgress m (t .progress))
-      → Gives e (positionEffect (withPosition e x)) (record { engine = withProgress m (t .progress); number = 0; loaded = false; head = head; changes = ch; reached = t .reached; before = v; after = w })
+      → Gives e (positionEffect (withPosition e x)) (record { engine = withProgress m (t .progress); verdict = Verdict.Accepted; loaded = false; head = head; changes = ch; reached = t .reached; before = v; after = w })
   unfolding positionEffect reportChanges
   position-reported m t ch head h a q c v w s u = record { effect = rw (h, c, q, a); before = s; after = u }
 
@@ -95,7 +95,7 @@ module _ (e : Engine) (journey book : List ℕ) (l : Loaded) (told : loadView l 
   pub load-taken : (m : Engine) (ch : Changes) → l .number ≡ 0
       → m ≡ withProgress (withRoute e (routeView l)) (progress (target (routeView l) (e .train .position) (e .train .length)) false) → ch ≡ noChanges
       → (v w : LookedUp) → v ≡ lookedUpIn e → w ≡ lookedUpIn m
-      → Gives e (loadEffect e journey book) (record { engine = m; number = 0; loaded = true; head = l .head; changes = ch; reached = false; before = v; after = w })
+      → Gives e (loadEffect e journey book) (record { engine = m; verdict = Verdict.Accepted; loaded = true; head = l .head; changes = ch; reached = false; before = v; after = w })
   unfolding passings
   load-taken m ch h q c v w s u = record { effect = rw (q, c) (load-route h); before = s; after = u }
 
@@ -112,6 +112,6 @@ module _ (e : Engine) (k : ℕ) (on : Bool) where
   pub skip-taken : (m : Engine) (ch : Changes) (head : Head) → behind (standing (e .progress) k) ≡ false → sameBool (getD (e .skips) k false) on ≡ false
       → m ≡ withSkips e (set (e .skips) k on) → ch ≡ oneChange k (skipStatus on) (e .progress)
       → (w : LookedUp) → w ≡ lookedUpIn e
-      → Gives e (skipEffect e on (At k)) (record { engine = m; number = 0; loaded = false; head = head; changes = ch; reached = false; before = w; after = w })
+      → Gives e (skipEffect e on (At k)) (record { engine = m; verdict = Verdict.Accepted; loaded = false; head = head; changes = ch; reached = false; before = w; after = w })
   unfolding skipEffect passings
   skip-taken m ch head h q a b w v = record { effect = rw (h, q, a, b); before = v; after = rw a v }

@@ -3,10 +3,11 @@ use Prim.Native.Nat.{ℕ}
 use mathlib.Core.Path.{_≡_}
 use mathlib.Core.Bool.{Bool, true, false}
 use mathlib.Core.Option.{none, some}
-use lib.Dec.{eqb}
 use Rattle.wire.specs.Numbers.{if_then_else_}
-use Rattle.wire.specs.Judged.{Judged}
-use Rattle.wire.specs.Judged.Judged.{refuse, accept}
+use Rattle.wire.specs.Judged.{Judged, thenJudge}
+use Rattle.wire.specs.Judged.Judged.{accept}
+use Rattle.wire.specs.View.{verdictView}
+use Rattle.wire.specs.declared.Verdict.{Verdict}
 use Rattle.engine_value.specs.Engine.{Route, routeIn, progress}
 use Rattle.engine_value.specs.declared.Progress.{Progress}
 use Rattle.engine_value.specs.declared.Engine.{Engine}
@@ -17,7 +18,7 @@ use Rattle.timing.specs.declared.Reported.{Reported}
 use Rattle.conditions.specs.Conditions.{lookedUp}
 use Rattle.conditions.specs.declared.LookedUp.{LookedUp}
 use Rattle.route.specs.declared.Loaded.{Loaded}
-use Rattle.event_packets.specs.View.{changesIn}
+use Rattle.event_packets.specs.View.{changesView}
 use Rattle.event_packets.specs.declared.Changes.{Changes}
 use Rattle.call.specs.Effect as model
 use Rattle.effects.specs.declared.Effect.{Effect}
@@ -29,8 +30,8 @@ abbrev pub oneChange : ℕ → ℕ → Progress → Changes
 oneChange k s p = record { first = true; index = k; status = s; after = p; from = 0; to = 0; stopped = false }
 
 -- the changes of a report; `k` is the first point not passed before it
-abbrev pub changesOf : ℕ → Reported → Changes
-changesOf k t =
+abbrev pub reportedChanges : ℕ → Reported → Changes
+reportedChanges k t =
     record { first = t .departed; index = k; status = statusDeparted; after = progress (t .from) false; from = t .from; to = t .progress .next; stopped = t .reached }
 
 abbrev pub skipStatus : Bool → ℕ
@@ -43,21 +44,21 @@ routeView l = record { load = l .load; points = l .points; segments = l .segment
 abbrev pub lookedUpIn : Engine → LookedUp
 lookedUpIn e = lookedUp (routeIn e) (e .train .position) (standing (e .progress))
 
-abbrev pub plainEffect : Engine → ℕ → LookedUp → LookedUp → Effect
-plainEffect e n before after =
-    record { engine = e; number = n; loaded = false; head = blankHead; changes = noChanges; reached = false; before = before; after = after }
+abbrev pub plainEffect : Engine → Verdict → LookedUp → LookedUp → Effect
+plainEffect e v before after =
+    record { engine = e; verdict = v; loaded = false; head = blankHead; changes = noChanges; reached = false; before = before; after = after }
 
-abbrev pub effectIn : Effect → model.Effect
-effectIn f = record {
+abbrev pub acceptedView : Effect → model.Effect
+acceptedView f = record {
   engine = f .engine;
   loaded = if f .loaded then some (f .head) else none;
-  changes = changesIn (f .changes) (f .engine .progress);
+  changes = changesView (f .changes) (f .engine .progress);
   reached = f .reached;
 }
 
 -- an effect, or the number of the row that refuses
 abbrev pub effectView : Effect → Judged model.Effect
-effectView f = if eqb (f .number) 0 then accept (effectIn f) else refuse (f .number)
+effectView f = thenJudge (verdictView (f .verdict)) (λ u. accept (acceptedView f))
 
 -- such an effect on engine e, and what the conditions look up before and after it
 pub record Gives (e : Engine) (x : Judged model.Effect) (f : Effect) : Type 0 where

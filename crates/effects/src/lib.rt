@@ -12,6 +12,7 @@ use timing::Found;
 use timing::Named;
 use timing::Reported;
 use timing::Standing;
+use wire::Verdict;
 ghost use mathlib.Core.Path.{_≡_};
 ghost use mathlib.Core.Bool.{false};
 ghost use Prim.Native.Nat.{_<_};
@@ -25,13 +26,13 @@ ghost use Rattle.timing.specs.Load.{target};
 ghost use Rattle.timing.specs.declared.Found.the-variants.{At};
 ghost use Rattle.event.specs.Kinds.{mode, lever, reports, trainLength, number, bringing};
 ghost use Rattle.call.specs.Effect.{taking, positionEffect, loadEffect, offsetBeyond, sameBool, skipEffect, effect};
-ghost use Rattle.effects.specs.View.{noChanges, oneChange, changesOf, skipStatus, routeView, lookedUpIn, plainEffect, Gives};
+ghost use Rattle.effects.specs.View.{noChanges, oneChange, reportedChanges, skipStatus, routeView, lookedUpIn, plainEffect, Gives};
 
 // The engine with the event's values, the head of a journey that was loaded, the points that changed, whether one became reached, and what the
-// conditions look up before and after it. `number` is 0, or that of the row that refuses.
+// conditions look up before and after it; where a row refuses, its number alone counts.
 pub struct Effect {
     pub engine: Engine,
-    pub number: u8,
+    pub verdict: Verdict,
     pub loaded: bool,
     pub head: Head,
     pub changes: Changes,
@@ -85,14 +86,14 @@ fn one_change(index: u8, status: u8, after: Progress) -> Changes
 }
 
 // An engine with nothing loaded and no point changed; the engine does not count where a row refuses.
-fn plain(e: Engine, number: u8, before: LookedUp, after: LookedUp) -> Effect
-    ensures { λ r. ⌜ r ≡ plainEffect e number before after ⌝ }
+fn plain(e: Engine, verdict: Verdict, before: LookedUp, after: LookedUp) -> Effect
+    ensures { λ r. ⌜ r ≡ plainEffect e verdict before after ⌝ }
 {
     let head = no_head();
     let changes = no_changes();
     Effect {
         engine: e,
-        number: number,
+        verdict: verdict,
         loaded: false,
         head: head,
         changes: changes,
@@ -162,7 +163,7 @@ fn offset_beyond(s: Named, x: Position) -> bool
 }
 
 fn changes_of(index: u8, t: Reported) -> Changes
-    ensures { λ r. ⌜ r ≡ changesOf index t ⌝ }
+    ensures { λ r. ⌜ r ≡ reportedChanges index t ⌝ }
 {
     let after = Progress {
         next: t.from,
@@ -200,7 +201,7 @@ fn position(e: Engine, x: Position, looked: LookedUp) -> Effect
     let t = timing::report(m);
     let segment = t.segment;
     if offset_beyond(segment, x) {
-        return plain(e, 13, looked, looked);
+        return plain(e, Verdict::Refused(13), looked, looked);
     }
     let head = no_head();
     let changes = changes_of(m.progress.next, t);
@@ -210,7 +211,7 @@ fn position(e: Engine, x: Position, looked: LookedUp) -> Effect
     m.progress = progress;
     Effect {
         engine: m,
-        number: 0,
+        verdict: Verdict::Accepted,
         loaded: false,
         head: head,
         changes: changes,
@@ -256,7 +257,7 @@ fn load(e: Engine, journey: &[u8], book: &[u8], looked: LookedUp) -> Effect
 {
     let l = route::load_route(journey, book);
     if l.number != 0 {
-        return plain(e, l.number, looked, looked);
+        return plain(e, Verdict::Refused(l.number), looked, looked);
     }
     let m = with_target(with_route(e, l));
     let head = l.head;
@@ -264,7 +265,7 @@ fn load(e: Engine, journey: &[u8], book: &[u8], looked: LookedUp) -> Effect
     let after = conditions::looked_up(m);
     Effect {
         engine: m,
-        number: 0,
+        verdict: Verdict::Accepted,
         loaded: true,
         head: head,
         changes: changes,
@@ -316,19 +317,19 @@ fn skip_at(e: Engine, k: usize, on: bool, looked: LookedUp) -> Effect
 {
     let index = k as u8;
     if is_behind(e.progress, index) {
-        return plain(e, 15, looked, looked);
+        return plain(e, Verdict::Refused(15), looked, looked);
     }
     let skips = e.skips;
     let given = skips[k];
     if same(given, on) {
-        return plain(e, 15, looked, looked);
+        return plain(e, Verdict::Refused(15), looked, looked);
     }
     let m = with_skip(e, k, on);
     let head = no_head();
     let changes = one_change(index, skip_status(on), e.progress);
     Effect {
         engine: m,
-        number: 0,
+        verdict: Verdict::Accepted,
         loaded: false,
         head: head,
         changes: changes,
@@ -343,7 +344,7 @@ fn skip(e: Engine, nidtp: u32, on: bool, looked: LookedUp) -> Effect
     ensures { λ r. ⌜ Gives e (skipEffect e on (stopNamed (routeIn e) nidtp)) r ⌝ }
 {
     let Found::At(k) = timing::find_stop(e, nidtp) else {
-        return plain(e, 14, looked, looked);
+        return plain(e, Verdict::Refused(14), looked, looked);
     };
     skip_at(e, k, on, looked)
 }
@@ -368,16 +369,21 @@ pub fn effect_of(e: Engine, v: Event, journey: &[u8], book: &[u8]) -> Effect
     let profiles = conditions::profiles_there(e, e.progress);
     let looked = conditions::look_up(s, e.train.position, profiles);
     match v {
-        Event::PowerOn => plain(e, 0, looked, looked),
-        Event::Configured => plain(e, 0, looked, looked),
-        Event::PowerOff => plain(engine_value::cleared(e), 0, looked, fresh_looked_up()),
-        Event::Fault => plain(e, 0, looked, looked),
-        Event::Reports(n) => plain(with_reports(e, n), 0, looked, looked),
-        Event::Mode(n) => plain(with_mode(e, n), 0, looked, looked),
-        Event::Lever(n) => plain(with_lever(e, n), 0, looked, looked),
-        Event::Press => plain(e, 0, looked, looked),
+        Event::PowerOn => plain(e, Verdict::Accepted, looked, looked),
+        Event::Configured => plain(e, Verdict::Accepted, looked, looked),
+        Event::PowerOff => plain(
+            engine_value::cleared(e),
+            Verdict::Accepted,
+            looked,
+            fresh_looked_up(),
+        ),
+        Event::Fault => plain(e, Verdict::Accepted, looked, looked),
+        Event::Reports(n) => plain(with_reports(e, n), Verdict::Accepted, looked, looked),
+        Event::Mode(n) => plain(with_mode(e, n), Verdict::Accepted, looked, looked),
+        Event::Lever(n) => plain(with_lever(e, n), Verdict::Accepted, looked, looked),
+        Event::Press => plain(e, Verdict::Accepted, looked, looked),
         Event::PositionReport(x) => position(e, x, looked),
-        Event::Length(n) => plain(with_length(e, n), 0, looked, looked),
+        Event::Length(n) => plain(with_length(e, n), Verdict::Accepted, looked, looked),
         Event::Load => load(e, journey, book, looked),
         Event::Skip(t) => skip(e, t, true, looked),
         Event::Revoke(t) => skip(e, t, false, looked),

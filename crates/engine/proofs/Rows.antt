@@ -23,7 +23,7 @@ use Rattle.states.specs.Codes.{stateAt}
 use Rattle.conditions.specs.Conditions.{conditions}
 use Rattle.states.specs.Numbers.{powerRows, stateRow, stateRows}
 use Rattle.states.specs.ControlGroup.{controlAfter}
-use Rattle.event_packets.specs.View.{statusView, packetsIn, sizeIn}
+use Rattle.event_packets.specs.View.{statusView, packetsView, sizeView}
 use Rattle.event_packets.proofs.Stored.{size-in, packets-in}
 use Rattle.event_packets.specs.declared.Shown.{Shown}
 use Rattle.event_packets.specs.declared.Writes.{Writes}
@@ -32,10 +32,10 @@ use Rattle.call.specs.Effect as model
 use Rattle.call.specs.Call as call
 use Rattle.call.specs.Call.{Call, Step, conditionsIn, statusIn, stepBy, outcomeOf}
 use Rattle.effects.specs.declared.Effect.{Effect}
-use Rattle.effects.specs.View.{effectIn, effectView}
+use Rattle.effects.specs.View.{acceptedView, effectView}
 use Rattle.effects.proofs.Laws.{seen-number, seen-effect}
 use Rattle.engine.specs.declared.Stepped.{Stepped}
-use Rattle.engine.specs.View.{outputRow, laterRows, refusedStep, acceptedStep, shownOf, writesOf, Steps}
+use Rattle.engine.specs.View.{outputRow, laterRows, refusedStep, acceptedStep, statusShown, effectWrites, Steps}
 
 -- ---- the rows
 
@@ -60,10 +60,10 @@ module _ (e : Engine) (event : Event) (journey book memory : List ℕ) (w : Verd
     by-effect : laterRows e event journey book memory ≡ thenJudge (effectView f) (λ g. outputRow memory (stepBy e event g))
     by-effect = by-verdict Verdict.Accepted none ∙ ap (λ (x : Judged model.Effect). thenJudge x (λ g. outputRow memory (stepBy e event g))) (sym seen)
 
-    pub rows-effect : (f .number ≡ 0 → ⊥) → laterRows e event journey book memory ≡ refuse (f .number)
-    rows-effect h = by-effect ∙ ap (λ (x : Judged model.Effect). thenJudge x (λ g. outputRow memory (stepBy e event g))) (seen-number f h)
+    pub rows-effect : (n : ℕ) → f .verdict ≡ Verdict.Refused n → laterRows e event journey book memory ≡ refuse n
+    rows-effect n q = by-effect ∙ ap (λ (x : Judged model.Effect). thenJudge x (λ g. outputRow memory (stepBy e event g))) (seen-number f n q)
 
-    pub rows-output : f .number ≡ 0 → laterRows e event journey book memory ≡ outputRow memory (stepBy e event (effectIn f))
+    pub rows-output : f .verdict ≡ Verdict.Accepted → laterRows e event journey book memory ≡ outputRow memory (stepBy e event (acceptedView f))
     rows-output h = by-effect ∙ ap (λ (x : Judged model.Effect). thenJudge x (λ g. outputRow memory (stepBy e event g))) (seen-effect f h)
 
 module _ (e : Engine) (c : Call) where
@@ -108,36 +108,36 @@ module _ (e : Engine) (memory : List ℕ) where
 
 -- the engine after the rows of the states, and what is to be written, are the model's
 pub record Decided (e : Engine) (v : Event) (f : Effect) (m : Engine) (w : Writes) : Type 0 where
-  pub engine : m ≡ stepBy e v (effectIn f) .engine
-  pub packets : packetsIn m w ≡ stepBy e v (effectIn f) .packets
+  pub engine : m ≡ stepBy e v (acceptedView f) .engine
+  pub packets : packetsView m w ≡ stepBy e v (acceptedView f) .packets
 
 -- so they are, by the conditions c₁ before the event and c₂ after it
 module _ (e : Engine) (v : Event) (f : Effect) (c₁ c₂ : ℕ) (before after : Shown) (m : Engine) (due : Bool) (w : Writes)
     (told₁ : c₁ ≡ conditions (routeIn e) (e .train .reports) (e .train .position) (standing (e .progress)))
     (told₂ : c₂ ≡ conditions (routeIn (f .engine)) (f .engine .train .reports) (f .engine .train .position) (standing (f .engine .progress)))
     (after-rows : m ≡ withControl (f .engine) (controlAfter (f .engine .train) (f .engine .control) v (f .reached) c₂))
-    (shown₁ : before ≡ shownOf e c₁) (shown₂ : after ≡ shownOf m c₂)
+    (shown₁ : before ≡ statusShown e c₁) (shown₂ : after ≡ statusShown m c₂)
     (dues : due ≡ statusDue (statusView before) (statusView after))
-    (writes : w ≡ writesOf f due c₂) where
+    (writes : w ≡ effectWrites f due c₂) where
   pub decided : Decided e v f m w
   unfolding conditionsIn controlAfter
   decided =
-      let n = stepBy e v (effectIn f) .engine in
+      let n = stepBy e v (acceptedView f) .engine in
       record {
         engine = after-rows ∙ ap (λ (n : ℕ). withControl (f .engine) (controlAfter (f .engine .train) (f .engine .control) v (f .reached) n)) told₂;
-        packets = rw (writes, dues, shown₁, shown₂, after-rows, told₂, told₁) (packets-in n (writesOf f (statusDue (statusIn e) (statusIn n)) (conditionsIn n)) (statusIn e) (statusIn n) refl refl refl);
+        packets = rw (writes, dues, shown₁, shown₂, after-rows, told₂, told₁) (packets-in n (effectWrites f (statusDue (statusIn e) (statusIn n)) (conditionsIn n)) (statusIn e) (statusIn n) refl refl refl);
       }
 
-module _ {e : Engine} {v : Event} {f : Effect} {m : Engine} {w : Writes} (d : Decided e v f m w) (memory : List ℕ) (n : ℕ) (sized : n ≡ sizeIn w) where
-  decided-size : n ≡ length (joined (stepBy e v (effectIn f) .packets))
+module _ {e : Engine} {v : Event} {f : Effect} {m : Engine} {w : Writes} (d : Decided e v f m w) (memory : List ℕ) (n : ℕ) (sized : n ≡ sizeView w) where
+  decided-size : n ≡ length (joined (stepBy e v (acceptedView f) .packets))
   decided-size = sized ∙ sym (size-in m w) ∙ ap (λ (ps : List Packet). length (joined ps)) (d .packets)
 
-  pub concluded-16 : (r : Stepped) → length memory < n → r ≡ refusedStep e 16 → Steps (outcomeOf e memory (outputRow memory (stepBy e v (effectIn f)))) r memory
-  concluded-16 r h t = steps-short e memory (stepBy e v (effectIn f)) r (subst (λ (k : ℕ). length memory < k) decided-size h) t
+  pub concluded-16 : (r : Stepped) → length memory < n → r ≡ refusedStep e 16 → Steps (outcomeOf e memory (outputRow memory (stepBy e v (acceptedView f)))) r memory
+  concluded-16 r h t = steps-short e memory (stepBy e v (acceptedView f)) r (subst (λ (k : ℕ). length memory < k) decided-size h) t
 
-  pub concluded : (r : Stepped) (after : List ℕ) → n ≤ length memory → after ≡ sets memory 0 (joined (packetsIn m w)) → r ≡ acceptedStep m n
-      → Steps (outcomeOf e memory (outputRow memory (stepBy e v (effectIn f)))) r after
+  pub concluded : (r : Stepped) (after : List ℕ) → n ≤ length memory → after ≡ sets memory 0 (joined (packetsView m w)) → r ≡ acceptedStep m n
+      → Steps (outcomeOf e memory (outputRow memory (stepBy e v (acceptedView f)))) r after
   concluded r after h a t =
-      steps-written e memory (stepBy e v (effectIn f)) r after n decided-size h
+      steps-written e memory (stepBy e v (acceptedView f)) r after n decided-size h
       (a ∙ ap (λ (ps : List Packet). sets memory 0 (joined ps)) (d .packets))
       (t ∙ ap (λ (x : Engine). acceptedStep x n) (d .engine))

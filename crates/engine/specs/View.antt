@@ -48,11 +48,11 @@ refusedStep e n = record { engine = e; answer = Answer.Refused n }
 abbrev pub acceptedStep : Engine → ℕ → Stepped
 acceptedStep m n = record { engine = m; answer = Answer.Accepted (m .control .state) (m .control .request) n }
 
-abbrev pub shownOf : Engine → ℕ → Shown
-shownOf e n = record { state = e .control .state; conditions = n; speed = e .train .position .speed }
+abbrev pub statusShown : Engine → ℕ → Shown
+statusShown e n = record { state = e .control .state; conditions = n; speed = e .train .position .speed }
 
-abbrev pub writesOf : Effect → Bool → ℕ → Writes
-writesOf f due n = record { loaded = f .loaded; head = f .head; changes = f .changes; due = due; conditions = n }
+abbrev pub effectWrites : Effect → Bool → ℕ → Writes
+effectWrites f due n = record { loaded = f .loaded; head = f .head; changes = f .changes; due = due; conditions = n }
 
 -- answer, engine and output memory are those of an outcome
 pub record Steps (o : Outcome) (r : Stepped) (memory : List ℕ) : Type 0 where

@@ -14,8 +14,8 @@ ghost use Rattle.timing.specs.Standing.{standing};
 ghost use Rattle.conditions.specs.Conditions.{conditions};
 ghost use Rattle.states.specs.ControlGroup.{controlAfter};
 ghost use Rattle.call.specs.Call.{stepBy, outcomeOf, stepOf};
-ghost use Rattle.effects.specs.View.{lookedUpIn, effectIn};
-ghost use Rattle.engine.specs.View.{outputRow, laterRows, call, refusedStep, acceptedStep, shownOf, writesOf, Steps};
+ghost use Rattle.effects.specs.View.{lookedUpIn, acceptedView};
+ghost use Rattle.engine.specs.View.{outputRow, laterRows, call, refusedStep, acceptedStep, statusShown, effectWrites, Steps};
 
 // What a call answers, and the engine that it leaves.
 pub struct Stepped {
@@ -58,7 +58,7 @@ fn after_rows(m: Engine, v: Event, reached: bool, conditions: u16) -> Engine
 }
 
 fn shown(e: Engine, conditions: u16) -> Shown
-    ensures { λ r. ⌜ r ≡ shownOf e conditions ⌝ }
+    ensures { λ r. ⌜ r ≡ statusShown e conditions ⌝ }
 {
     Shown {
         state: e.control.state,
@@ -69,7 +69,7 @@ fn shown(e: Engine, conditions: u16) -> Shown
 
 // What the packets are made of.
 fn writes_of(f: Effect, due: bool, conditions: u16) -> Writes
-    ensures { λ r. ⌜ r ≡ writesOf f due conditions ⌝ }
+    ensures { λ r. ⌜ r ≡ effectWrites f due conditions ⌝ }
 {
     let head = f.head;
     let changes = f.changes;
@@ -93,7 +93,7 @@ fn conditions(e: Engine, looked: LookedUp) -> u16
 // The rows of the states, then 16, then the packets.
 fn conclude(e: Engine, v: Event, f: Effect, out: &mut [u8]) -> Stepped
     requires { ⌜ (f .before ≡ lookedUpIn e) × (f .after ≡ lookedUpIn (f .engine)) ⌝ }
-    ensures { λ r. ⌜ Steps (outcomeOf e (now (out .entry)) (outputRow (now (out .entry)) (stepBy e v (effectIn f)))) r (now (out .exit)) ⌝ }
+    ensures { λ r. ⌜ Steps (outcomeOf e (now (out .entry)) (outputRow (now (out .entry)) (stepBy e v (acceptedView f)))) r (now (out .exit)) ⌝ }
 {
     let before = shown(e, conditions(e, f.before));
     let word = conditions(f.engine, f.after);
@@ -119,8 +119,9 @@ fn take(e: Engine, v: Event, journey: &[u8], book: &[u8], out: &mut [u8]) -> Ste
         return refused(e, n);
     }
     let f = effects::effect_of(e, v, journey, book);
-    if f.number != 0 {
-        return refused(e, f.number);
+    let verdict = f.verdict;
+    if let Verdict::Refused(n) = verdict {
+        return refused(e, n);
     }
     conclude(e, v, f, out)
 }

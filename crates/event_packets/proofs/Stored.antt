@@ -25,7 +25,7 @@ use Rattle.timing.specs.Standing.{standing}
 use Rattle.timing.specs.Changes.{Change, change, passings, when, statusPassed, statusStopped}
 use Rattle.conditions.specs.Conditions.{endAhead}
 use Rattle.call.specs.Packets.{Status, statusDue, header, timingPoint, jpReceived, atoStatus, packetsOf}
-use Rattle.event_packets.specs.View.{timingPointOf, packets62, packets65, packets68, changesIn, firstIn, passingsIn, stoppedIn, loadedIn, packetsIn, sizeIn, Put}
+use Rattle.event_packets.specs.View.{timingPointView, packets62, packets65, packets68, changesView, firstView, passingsView, stoppedView, loadedView, packetsView, sizeView, Put}
 use Rattle.event_packets.specs.declared.Writes.{Writes}
 
 -- ---- sizes
@@ -64,20 +64,20 @@ size-68 e w = go (w .due) refl
     go false q = rw q
 
 -- the bytes of an event's packets, kind by kind
-joined-in : (e : Engine) (w : Writes) → joined (packetsIn e w) ≡
+joined-in : (e : Engine) (w : Writes) → joined (packetsView e w) ≡
     joined (packets65 e w)
-    ++ (joined (packets62 e (firstIn (w .changes)))
-    ++ (joined (packets62 e (passingsIn (w .changes)))
-    ++ (joined (packets62 e (stoppedIn (w .changes) (e .progress)))
+    ++ (joined (packets62 e (firstView (w .changes)))
+    ++ (joined (packets62 e (passingsView (w .changes)))
+    ++ (joined (packets62 e (stoppedView (w .changes) (e .progress)))
     ++ joined (packets68 e w))))
-joined-in e w = parts (timingPoint (routeIn e) (e .train .position)) (packets65 e w) (firstIn (w .changes)) (passingsIn (w .changes)) (stoppedIn (w .changes) (e .progress)) (packets68 e w)
+joined-in e w = parts (timingPoint (routeIn e) (e .train .position)) (packets65 e w) (firstView (w .changes)) (passingsView (w .changes)) (stoppedView (w .changes) (e .progress)) (packets68 e w)
   where
     parts : (t : Change → Packet) (ps : List Packet) (a b c : List Change) (qs : List Packet)
         → joined (ps ++ (map t (a ++ (b ++ c)) ++ qs)) ≡ joined ps ++ (joined (map t a) ++ (joined (map t b) ++ (joined (map t c) ++ joined qs)))
     parts t ps a b c qs = simp (joined-append, map-append, append-assoc)
 
 -- "16 shorter than this event's packets": their size, with nothing written yet
-pub size-in : (e : Engine) (w : Writes) → length (joined (packetsIn e w)) ≡ sizeIn w
+pub size-in : (e : Engine) (w : Writes) → length (joined (packetsView e w)) ≡ sizeView w
 size-in e w =
     ap length (joined-in e w)
     ∙ simp length-append (omega (arith, size-65 e w, size-when e (w .changes .first) (change (w .changes .index) (w .changes .status) (w .changes .after)), size-passings e (w .changes .to - w .changes .from) (w .changes .from), size-when e (w .changes .stopped) (change (e .progress .next) 1 (e .progress)), size-68 e w))
@@ -86,11 +86,11 @@ size-in e w =
 
 pub point-of : (h : Header) (l : Load) (p : Point) (s : ℕ) (after : Progress) (q d : ℕ) → q ≡ flag (endAhead l (standing after))
     → d ≡ (if eqb s statusStopped then p .stopping else 0)
-    → Packet.TimingPoint (record { header = h; nidc = p .nidc; nidtp = p .nidtp; «q_eoj_reached» = q; alignment = p .alignment; status = s; stopping = d }) ≡ timingPointOf h l p s after
+    → Packet.TimingPoint (record { header = h; nidc = p .nidc; nidtp = p .nidtp; «q_eoj_reached» = q; alignment = p .alignment; status = s; stopping = d }) ≡ timingPointView h l p s after
 point-of h l p s after q d a b = rw (a, b)
 
 module _ (j : Route) (x : Position) (h : Header) (told : h ≡ header j x) where
-  pub packet-62 : (k s : ℕ) (after : Progress) (p : Point) → p ≡ point j k → timingPointOf h (j .load) p s after ≡ timingPoint j x (change k s after)
+  pub packet-62 : (k s : ℕ) (after : Progress) (p : Point) → p ≡ point j k → timingPointView h (j .load) p s after ≡ timingPoint j x (change k s after)
   unfolding timingPoint
   packet-62 k s after p a = rw (a, told)
 
@@ -148,11 +148,11 @@ behind at ps l m r bytes t = rw (t .memory, t .next) (sets-more (joined ps) byte
 -- an event's packets, put kind by kind
 pub put-all : (e : Engine) (w : Writes) (l m₁ m₂ m₃ m₄ m₅ : List ℕ) (a b c d : ℕ)
     → Put 0 (packets65 e w) l m₁ a
-    → Put a (packets62 e (firstIn (w .changes))) m₁ m₂ b
-    → Put b (packets62 e (passingsIn (w .changes))) m₂ m₃ c
-    → Put c (packets62 e (stoppedIn (w .changes) (e .progress))) m₃ m₄ d
+    → Put a (packets62 e (firstView (w .changes))) m₁ m₂ b
+    → Put b (packets62 e (passingsView (w .changes))) m₂ m₃ c
+    → Put c (packets62 e (stoppedView (w .changes) (e .progress))) m₃ m₄ d
     → m₅ ≡ sets m₄ d (joined (packets68 e w))
-    → m₅ ≡ sets l 0 (joined (packetsIn e w))
+    → m₅ ≡ sets l 0 (joined (packetsView e w))
 put-all e w l m₁ m₂ m₃ m₄ m₅ a b c d t₁ t₂ t₃ t₄ t₅ =
     t₅
     ∙ behind _ _ _ _ _ _ t₄
@@ -179,6 +179,6 @@ module _ (e : Engine) (to k : ℕ) where
 
 -- ---- the packets are the model's
 pub packets-in : (m : Engine) (w : Writes) (before after : Status) → w .due ≡ statusDue before after → m .control .state ≡ after .state → w .conditions ≡ after .conditions
-    → packetsIn m w ≡ packetsOf (routeIn m) (m .train .position) (loadedIn w) (changesIn (w .changes) (m .progress)) before after
+    → packetsView m w ≡ packetsOf (routeIn m) (m .train .position) (loadedView w) (changesView (w .changes) (m .progress)) before after
 unfolding packetsOf
 packets-in m w before after d s c = rw (d, s, c)

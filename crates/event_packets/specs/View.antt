@@ -29,25 +29,25 @@ use Rattle.event_packets.specs.declared.Writes.{Writes}
 abbrev pub statusView : Shown → Status
 statusView s = record { state = s .state; conditions = s .conditions; speed = s .speed }
 
-abbrev pub firstIn : Changes → List Change
-firstIn c = when (c .first) (change (c .index) (c .status) (c .after))
+abbrev pub firstView : Changes → List Change
+firstView c = when (c .first) (change (c .index) (c .status) (c .after))
 
-abbrev pub passingsIn : Changes → List Change
-passingsIn c = passings (c .to - c .from) (c .from)
+abbrev pub passingsView : Changes → List Change
+passingsView c = passings (c .to - c .from) (c .from)
 
 -- `p` is the progress after the event
-abbrev pub stoppedIn : Changes → Progress → List Change
-stoppedIn c p = when (c .stopped) (change (p .next) statusStopped p)
+abbrev pub stoppedView : Changes → Progress → List Change
+stoppedView c p = when (c .stopped) (change (p .next) statusStopped p)
 
-abbrev pub changesIn : Changes → Progress → List Change
-changesIn c p = firstIn c ++ (passingsIn c ++ stoppedIn c p)
+abbrev pub changesView : Changes → Progress → List Change
+changesView c p = firstView c ++ (passingsView c ++ stoppedView c p)
 
-abbrev pub loadedIn : Writes → Option Head
-loadedIn w = if w .loaded then some (w .head) else none
+abbrev pub loadedView : Writes → Option Head
+loadedView w = if w .loaded then some (w .head) else none
 
 -- packet 62 for a change of a point, by the load's group
-abbrev pub timingPointOf : Header → Load → Point → ℕ → Progress → Packet
-timingPointOf h l p status after =
+abbrev pub timingPointView : Header → Load → Point → ℕ → Progress → Packet
+timingPointView h l p status after =
     Packet.TimingPoint (record {
       header = h;
       nidc = p .nidc;
@@ -62,18 +62,18 @@ abbrev pub packets62 : Engine → List Change → List Packet
 packets62 e l = map (timingPoint (routeIn e) (e .train .position)) l
 
 abbrev pub packets65 : Engine → Writes → List Packet
-packets65 e w = received (routeIn e) (e .train .position) (loadedIn w)
+packets65 e w = received (routeIn e) (e .train .position) (loadedView w)
 
 abbrev pub packets68 : Engine → Writes → List Packet
 packets68 e w = when (w .due) (atoStatus (routeIn e) (e .train .position) (e .control .state) (w .conditions))
 
 -- "Order: 65, the 62s as they arise, 68."
-abbrev pub packetsIn : Engine → Writes → List Packet
-packetsIn e w = packets65 e w ++ (packets62 e (changesIn (w .changes) (e .progress)) ++ packets68 e w)
+abbrev pub packetsView : Engine → Writes → List Packet
+packetsView e w = packets65 e w ++ (packets62 e (changesView (w .changes) (e .progress)) ++ packets68 e w)
 
 -- their bytes: 29, 25 and 19 each
-abbrev pub sizeIn : Writes → ℕ
-sizeIn w =
+abbrev pub sizeView : Writes → ℕ
+sizeView w =
     kindSize kind65 * flag (w .loaded)
     + kindSize kind62 * (flag (w .changes .first) + (w .changes .to - w .changes .from) + flag (w .changes .stopped))
     + kindSize kind68 * flag (w .due)

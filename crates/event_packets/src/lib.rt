@@ -21,7 +21,7 @@ ghost use Rattle.packets.specs.Packets.{joined};
 ghost use Rattle.timing.specs.Position.{point, known};
 ghost use Rattle.timing.specs.Changes.{change, passings, statusStopped};
 ghost use Rattle.call.specs.Packets.{header, timingPoint, jpReceived, atoStatus, statusDue};
-ghost use Rattle.event_packets.specs.View.{statusView, firstIn, stoppedIn, timingPointOf, packets62, packets65, packets68, packetsIn, sizeIn, Put};
+ghost use Rattle.event_packets.specs.View.{statusView, firstView, stoppedView, timingPointView, packets62, packets65, packets68, packetsView, sizeView, Put};
 
 // What an event changes of the points: first, perhaps, a departure, a skip or its revocation; then the points from `from` to `to`, without that one,
 // pass; last, perhaps, the first point not passed becomes reached.
@@ -93,7 +93,7 @@ fn stopping_of(p: Point, status: u8) -> u8
 
 // Packet 62 for a change of point p.
 fn timing_point_of(header: Header, l: Load, p: Point, status: u8, after: Progress) -> Packet
-    ensures { λ r. ⌜ r ≡ timingPointOf header l p status after ⌝ }
+    ensures { λ r. ⌜ r ≡ timingPointView header l p status after ⌝ }
 {
     let q_eoj_reached = bit_of(conditions::end_ahead(l, after));
     let stopping = stopping_of(p, status);
@@ -194,7 +194,7 @@ fn count_of(from: u8, to: u8) -> usize
 }
 
 pub fn size(w: Writes) -> usize
-    ensures { λ r. ⌜ r ≡ sizeIn w ⌝ }
+    ensures { λ r. ⌜ r ≡ sizeView w ⌝ }
 {
     let c = w.changes;
     let changed = one_if(c.first) + count_of(c.from, c.to) + one_if(c.stopped);
@@ -218,7 +218,7 @@ fn put_received(e: Engine, w: Writes, out: &mut [u8]) -> usize
 
 fn put_first(e: Engine, c: Changes, out: &mut [u8], at: usize) -> usize
     requires { ⌜ at ≤ 100000 ⌝ }
-    ensures { λ r. ⌜ Put at (packets62 e (firstIn c)) (now (out .entry)) (now (out .exit)) r ⌝ }
+    ensures { λ r. ⌜ Put at (packets62 e (firstView c)) (now (out .entry)) (now (out .exit)) r ⌝ }
 {
     if !c.first {
         return at;
@@ -257,7 +257,7 @@ fn put_passings(e: Engine, from: u8, to: u8, out: &mut [u8], at: usize) -> usize
 
 fn put_stopped(e: Engine, c: Changes, out: &mut [u8], at: usize) -> usize
     requires { ⌜ at ≤ 100000 ⌝ }
-    ensures { λ r. ⌜ Put at (packets62 e (stoppedIn c (e .progress))) (now (out .entry)) (now (out .exit)) r ⌝ }
+    ensures { λ r. ⌜ Put at (packets62 e (stoppedView c (e .progress))) (now (out .entry)) (now (out .exit)) r ⌝ }
 {
     if !c.stopped {
         return at;
@@ -279,7 +279,7 @@ fn put_status(e: Engine, w: Writes, out: &mut [u8], at: usize)
 
 // The packets of an event, from the front of the output memory on.
 pub fn write(e: Engine, w: Writes, out: &mut [u8])
-    ensures { λ _. ⌜ now (out .exit) ≡ sets (now (out .entry)) 0 (joined (packetsIn e w)) ⌝ }
+    ensures { λ _. ⌜ now (out .exit) ≡ sets (now (out .entry)) 0 (joined (packetsView e w)) ⌝ }
 {
     let c = w.changes;
     let first = put_received(e, w, out);

@@ -2,8 +2,14 @@ use denote.Ref.{now}
 use mathlib.Core.Path.{_≡_, refl, sym, ap, ap₂, subst, _∙_}
 use Rattle.engine_value.specs.Engine.{fresh}
 use Rattle.conditions.specs.Conditions.{lookUp}
-use Rattle.call.specs.Effect.{effect}
-use Rattle.effects.specs.View.{lookedUpIn, Gives}
+use Rattle.wire.specs.Judged.Judged.{accept}
+use Rattle.wire.specs.declared.Verdict.{Verdict}
+use Rattle.engine_value.specs.declared.Engine.{Engine}
+use Rattle.event.specs.Kinds.{carried}
+use Rattle.event.specs.declared.Event.{Event}
+use Rattle.call.specs.Effect.{valuesOnly, taking, effect}
+use Rattle.effects.specs.declared.Effect.{Effect}
+use Rattle.effects.specs.View.{lookedUpIn, plainEffect, Gives}
 use Rattle.effects.proofs.Laws.{gives-values-only}
 use borrow.Author.Needs.{needs}
 use Rattle.effects.proofs.effect_of.Statement.{statement}
@@ -120,15 +126,29 @@ enum-known-v-7 c = search needs
 skip-requires-2 : tie.Need-skip-requires-2
 skip-requires-2 c κs = looked (c .before .before .before)
 
+-- an event that brings a value, or nothing
+taken : (w : tie.After-look-up) → let a = w .before .before .before .before .before .args in (v : Event) (m : Engine) (f : Effect) → a .v ≡ v
+    → accept (valuesOnly (taking (a .e) (carried v))) ≡ effect (a .e) (now (a .journey)) (now (a .book)) v → lookedUpIn (a .e) ≡ lookedUpIn (taking (a .e) (carried v))
+    → m ≡ taking (a .e) (carried v) → f ≡ plainEffect m Verdict.Accepted (w .look-up .result) (w .look-up .result)
+    → Gives (a .e) (effect (a .e) (now (a .journey)) (now (a .book)) (a .v)) f
+taken w v m f q x t p r =
+    let a = w .before .before .before .before .before .args in
+    gives-values-only _ m _ _ _ f _ r p (looked w) (looked w ∙ t) (x ∙ sym (ap (effect (a .e) (now (a .journey)) (now (a .book))) q))
+
+-- an event whose effect is a function's
+handed : (w : tie.After-look-up) → let a = w .before .before .before .before .before .args in (v : Event) (f : Effect) → a .v ≡ v
+    → Gives (a .e) (effect (a .e) (now (a .journey)) (now (a .book)) v) f → Gives (a .e) (effect (a .e) (now (a .journey)) (now (a .book)) (a .v)) f
+handed w v f q g =
+    let a = w .before .before .before .before .before .args in
+    subst (λ x. Gives (a .e) x f) (sym (ap (effect (a .e) (now (a .journey)) (now (a .book))) q)) g
+
 returns : tie.Need-returns
 unfolding effect
-returns c = let w = c .before .before .before in let s = w .before .before .before .before .before in
-    gives-values-only _ _ (s .args .e) _ _ _ _ (c .plain .ensures) refl (looked w) (looked w) (sym (ap (effect (s .args .e) (now (s .args .journey)) (now (s .args .book))) (c .before .enum-told .given .1)))
+returns c = taken (c .before .before .before) _ _ _ (c .before .enum-told .given .1) refl refl refl (c .plain .ensures)
 
 returns-2 : tie.Need-returns-2
 unfolding effect
-returns-2 c = let w = c .before .before .before in let s = w .before .before .before .before .before in
-    gives-values-only _ _ (s .args .e) _ _ _ _ (c .plain2 .ensures) refl (looked w) (looked w) (sym (ap (effect (s .args .e) (now (s .args .journey)) (now (s .args .book))) (c .before .enum-told2 .given .1)))
+returns-2 c = taken (c .before .before .before) _ _ _ (c .before .enum-told2 .given .1) refl refl refl (c .plain2 .ensures)
 
 returns-3 : tie.Need-returns-3
 unfolding effect
@@ -137,53 +157,43 @@ returns-3 c = let w = c .before .before .before .before .before in let s = w .be
 
 returns-4 : tie.Need-returns-4
 unfolding effect
-returns-4 c = let w = c .before .before .before in let s = w .before .before .before .before .before in
-    gives-values-only _ _ (s .args .e) _ _ _ _ (c .plain4 .ensures) refl (looked w) (looked w) (sym (ap (effect (s .args .e) (now (s .args .journey)) (now (s .args .book))) (c .before .enum-told4 .given .1)))
+returns-4 c = taken (c .before .before .before) _ _ _ (c .before .enum-told4 .given .1) refl refl refl (c .plain4 .ensures)
 
 returns-5 : tie.Need-returns-5
 unfolding effect
-returns-5 c = let w = c .before .before .before .before .before in let s = w .before .before .before .before .before in
-    gives-values-only _ _ _ _ _ _ _ (c .plain5 .ensures) (c .before .with-reports .ensures) (looked w) (looked w) (sym (ap (effect (s .args .e) (now (s .args .journey)) (now (s .args .book))) (c .before .before .before .v .given .1)))
+returns-5 c = taken (c .before .before .before .before .before) _ _ _ (c .before .before .before .v .given .1) refl refl (c .before .with-reports .ensures) (c .plain5 .ensures)
 
 returns-6 : tie.Need-returns-6
 unfolding effect
-returns-6 c = let w = c .before .before .before .before .before in let s = w .before .before .before .before .before in
-    gives-values-only _ _ _ _ _ _ _ (c .plain6 .ensures) (c .before .with-mode .ensures) (looked w) (looked w) (sym (ap (effect (s .args .e) (now (s .args .journey)) (now (s .args .book))) (c .before .before .before .v2 .given .1)))
+returns-6 c = taken (c .before .before .before .before .before) _ _ _ (c .before .before .before .v2 .given .1) refl refl (c .before .with-mode .ensures) (c .plain6 .ensures)
 
 returns-7 : tie.Need-returns-7
 unfolding effect
-returns-7 c = let w = c .before .before .before .before .before in let s = w .before .before .before .before .before in
-    gives-values-only _ _ _ _ _ _ _ (c .plain7 .ensures) (c .before .with-lever .ensures) (looked w) (looked w) (sym (ap (effect (s .args .e) (now (s .args .journey)) (now (s .args .book))) (c .before .before .before .v3 .given .1)))
+returns-7 c = taken (c .before .before .before .before .before) _ _ _ (c .before .before .before .v3 .given .1) refl refl (c .before .with-lever .ensures) (c .plain7 .ensures)
 
 returns-8 : tie.Need-returns-8
 unfolding effect
-returns-8 c = let w = c .before .before .before in let s = w .before .before .before .before .before in
-    gives-values-only _ _ (s .args .e) _ _ _ _ (c .plain8 .ensures) refl (looked w) (looked w) (sym (ap (effect (s .args .e) (now (s .args .journey)) (now (s .args .book))) (c .before .enum-told5 .given .1)))
+returns-8 c = taken (c .before .before .before) _ _ _ (c .before .enum-told5 .given .1) refl refl refl (c .plain8 .ensures)
 
 returns-9 : tie.Need-returns-9
 unfolding effect
-returns-9 c = let w = c .before .before .before .before in let s = w .before .before .before .before .before in
-    subst (λ x. Gives (s .args .e) x (c .position .result)) (sym (ap (effect (s .args .e) (now (s .args .journey)) (now (s .args .book))) (c .before .before .v4 .given .1))) (c .position .ensures)
+returns-9 c = handed (c .before .before .before .before) _ _ (c .before .before .v4 .given .1) (c .position .ensures)
 
 returns-10 : tie.Need-returns-10
 unfolding effect
-returns-10 c = let w = c .before .before .before .before .before in let s = w .before .before .before .before .before in
-    gives-values-only _ _ _ _ _ _ _ (c .plain9 .ensures) (c .before .with-length .ensures) (looked w) (looked w) (sym (ap (effect (s .args .e) (now (s .args .journey)) (now (s .args .book))) (c .before .before .before .v5 .given .1)))
+returns-10 c = taken (c .before .before .before .before .before) _ _ _ (c .before .before .before .v5 .given .1) refl refl (c .before .with-length .ensures) (c .plain9 .ensures)
 
 returns-11 : tie.Need-returns-11
 unfolding effect
-returns-11 c = let w = c .before .before .before in let s = w .before .before .before .before .before in
-    subst (λ x. Gives (s .args .e) x (c .load .result)) (sym (ap (effect (s .args .e) (now (s .args .journey)) (now (s .args .book))) (c .before .enum-told6 .given .1))) (c .load .ensures)
+returns-11 c = handed (c .before .before .before) _ _ (c .before .enum-told6 .given .1) (c .load .ensures)
 
 returns-12 : tie.Need-returns-12
 unfolding effect
-returns-12 c = let w = c .before .before .before .before in let s = w .before .before .before .before .before in
-    subst (λ x. Gives (s .args .e) x (c .skip .result)) (sym (ap (effect (s .args .e) (now (s .args .journey)) (now (s .args .book))) (c .before .before .v6 .given .1))) (c .skip .ensures)
+returns-12 c = handed (c .before .before .before .before) _ _ (c .before .before .v6 .given .1) (c .skip .ensures)
 
 returns-13 : tie.Need-returns-13
 unfolding effect
-returns-13 c = let w = c .before .before .before .before in let s = w .before .before .before .before .before in
-    subst (λ x. Gives (s .args .e) x (c .skip2 .result)) (sym (ap (effect (s .args .e) (now (s .args .journey)) (now (s .args .book))) (c .before .before .v7 .given .1))) (c .skip2 .ensures)
+returns-13 c = handed (c .before .before .before .before) _ _ (c .before .before .v7 .given .1) (c .skip2 .ensures)
 
 pub effect-of-spec : {M : Type 1} → statement M
 effect-of-spec =

@@ -1,7 +1,6 @@
 use denote.Ref.{now}
 use mathlib.Core.Bool.{false}
 use mathlib.Core.Path.{ap, _∙_}
-use borrow.Author.Tests.{ne-eqb}
 use Rattle.engine_value.specs.Engine.{routeIn, progress, withProgress}
 use Rattle.engine_value.specs.declared.Engine.{Engine}
 use Rattle.timing.specs.Load.{target}
@@ -22,7 +21,7 @@ returns c =
     let b = l .before .before .before in
     let a = b .args in
     let h = c .before .if1 .taken in
-    gives-number (a .e) (l .load-route .result .number) (a .looked) _ _ (ne-eqb (l .load-route .result .number) 0 h) (c .plain .ensures) (b .pre)
+    gives-number (a .e) (l .load-route .result .number) (a .looked) _ _ (c .plain .ensures) (b .pre)
     (load-number (a .e) (now (a .journey)) (now (a .book)) (l .load-route .result) (l .load-route .ensures .seen) h)
 
 with-route-requires : tie.Need-with-route-requires

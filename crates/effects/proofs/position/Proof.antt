@@ -36,7 +36,7 @@ plain-requires c κs = search needs
 
 returns : tie.Need-returns
 returns c = let t = c .before .before in let s = t .before .before .before .before in
-    gives-number (s .args .e) 13 (s .args .looked) _ _ refl (c .plain .ensures) (s .pre) (sym (position-13 (s .args .e) (s .args .x) (sym (tested t) ∙ c .before .if1 .taken)))
+    gives-number (s .args .e) 13 (s .args .looked) _ _ (c .plain .ensures) (s .pre) (sym (position-13 (s .args .e) (s .args .x) (sym (tested t) ∙ c .before .if1 .taken)))
 
 no-head-requires : tie.Need-no-head-requires
 no-head-requires c κs = search needs

@@ -22,7 +22,7 @@ plain-requires c κs = search needs
 returns : tie.Need-returns
 unfolding skipEffect
 returns c = let s = c .before .before .before in let b = s .before in
-    gives-number (b .args .e) 14 (b .args .looked) _ _ refl (c .plain .ensures) (b .pre) (sym (ap (skipEffect _ _) (sym (s .find-stop .ensures .0) ∙ c .before .enum-told .given .1)))
+    gives-number (b .args .e) 14 (b .args .looked) _ _ (c .plain .ensures) (b .pre) (sym (ap (skipEffect _ _) (sym (s .find-stop .ensures .0) ∙ c .before .enum-told .given .1)))
 
 skip-at-requires : tie.Need-skip-at-requires
 skip-at-requires c κs = let s = c .before .before .before in (subst (IndexBelow 64) (c .before .k .given .1) (s .find-stop .ensures .1), s .before .pre)

@@ -39,17 +39,23 @@ enum-told c = search needs
 effect-of-requires : tie.Need-effect-of-requires
 effect-of-requires c κs = search needs
 
+enum-known-verdict : tie.Need-enum-known-verdict
+enum-known-verdict c = search needs
+
 refused-requires-2 : tie.Need-refused-requires-2
 refused-requires-2 c κs = search needs
 
 returns-2 : tie.Need-returns-2
 returns-2 c =
-    let f = c .before .before .before in
+    let f = c .before .before .before .before in
     let p = f .before .before .before in
     let a = p .before .before .before .before .before .before .args in
     steps-refused (a .e) (now (a .out)) _ _ _
-    (rows-effect (a .e) (a .v) (now (a .journey)) (now (a .book)) (now (a .out)) _ (judged p) (f .effect-of .result) (f .before .enum-told .given .1) (f .effect-of .ensures .effect) (c .before .if1 .taken))
+    (rows-effect (a .e) (a .v) (now (a .journey)) (now (a .book)) (now (a .out)) _ (judged p) (f .effect-of .result) (f .before .enum-told .given .1) (f .effect-of .ensures .effect) _ (c .before .before .verdict .given .1))
     (c .refused2 .ensures)
+
+enum-told-2 : tie.Need-enum-told-2
+enum-told-2 c = search needs
 
 conclude-requires : tie.Need-conclude-requires
 conclude-requires c κs = let g = c .before .before .before .effect-of .ensures in (g .before, g .after)
@@ -65,7 +71,7 @@ returns-3 c =
     let p = f .before .before .before in
     let a = p .before .before .before .before .before .before .args in
     steps-by (a .e) (now (a .out)) _ _ _ _
-    (rows-output (a .e) (a .v) (now (a .journey)) (now (a .book)) (now (a .out)) _ (judged p) (f .effect-of .result) (f .before .enum-told .given .1) (f .effect-of .ensures .effect) (i .if1 .left))
+    (rows-output (a .e) (a .v) (now (a .journey)) (now (a .book)) (now (a .out)) _ (judged p) (f .effect-of .result) (f .before .enum-told .given .1) (f .effect-of .ensures .effect) (i .enum-told2 .given .1))
     (o .conclude .ensures)
 
 pub take-spec : {M : Type 1} → statement M
@@ -80,8 +86,10 @@ take-spec =
     returns
     enum-told
     effect-of-requires
+    enum-known-verdict
     refused-requires-2
     returns-2
+    enum-told-2
     conclude-requires
     same-length
     returns-3)
