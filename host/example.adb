@@ -23,26 +23,24 @@ procedure Example is
    function Hex (N : Unsigned_32; Width : Natural) return String is
      (if Width = 0 then "" else Hex (N / 16, Width - 1) & Symbols (Natural (N mod 16) + 1));
 
-   function Text (Kind : Unsigned_8; H : Hollwern.Packet_Header) return String is
-     ("" & Kind & " at " & H.Nidc & "/" & H.Nidsp & " " & H.Offset & " speed " & H.Speed & " operational " & Hex (H.Operational, 8));
-
    procedure Show_Packet (Packet : Bytes) is
-      Fields : constant Hollwern.Packet_Fields := Hollwern.Read (Packet'Address, Packet'Length);
-      P : Hollwern.Packet_62 renames Fields.Timing_Point;
-      R : Hollwern.Packet_65 renames Fields.Jp_Received;
-      S : Hollwern.Packet_68 renames Fields.Ato_Status;
+      P : constant Hollwern.Packet_Fields := Hollwern.Read (Packet'Address, Packet'Length);
+      H : Hollwern.Packet_Header renames P.Header;
    begin
-      case Fields.Kind is
+      if not P.Accepted then
+         Put_Line ("R " & P.Number);
+         return;
+      end if;
+      Put ("" & P.Kind & " at " & H.Nidc & "/" & H.Nidsp & " " & H.Offset & " speed " & H.Speed & " operational " & Hex (H.Operational, 8));
+      case P.Kind is
          when 62 =>
-            Put_Line (Text (62, P.Header) & ": point " & P.Nidc & "/" & P.Nidtp & " qeoj " & P.Q_Eoj_Reached & " alignment " & P.Alignment
+            Put_Line (": point " & P.Nidc & "/" & P.Nidtp & " qeoj " & P.Q_Eoj_Reached & " alignment " & P.Alignment
                       & " status " & P.Status & " stopping " & P.Stopping);
          when 65 =>
-            Put_Line (Text (65, R.Header) & ": nidc " & R.Nidc & " atots " & R.Atots & " date " & R.Date & " seconds " & R.Seconds
-                      & " counter " & R.Counter & " status " & R.Status);
-         when 68 =>
-            Put_Line (Text (68, S.Header) & ": state " & S.State & " conditions " & Hex (Unsigned_32 (S.Conditions), 3));
+            Put_Line (": nidc " & P.Nidc & " atots " & P.Atots & " date " & P.Date & " seconds " & P.Seconds
+                      & " counter " & P.Counter & " status " & P.Status);
          when others =>
-            Put_Line ("R " & Fields.Number);
+            Put_Line (": state " & P.State & " conditions " & Hex (Unsigned_32 (P.Conditions), 3));
       end case;
    end Show_Packet;
 

@@ -12,27 +12,20 @@ static uint8_t out[4096];
 
 static size_t packet_size(uint8_t number) { return number == 62 ? 25 : number == 65 ? 29 : 19; }
 
-static void show_header(uint8_t kind, Header h) {
-    printf("%u at %u/%u %u speed %u operational %08X:", kind, h.nidc, h.nidsp, h.offset, h.speed, h.operational);
-}
-
 static void show_packet(const uint8_t *bytes, size_t n) {
-    PacketFields fields = hollwern_read(bytes, n);
-    if (!fields.accepted) {
-        printf("R %u\n", fields.number);
-    } else if (fields.kind == 62) {
-        TimingPoint p = fields.timing_point;
-        show_header(62, p.header);
-        printf(" point %u/%u qeoj %u alignment %u status %u stopping %u\n", p.nidc, p.nidtp, p.q_eoj_reached, p.alignment, p.status, p.stopping);
-    } else if (fields.kind == 65) {
-        JpReceived p = fields.jp_received;
-        show_header(65, p.header);
-        printf(" nidc %u atots %u date %u seconds %u counter %u status %u\n", p.nidc, p.atots, p.date, p.seconds, p.counter, p.status);
-    } else {
-        AtoStatus p = fields.ato_status;
-        show_header(68, p.header);
-        printf(" state %u conditions %03X\n", p.state, p.conditions);
+    PacketFields p = hollwern_read(bytes, n);
+    if (!p.accepted) {
+        printf("R %u\n", p.number);
+        return;
     }
+    Header h = p.header;
+    printf("%u at %u/%u %u speed %u operational %08X:", p.kind, h.nidc, h.nidsp, h.offset, h.speed, h.operational);
+    if (p.kind == 62)
+        printf(" point %u/%u qeoj %u alignment %u status %u stopping %u\n", p.nidc, p.nidtp, p.q_eoj_reached, p.alignment, p.status, p.stopping);
+    else if (p.kind == 65)
+        printf(" nidc %u atots %u date %u seconds %u counter %u status %u\n", p.nidc, p.atots, p.date, p.seconds, p.counter, p.status);
+    else
+        printf(" state %u conditions %03X\n", p.state, p.conditions);
 }
 
 static void call(const uint8_t *event, size_t n) {

@@ -2,7 +2,7 @@
 
 mod hollwern;
 
-use hollwern::{Engine, Header};
+use hollwern::Engine;
 
 /// Segment 17/500, 100,000 long; stop 7001 at 40,000 with R 150; 7002 at 90,000, End of Journey.
 const JOURNEY: [u8; 28] = [
@@ -14,28 +14,19 @@ const BOOK: [u8; 32] = [
 ];
 
 fn show_packet(bytes: &[u8]) {
-    let fields = hollwern::read(bytes);
-    let (kind, p, r, s) = (fields.kind, fields.timing_point, fields.jp_received, fields.ato_status);
-    let header = |h: Header| {
-        print!("{kind} at {}/{} {} speed {} operational {:08X}:", h.nidc, h.nidsp, h.offset, h.speed, h.operational)
-    };
-    match kind {
-        62 => {
-            header(p.header);
-            print!(" point {}/{} qeoj {} alignment {}", p.nidc, p.nidtp, p.q_eoj_reached, p.alignment);
-            println!(" status {} stopping {}", p.status, p.stopping);
-        }
-        65 => {
-            header(r.header);
-            print!(" nidc {} atots {} date {} seconds {}", r.nidc, r.atots, r.date, r.seconds);
-            println!(" counter {} status {}", r.counter, r.status);
-        }
-        68 => {
-            header(s.header);
-            println!(" state {} conditions {:03X}", s.state, s.conditions);
-        }
-        _ => println!("R {}", fields.number),
+    let p = hollwern::read(bytes);
+    if !p.accepted {
+        println!("R {}", p.number);
+        return;
     }
+    let h = p.header;
+    print!("{} at {}/{} {} speed {} operational {:08X}:", p.kind, h.nidc, h.nidsp, h.offset, h.speed, h.operational);
+    match p.kind {
+        62 => print!(" point {}/{} qeoj {} alignment {} status {} stopping {}", p.nidc, p.nidtp, p.q_eoj_reached, p.alignment, p.status, p.stopping),
+        65 => print!(" nidc {} atots {} date {} seconds {} counter {} status {}", p.nidc, p.atots, p.date, p.seconds, p.counter, p.status),
+        _ => print!(" state {} conditions {:03X}", p.state, p.conditions),
+    }
+    println!();
 }
 
 fn call(e: &mut Engine, event: &[u8]) {

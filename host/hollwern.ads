@@ -33,34 +33,19 @@ package Hollwern is
       Operational : Unsigned_32;
    end record with Convention => C_Pass_By_Copy, Object_Size => 8 * 20;
 
-   type Packet_62 is record
-      Header : Packet_Header;
-      Nidc : Unsigned_16;
-      Nidtp : Unsigned_32;
-      Q_Eoj_Reached, Alignment, Status, Stopping : Unsigned_8;
-   end record with Convention => C_Pass_By_Copy, Object_Size => 8 * 32;
-
-   type Packet_65 is record
-      Header : Packet_Header;
-      Nidc, Atots, Date : Unsigned_16;
-      Seconds : Unsigned_32;
-      Counter, Status : Unsigned_8;
-   end record with Convention => C_Pass_By_Copy, Object_Size => 8 * 36;
-
-   type Packet_68 is record
-      Header : Packet_Header;
-      State : Unsigned_8;
-      Conditions : Unsigned_16;
-   end record with Convention => C_Pass_By_Copy, Object_Size => 8 * 24;
-
    type Packet_Fields is record
       Accepted : C_bool;
       Number, Kind : Unsigned_8;
       Size : size_t;
-      Timing_Point : Packet_62;
-      Jp_Received : Packet_65;
-      Ato_Status : Packet_68;
-   end record with Convention => C_Pass_By_Copy, Object_Size => 8 * 112;
+      Header : Packet_Header;
+      Nidc : Unsigned_16;
+      Nidtp : Unsigned_32;
+      Q_Eoj_Reached, Alignment, Status, Stopping : Unsigned_8;
+      Atots, Date : Unsigned_16;
+      Seconds : Unsigned_32;
+      Counter, State : Unsigned_8;
+      Conditions : Unsigned_16;
+   end record with Convention => C_Pass_By_Copy, Object_Size => 8 * 64;
 
    procedure Fresh (E : in out Engine) with Import, Convention => C, External_Name => "hollwern_fresh";
    function Step

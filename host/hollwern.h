@@ -84,40 +84,28 @@ typedef struct {
     uint8_t standings[64];
 } Shown;
 
-/* The packets' values, as in crates/packets/src. */
 typedef struct {
     uint16_t nidc;
     uint32_t nidsp, offset;
     uint16_t speed;
     uint32_t operational;
 } Header;
-typedef struct {
-    Header header;
-    uint16_t nidc;
-    uint32_t nidtp;
-    uint8_t q_eoj_reached, alignment, status, stopping;
-} TimingPoint; /* 62 */
-typedef struct {
-    Header header;
-    uint16_t nidc, atots, date;
-    uint32_t seconds;
-    uint8_t counter, status;
-} JpReceived; /* 65 */
-typedef struct {
-    Header header;
-    uint8_t state;
-    uint16_t conditions;
-} AtoStatus; /* 68 */
 
-/* Where accepted: number 0, `kind` the packet's number, `size` its bytes, and the values of the packet of that kind, all else 0.
- * Where refused: the number, all else 0. */
+/* Where accepted: number 0, `kind` the packet's number, `size` its bytes, and header and fields: 62 has nidc, nidtp, q_eoj_reached, alignment,
+ * status, stopping (data); 65 has nidc, atots, date, seconds, counter, status; 68 has state, conditions; all else 0. Where
+ * refused: the number, all else 0. */
 typedef struct {
     bool accepted;
     uint8_t number, kind;
     size_t size;
-    TimingPoint timing_point;
-    JpReceived jp_received;
-    AtoStatus ato_status;
+    Header header;
+    uint16_t nidc;
+    uint32_t nidtp;
+    uint8_t q_eoj_reached, alignment, status, stopping;
+    uint16_t atots, date;
+    uint32_t seconds;
+    uint8_t counter, state;
+    uint16_t conditions;
 } PacketFields;
 
 static_assert(sizeof(bool) == 1 && sizeof(size_t) == 8, "x86-64");
@@ -125,8 +113,8 @@ static_assert(sizeof(Segment) == 56 && sizeof(Point) == 20 && sizeof(Load) == 12
 static_assert(offsetof(Engine, load) == 3584 && offsetof(Engine, control) == 3624 && sizeof(Engine) == 3628, "layout");
 static_assert(offsetof(Answer, request) == 3 && offsetof(Answer, bytes) == 8 && sizeof(Answer) == 16, "layout");
 static_assert(offsetof(Shown, conditions) == 2 && offsetof(Shown, standings) == 5 && sizeof(Shown) == 70, "layout");
-static_assert(sizeof(Header) == 20 && sizeof(TimingPoint) == 32 && sizeof(JpReceived) == 36 && sizeof(AtoStatus) == 24, "layout");
-static_assert(offsetof(PacketFields, timing_point) == 16 && offsetof(PacketFields, ato_status) == 84 && sizeof(PacketFields) == 112, "layout");
+static_assert(sizeof(Header) == 20 && offsetof(PacketFields, size) == 8 && offsetof(PacketFields, header) == 16, "layout");
+static_assert(offsetof(PacketFields, nidtp) == 40 && offsetof(PacketFields, conditions) == 58 && sizeof(PacketFields) == 64, "layout");
 
 /* Makes the engine fresh, whatever it was: NP, no journey, no press, no request.
  * To be called once before the first event; power off does the same. */

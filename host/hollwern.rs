@@ -39,43 +39,7 @@ pub struct Header {
     pub operational: u32,
 }
 
-/// Packet 62.
-#[repr(C)]
-#[derive(Clone, Copy, PartialEq, Eq, Debug, Default)]
-pub struct TimingPoint {
-    pub header: Header,
-    pub nidc: u16,
-    pub nidtp: u32,
-    pub q_eoj_reached: u8,
-    pub alignment: u8,
-    pub status: u8,
-    pub stopping: u8,
-}
-
-/// Packet 65.
-#[repr(C)]
-#[derive(Clone, Copy, PartialEq, Eq, Debug, Default)]
-pub struct JpReceived {
-    pub header: Header,
-    pub nidc: u16,
-    pub atots: u16,
-    pub date: u16,
-    pub seconds: u32,
-    pub counter: u8,
-    pub status: u8,
-}
-
-/// Packet 68.
-#[repr(C)]
-#[derive(Clone, Copy, PartialEq, Eq, Debug, Default)]
-pub struct AtoStatus {
-    pub header: Header,
-    pub state: u8,
-    pub conditions: u16,
-}
-
-/// Where accepted: `kind` (62, 65, 68), `size` in bytes, and the values of the packet of that kind. Where refused: the number. All
-/// else is 0.
+/// Where accepted: `kind` (62, 65, 68), `size` in bytes, and the fields that the kind has. Where refused: the number. All else is 0.
 #[repr(C)]
 #[derive(Clone, Copy, PartialEq, Eq, Debug, Default)]
 pub struct PacketFields {
@@ -83,9 +47,19 @@ pub struct PacketFields {
     pub number: u8,
     pub kind: u8,
     pub size: usize,
-    pub timing_point: TimingPoint,
-    pub jp_received: JpReceived,
-    pub ato_status: AtoStatus,
+    pub header: Header,
+    pub nidc: u16,
+    pub nidtp: u32,
+    pub q_eoj_reached: u8,
+    pub alignment: u8,
+    pub status: u8,
+    pub stopping: u8,
+    pub atots: u16,
+    pub date: u16,
+    pub seconds: u32,
+    pub counter: u8,
+    pub state: u8,
+    pub conditions: u16,
 }
 
 extern "C" {

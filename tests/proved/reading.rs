@@ -1,6 +1,6 @@
 //! The proved packet reader beside the model's: every string of bytes must be read or refused alike.
 
-use crate::hollwern::{read, AtoStatus, Header, JpReceived, PacketFields, TimingPoint};
+use crate::hollwern::{read, Header, PacketFields};
 use model::packets::{self, split_packets, Content, Packet};
 
 /// How many strings were read, and how many refused by 17, 18 and 19.
@@ -14,20 +14,15 @@ fn expected(bytes: &[u8]) -> PacketFields {
     };
     let packets::Header { nidc, nidsp, offset, speed, operational } = packet.header;
     let header = Header { nidc, nidsp, offset, speed, operational };
-    let read = |kind| PacketFields { accepted: true, kind, size: packet.size(), ..PacketFields::default() };
+    let read = |kind| PacketFields { accepted: true, kind, size: packet.size(), header, ..PacketFields::default() };
     match packet.content {
         Content::Point { nidc, nidtp, q_eoj_reached, alignment, status, stopping } => {
-            let timing_point = TimingPoint { header, nidc, nidtp, q_eoj_reached, alignment, status, stopping };
-            PacketFields { timing_point, ..read(62) }
+            PacketFields { nidc, nidtp, q_eoj_reached, alignment, status, stopping, ..read(62) }
         }
         Content::Load { nidc, atots, date, seconds, counter, status } => {
-            let jp_received = JpReceived { header, nidc, atots, date, seconds, counter, status };
-            PacketFields { jp_received, ..read(65) }
+            PacketFields { nidc, atots, date, seconds, counter, status, ..read(65) }
         }
-        Content::State { state, conditions } => {
-            let ato_status = AtoStatus { header, state, conditions };
-            PacketFields { ato_status, ..read(68) }
-        }
+        Content::State { state, conditions } => PacketFields { state, conditions, ..read(68) },
     }
 }
 

@@ -36,35 +36,48 @@ stepView e event journey book memory =
 abbrev pub memoryAfter : Engine → List ℕ → List ℕ → List ℕ → List ℕ → List ℕ
 memoryAfter e event journey book memory = stepOf e (call event journey book memory) .memory
 
--- ---- the packet reader: a value that was not read is 0
+-- ---- the packet reader: a field that the kind does not have is 0
 
 abbrev noHeader : Header
 noHeader = record { nidc = 0; nidsp = 0; offset = 0; speed = 0; operational = 0 }
 
-abbrev noTimingPoint : TimingPoint
-noTimingPoint = record { header = noHeader; nidc = 0; nidtp = 0; «q_eoj_reached» = 0; alignment = 0; status = 0; stopping = 0 }
-
-abbrev noJpReceived : JpReceived
-noJpReceived = record { header = noHeader; nidc = 0; atots = 0; date = 0; seconds = 0; counter = 0; status = 0 }
-
-abbrev noAtoStatus : AtoStatus
-noAtoStatus = record { header = noHeader; state = 0; conditions = 0 }
-
-abbrev fields : Bool → ℕ → ℕ → ℕ → TimingPoint → JpReceived → AtoStatus → PacketFields
-fields a n k z p r s = record { accepted = a; number = n; kind = k; size = z; «timing_point» = p; «jp_received» = r; «ato_status» = s }
+-- accepted, number, kind and size; header; NID_C and NID_TP; Q_EOJ_REACHED, alignment, status, stopping data; NID_ATOTS, date, seconds, counter; state
+-- and conditions
+abbrev fields : Bool → ℕ → ℕ → ℕ → Header → ℕ → ℕ → ℕ → ℕ → ℕ → ℕ → ℕ → ℕ → ℕ → ℕ → ℕ → ℕ → PacketFields
+fields accepted number kind size h c tp eoj al st sd ts da se co state word = record {
+  accepted = accepted;
+  number = number;
+  kind = kind;
+  size = size;
+  header = h;
+  nidc = c;
+  nidtp = tp;
+  «q_eoj_reached» = eoj;
+  alignment = al;
+  status = st;
+  stopping = sd;
+  atots = ts;
+  date = da;
+  seconds = se;
+  counter = co;
+  state = state;
+  conditions = word;
+}
 
 -- "The packet reader returns the packet's fields"
-abbrev read : Packet → TimingPoint → JpReceived → AtoStatus → PacketFields
+abbrev read : Packet → Header → ℕ → ℕ → ℕ → ℕ → ℕ → ℕ → ℕ → ℕ → ℕ → ℕ → ℕ → ℕ → PacketFields
 read p = fields true 0 (packetView p .kind .number) (sizeOf p)
 
 abbrev pub packetFieldsView : Packet → PacketFields
-packetFieldsView (Packet.TimingPoint p) = read (Packet.TimingPoint p) p noJpReceived noAtoStatus
-packetFieldsView (Packet.JpReceived p) = read (Packet.JpReceived p) noTimingPoint p noAtoStatus
-packetFieldsView (Packet.AtoStatus p) = read (Packet.AtoStatus p) noTimingPoint noJpReceived p
+packetFieldsView (Packet.TimingPoint p) =
+    read (Packet.TimingPoint p) (p .header) (p .nidc) (p .nidtp) (p .«q_eoj_reached») (p .alignment) (p .status) (p .stopping) 0 0 0 0 0 0
+packetFieldsView (Packet.JpReceived p) =
+    read (Packet.JpReceived p) (p .header) (p .nidc) 0 0 0 (p .status) 0 (p .atots) (p .date) (p .seconds) (p .counter) 0 0
+packetFieldsView (Packet.AtoStatus p) = read (Packet.AtoStatus p) (p .header) 0 0 0 0 0 0 0 0 0 0 (p .state) (p .conditions)
 
 -- "Every refusal returns the number only"
 abbrev pub refusedView : ℕ → PacketFields
-refusedView n = fields false n 0 0 noTimingPoint noJpReceived noAtoStatus
+refusedView n = fields false n 0 0 noHeader 0 0 0 0 0 0 0 0 0 0 0 0
 
 abbrev pub fieldsView : Judged Packet → PacketFields
 fieldsView (accept p) = packetFieldsView p

@@ -112,9 +112,19 @@ pub struct PacketFields {
     pub number: u8,
     pub kind: u8,
     pub size: usize,
-    pub timing_point: TimingPoint,
-    pub jp_received: JpReceived,
-    pub ato_status: AtoStatus,
+    pub header: Header,
+    pub nidc: u16,
+    pub nidtp: u32,
+    pub q_eoj_reached: u8,
+    pub alignment: u8,
+    pub status: u8,
+    pub stopping: u8,
+    pub atots: u16,
+    pub date: u16,
+    pub seconds: u32,
+    pub counter: u8,
+    pub state: u8,
+    pub conditions: u16,
 }
 
 fn refused(n: u8) -> PacketFields
@@ -127,7 +137,11 @@ fn refused(n: u8) -> PacketFields
         speed: 0,
         operational: 0,
     };
-    let timing_point = TimingPoint {
+    PacketFields {
+        accepted: false,
+        number: n,
+        kind: 0,
+        size: 0,
         header: header,
         nidc: 0,
         nidtp: 0,
@@ -135,29 +149,12 @@ fn refused(n: u8) -> PacketFields
         alignment: 0,
         status: 0,
         stopping: 0,
-    };
-    let jp_received = JpReceived {
-        header: header,
-        nidc: 0,
         atots: 0,
         date: 0,
         seconds: 0,
         counter: 0,
-        status: 0,
-    };
-    let ato_status = AtoStatus {
-        header: header,
         state: 0,
         conditions: 0,
-    };
-    PacketFields {
-        accepted: false,
-        number: n,
-        kind: 0,
-        size: 0,
-        timing_point: timing_point,
-        jp_received: jp_received,
-        ato_status: ato_status,
     }
 }
 
@@ -170,16 +167,33 @@ fn packet_fields(p: packets::Packet) -> PacketFields
     fields.size = size;
     match p {
         packets::Packet::TimingPoint(x) => {
+            let header = x.header;
             fields.kind = packets::TIMING_POINT;
-            fields.timing_point = x;
+            fields.header = header;
+            fields.nidc = x.nidc;
+            fields.nidtp = x.nidtp;
+            fields.q_eoj_reached = x.q_eoj_reached;
+            fields.alignment = x.alignment;
+            fields.status = x.status;
+            fields.stopping = x.stopping;
         }
         packets::Packet::JpReceived(x) => {
+            let header = x.header;
             fields.kind = packets::JP_RECEIVED;
-            fields.jp_received = x;
+            fields.header = header;
+            fields.nidc = x.nidc;
+            fields.atots = x.atots;
+            fields.date = x.date;
+            fields.seconds = x.seconds;
+            fields.counter = x.counter;
+            fields.status = x.status;
         }
         packets::Packet::AtoStatus(x) => {
+            let header = x.header;
             fields.kind = packets::ATO_STATUS;
-            fields.ato_status = x;
+            fields.header = header;
+            fields.state = x.state;
+            fields.conditions = x.conditions;
         }
     }
     fields

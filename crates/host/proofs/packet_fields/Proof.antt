@@ -18,13 +18,13 @@ enum-known-p-3 : tie.Need-enum-known-p-3
 enum-known-p-3 c = search needs
 
 returns : tie.Need-returns
-returns c = rw (c .before .before .before .refused .ensures, c .before .before .before .before .packet-size .ensures, c .before .p .given .1)
+returns c = rw (c .before .before .before .before .refused .ensures, c .before .before .before .before .before .packet-size .ensures, c .before .before .p .given .1)
 
 returns-2 : tie.Need-returns-2
-returns-2 c = rw (c .before .before .before .refused .ensures, c .before .before .before .before .packet-size .ensures, c .before .p2 .given .1)
+returns-2 c = rw (c .before .before .before .before .refused .ensures, c .before .before .before .before .before .packet-size .ensures, c .before .before .p2 .given .1)
 
 returns-3 : tie.Need-returns-3
-returns-3 c = rw (c .before .before .before .refused .ensures, c .before .before .before .before .packet-size .ensures, c .before .p3 .given .1)
+returns-3 c = rw (c .before .before .before .before .refused .ensures, c .before .before .before .before .before .packet-size .ensures, c .before .before .p3 .given .1)
 
 pub packet-fields-spec : {M : Type 1} → statement M
 packet-fields-spec =
