@@ -17,6 +17,7 @@ ghost use mathlib.Core.Path.{_≡_};
 ghost use mathlib.Core.Bool.{false};
 ghost use Prim.Native.Nat.{_<_};
 ghost use lib.ListN.{set};
+ghost use Rattle.wire.specs.declared.Verdict.the-variants.{Accepted};
 ghost use Rattle.engine_value.specs.Engine.{routeIn, fresh, progress, withPosition, withRoute, withSkips, withProgress};
 ghost use Rattle.journey.specs.Journey.{blankHead};
 ghost use Rattle.timing.specs.Standing.{standing, behind};
@@ -360,6 +361,15 @@ fn fresh_looked_up() -> LookedUp
     }
 }
 
+// Power off returns to fresh.
+fn power_off(e: Engine, looked: LookedUp) -> Effect
+    ensures { λ r. ⌜ r ≡ plainEffect fresh Accepted looked (lookedUpIn fresh) ⌝ }
+{
+    let m = engine_value::cleared(e);
+    let after = fresh_looked_up();
+    plain(m, Verdict::Accepted, looked, after)
+}
+
 // The effect of an event, by its kind.
 pub fn effect_of(e: Engine, v: Event, journey: &[u8], book: &[u8]) -> Effect
     ensures { λ r. ⌜ Gives e (effect e (now (journey .entry)) (now (book .entry)) v) r ⌝ }
@@ -371,12 +381,7 @@ pub fn effect_of(e: Engine, v: Event, journey: &[u8], book: &[u8]) -> Effect
     match v {
         Event::PowerOn => plain(e, Verdict::Accepted, looked, looked),
         Event::Configured => plain(e, Verdict::Accepted, looked, looked),
-        Event::PowerOff => plain(
-            engine_value::cleared(e),
-            Verdict::Accepted,
-            looked,
-            fresh_looked_up(),
-        ),
+        Event::PowerOff => power_off(e, looked),
         Event::Fault => plain(e, Verdict::Accepted, looked, looked),
         Event::Reports(n) => plain(with_reports(e, n), Verdict::Accepted, looked, looked),
         Event::Mode(n) => plain(with_mode(e, n), Verdict::Accepted, looked, looked),

@@ -45,20 +45,14 @@ plain-requires-2 c κs = search needs
 enum-told-3 : tie.Need-enum-told-3
 enum-told-3 c = search needs
 
-cleared-requires : tie.Need-cleared-requires
-cleared-requires c κs = search needs
-
-fresh-looked-up-requires : tie.Need-fresh-looked-up-requires
-fresh-looked-up-requires c κs = search needs
-
-plain-requires-3 : tie.Need-plain-requires-3
-plain-requires-3 c κs = search needs
+power-off-requires : tie.Need-power-off-requires
+power-off-requires c κs = search needs
 
 enum-told-4 : tie.Need-enum-told-4
 enum-told-4 c = search needs
 
-plain-requires-4 : tie.Need-plain-requires-4
-plain-requires-4 c κs = search needs
+plain-requires-3 : tie.Need-plain-requires-3
+plain-requires-3 c κs = search needs
 
 enum-known-v : tie.Need-enum-known-v
 enum-known-v c = search needs
@@ -66,8 +60,8 @@ enum-known-v c = search needs
 with-reports-requires : tie.Need-with-reports-requires
 with-reports-requires c κs = search needs
 
-plain-requires-5 : tie.Need-plain-requires-5
-plain-requires-5 c κs = search needs
+plain-requires-4 : tie.Need-plain-requires-4
+plain-requires-4 c κs = search needs
 
 enum-known-v-2 : tie.Need-enum-known-v-2
 enum-known-v-2 c = search needs
@@ -75,8 +69,8 @@ enum-known-v-2 c = search needs
 with-mode-requires : tie.Need-with-mode-requires
 with-mode-requires c κs = search needs
 
-plain-requires-6 : tie.Need-plain-requires-6
-plain-requires-6 c κs = search needs
+plain-requires-5 : tie.Need-plain-requires-5
+plain-requires-5 c κs = search needs
 
 enum-known-v-3 : tie.Need-enum-known-v-3
 enum-known-v-3 c = search needs
@@ -84,14 +78,14 @@ enum-known-v-3 c = search needs
 with-lever-requires : tie.Need-with-lever-requires
 with-lever-requires c κs = search needs
 
-plain-requires-7 : tie.Need-plain-requires-7
-plain-requires-7 c κs = search needs
+plain-requires-6 : tie.Need-plain-requires-6
+plain-requires-6 c κs = search needs
 
 enum-told-5 : tie.Need-enum-told-5
 enum-told-5 c = search needs
 
-plain-requires-8 : tie.Need-plain-requires-8
-plain-requires-8 c κs = search needs
+plain-requires-7 : tie.Need-plain-requires-7
+plain-requires-7 c κs = search needs
 
 enum-known-v-4 : tie.Need-enum-known-v-4
 enum-known-v-4 c = search needs
@@ -105,8 +99,8 @@ enum-known-v-5 c = search needs
 with-length-requires : tie.Need-with-length-requires
 with-length-requires c κs = search needs
 
-plain-requires-9 : tie.Need-plain-requires-9
-plain-requires-9 c κs = search needs
+plain-requires-8 : tie.Need-plain-requires-8
+plain-requires-8 c κs = search needs
 
 enum-told-6 : tie.Need-enum-told-6
 enum-told-6 c = search needs
@@ -152,28 +146,28 @@ returns-2 c = taken (c .before .before .before) _ _ _ (c .before .enum-told2 .gi
 
 returns-3 : tie.Need-returns-3
 unfolding effect
-returns-3 c = let w = c .before .before .before .before .before in let s = w .before .before .before .before .before in
-    gives-values-only _ _ fresh _ _ _ _ (c .plain3 .ensures) (c .before .before .cleared .ensures) (looked w) (c .before .fresh-looked-up .ensures) (sym (ap (effect (s .args .e) (now (s .args .journey)) (now (s .args .book))) (c .before .before .before .enum-told3 .given .1)))
+returns-3 c = let w = c .before .before .before in let s = w .before .before .before .before .before in
+    gives-values-only _ _ fresh _ _ _ _ (c .power-off .ensures) refl (looked w) refl (sym (ap (effect (s .args .e) (now (s .args .journey)) (now (s .args .book))) (c .before .enum-told3 .given .1)))
 
 returns-4 : tie.Need-returns-4
 unfolding effect
-returns-4 c = taken (c .before .before .before) _ _ _ (c .before .enum-told4 .given .1) refl refl refl (c .plain4 .ensures)
+returns-4 c = taken (c .before .before .before) _ _ _ (c .before .enum-told4 .given .1) refl refl refl (c .plain3 .ensures)
 
 returns-5 : tie.Need-returns-5
 unfolding effect
-returns-5 c = taken (c .before .before .before .before .before) _ _ _ (c .before .before .before .v .given .1) refl refl (c .before .with-reports .ensures) (c .plain5 .ensures)
+returns-5 c = taken (c .before .before .before .before .before) _ _ _ (c .before .before .before .v .given .1) refl refl (c .before .with-reports .ensures) (c .plain4 .ensures)
 
 returns-6 : tie.Need-returns-6
 unfolding effect
-returns-6 c = taken (c .before .before .before .before .before) _ _ _ (c .before .before .before .v2 .given .1) refl refl (c .before .with-mode .ensures) (c .plain6 .ensures)
+returns-6 c = taken (c .before .before .before .before .before) _ _ _ (c .before .before .before .v2 .given .1) refl refl (c .before .with-mode .ensures) (c .plain5 .ensures)
 
 returns-7 : tie.Need-returns-7
 unfolding effect
-returns-7 c = taken (c .before .before .before .before .before) _ _ _ (c .before .before .before .v3 .given .1) refl refl (c .before .with-lever .ensures) (c .plain7 .ensures)
+returns-7 c = taken (c .before .before .before .before .before) _ _ _ (c .before .before .before .v3 .given .1) refl refl (c .before .with-lever .ensures) (c .plain6 .ensures)
 
 returns-8 : tie.Need-returns-8
 unfolding effect
-returns-8 c = taken (c .before .before .before) _ _ _ (c .before .enum-told5 .given .1) refl refl refl (c .plain8 .ensures)
+returns-8 c = taken (c .before .before .before) _ _ _ (c .before .enum-told5 .given .1) refl refl refl (c .plain7 .ensures)
 
 returns-9 : tie.Need-returns-9
 unfolding effect
@@ -181,7 +175,7 @@ returns-9 c = handed (c .before .before .before .before) _ _ (c .before .before 
 
 returns-10 : tie.Need-returns-10
 unfolding effect
-returns-10 c = taken (c .before .before .before .before .before) _ _ _ (c .before .before .before .v5 .given .1) refl refl (c .before .with-length .ensures) (c .plain9 .ensures)
+returns-10 c = taken (c .before .before .before .before .before) _ _ _ (c .before .before .before .v5 .given .1) refl refl (c .before .with-length .ensures) (c .plain8 .ensures)
 
 returns-11 : tie.Need-returns-11
 unfolding effect
@@ -207,27 +201,25 @@ effect-of-spec =
     enum-told-2
     plain-requires-2
     enum-told-3
-    cleared-requires
-    fresh-looked-up-requires
-    plain-requires-3
+    power-off-requires
     enum-told-4
-    plain-requires-4
+    plain-requires-3
     enum-known-v
     with-reports-requires
-    plain-requires-5
+    plain-requires-4
     enum-known-v-2
     with-mode-requires
-    plain-requires-6
+    plain-requires-5
     enum-known-v-3
     with-lever-requires
-    plain-requires-7
+    plain-requires-6
     enum-told-5
-    plain-requires-8
+    plain-requires-7
     enum-known-v-4
     position-requires
     enum-known-v-5
     with-length-requires
-    plain-requires-9
+    plain-requires-8
     enum-told-6
     load-requires
     enum-known-v-6
