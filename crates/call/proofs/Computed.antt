@@ -8,12 +8,12 @@ use Rattle.journey.specs.Journey.{nameRecord, pointRecord, headRecord, journeyR
 use Rattle.route.specs.Placing.{placedAt, startAt, segmentOf, pointOf}
 use Rattle.route.specs.Table.{checked, journeyOf}
 use Rattle.route.specs.Route.{routeOf, loadOf}
-use Rattle.timing.specs.Position.{segmentFrom, front}
+use Rattle.position.specs.Position.{segmentFrom, front}
 use Rattle.timing.specs.Distance.{beyond, atStop}
 use Rattle.timing.specs.Load.{targetFrom, target}
 use Rattle.timing.specs.Report.{looked, reported}
 use Rattle.timing.specs.Changes.{passings, reportChanges}
-use Rattle.timing.specs.Skips.{stopFrom}
+use Rattle.position.specs.Skips.{stopFrom}
 use Rattle.conditions.specs.Conditions.{firstAhead, inZones, conditions}
 use Rattle.states.specs.Numbers.{powerRows, stateRow}
 use Rattle.states.specs.States.{machineAfter}

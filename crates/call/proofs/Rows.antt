@@ -17,8 +17,8 @@ use Rattle.event.specs.Events.{eventOf}
 use Rattle.event.specs.Kinds.{kindOf}
 use Rattle.event.specs.declared.Event.{Event}
 use Rattle.packets.specs.Packets.{joined}
-use Rattle.timing.specs.Position.{pointCount}
-use Rattle.timing.specs.Standing.{standing, standingCode}
+use Rattle.position.specs.Position.{pointCount}
+use Rattle.position.specs.Standing.{standing, standingCode}
 use Rattle.states.specs.Codes.{stateAt}
 use Rattle.states.specs.Numbers.{powerRows, stateRow}
 use Rattle.call.specs.Effect.{Effect, effect}

@@ -20,15 +20,15 @@ use Rattle.packets.specs.Packets.{packetBytes, joined}
 use Rattle.packets.proofs.PacketLaws.{length-packetBytes, length-joined, length-one}
 use Rattle.journey.specs.declared.Head.{Head}
 use Rattle.route.specs.Route.{LoadValue, loadOf}
-use Rattle.timing.specs.Position.{pointCount, placed, segmentNamed, known}
+use Rattle.position.specs.Position.{pointCount, placed, segmentNamed, known}
 use Rattle.timing.specs.Distance as distance
 use Rattle.timing.specs.Distance.{reportIn, beyond, moving}
-use Rattle.timing.specs.Report.{looked, lookedFrom, departs, firstLooked, reported, becameReached}
+use Rattle.timing.specs.Report.{following, looked, lookedFrom, departs, firstLooked, reported, becameReached}
 use Rattle.timing.specs.Changes.{Change, change, passings, when, reportChanges, statusDeparted, statusStopped}
-use Rattle.timing.specs.Standing.{standing, behind, following}
+use Rattle.position.specs.Standing.{standing, behind}
 use Rattle.timing.proofs.Steps.{reported-stays, reported-departs, reported-looks}
-use Rattle.timing.specs.declared.Found.{Found}
-use Rattle.timing.specs.declared.Found.the-variants.{At, Nothing}
+use Rattle.position.specs.declared.Found.{Found}
+use Rattle.position.specs.declared.Found.the-variants.{At, Nothing}
 use Rattle.call.specs.Packets.{timingPoint, jpReceived, atoStatus, received, statusDue, packetsOf}
 use Rattle.call.specs.Effect.{Effect, effectAs, effect, positionEffect, reportedIn, loadEffect, skipEffect, skippedIn, loadedIn, offsetBeyond, sameBool}
 use Rattle.call.specs.Call.{statusIn, stepBy}

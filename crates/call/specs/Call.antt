@@ -13,7 +13,7 @@ use Rattle.event.specs.Kinds.{kindOf}
 use Rattle.event.specs.declared.Event.{Event}
 use Rattle.packets.specs.Packets.{joined}
 use Rattle.packets.specs.declared.Packet.{Packet}
-use Rattle.timing.specs.Standing.{standing}
+use Rattle.position.specs.Standing.{standing}
 use Rattle.states.specs.Codes.{stateAt}
 use Rattle.conditions.specs.Conditions.{conditions}
 use Rattle.states.specs.Numbers.{powerRows, stateRow}

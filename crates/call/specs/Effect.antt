@@ -14,16 +14,16 @@ use Rattle.event.specs.declared.Event.{Event}
 use Rattle.event.specs.Kinds.{Role, off, load, report, other, skip, mode, lever, reports, trainLength, Carried, newer, roleOf, carried}
 use Rattle.journey.specs.declared.Head.{Head}
 use Rattle.route.specs.Route.{LoadValue, loadOf}
-use Rattle.timing.specs.Position.{segmentNamed, offsetDefined}
+use Rattle.position.specs.Position.{segmentNamed, offsetDefined}
 use Rattle.timing.specs.Distance.{reportIn}
-use Rattle.timing.specs.Standing.{standing, behind}
+use Rattle.position.specs.Standing.{standing, behind}
 use Rattle.timing.specs.Load.{target}
 use Rattle.timing.specs.Report.{reported, becameReached}
 use Rattle.timing.specs.Changes.{Change, change, reportChanges, statusSkipped, statusRevoked}
-use Rattle.timing.specs.Skips.{stopNamed}
-use Rattle.timing.specs.declared.Named.{Named}
-use Rattle.timing.specs.declared.Found.{Found}
-use Rattle.timing.specs.declared.Found.the-variants.{At, Nothing}
+use Rattle.position.specs.Skips.{stopNamed}
+use Rattle.position.specs.declared.Named.{Named}
+use Rattle.position.specs.declared.Found.{Found}
+use Rattle.position.specs.declared.Found.the-variants.{At, Nothing}
 use Rattle.conditions.specs.Conditions.{tooFar}
 
 -- the engine with the event's values taken in, stamp and NID_ATOTS of the journey that it loaded, the points that changed, and whether one

@@ -13,8 +13,8 @@ use Rattle.packets.specs.declared.JpReceived.{JpReceived}
 use Rattle.packets.specs.declared.AtoStatus.{AtoStatus}
 use Rattle.packets.specs.declared.Packet.{Packet}
 use Rattle.journey.specs.declared.Head.{Head}
-use Rattle.timing.specs.Position.{point, known}
-use Rattle.timing.specs.Standing.{standing}
+use Rattle.position.specs.Position.{point, known}
+use Rattle.position.specs.Standing.{standing}
 use Rattle.timing.specs.Changes.{Change, statusStopped, when}
 use Rattle.states.specs.Codes.{code}
 use Rattle.conditions.specs.Conditions.{endAhead}

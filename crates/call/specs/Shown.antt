@@ -6,8 +6,8 @@ use lib.Dec.{ltb}
 use Rattle.wire.specs.Numbers.{if_then_else_}
 use Rattle.engine_value.specs.Engine.{routeIn}
 use Rattle.engine_value.specs.declared.Engine.{Engine}
-use Rattle.timing.specs.Position.{pointCount}
-use Rattle.timing.specs.Standing.{standing, standingCode}
+use Rattle.position.specs.Position.{pointCount}
+use Rattle.position.specs.Standing.{standing, standingCode}
 
 -- the state by its code, 5 where engaged
 abbrev pub stateIn : Engine → ℕ

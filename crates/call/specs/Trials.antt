@@ -9,9 +9,9 @@ use Rattle.wire.specs.Judged.{Judged}
 use Rattle.wire.specs.Judged.Judged.{refuse, accept}
 use Rattle.engine_value.specs.Engine.{fresh}
 use Rattle.engine_value.specs.declared.Engine.{Engine}
-use Rattle.timing.specs.Standing.{standing}
-use Rattle.timing.specs.declared.Standing.{Standing}
-use Rattle.timing.specs.declared.Standing.the-variants.{Targeted, Reached, Passed}
+use Rattle.position.specs.Standing.{standing}
+use Rattle.position.specs.declared.Standing.{Standing}
+use Rattle.position.specs.declared.Standing.the-variants.{Targeted, Reached, Passed}
 use Rattle.call.specs.Call.{Call, Accepted, Outcome, stepOf}
 
 -- ---- calls

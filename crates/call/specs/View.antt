@@ -1,7 +1,7 @@
 -- What an engine shows, as the struct that the code answers.
 use Rattle.engine_value.specs.Engine.{routeIn}
 use Rattle.engine_value.specs.declared.Engine.{Engine}
-use Rattle.timing.specs.Position.{pointCount}
+use Rattle.position.specs.Position.{pointCount}
 use Rattle.call.specs.Call.{conditionsIn}
 use Rattle.call.specs.Shown.{stateIn, requestIn, standingsIn}
 use Rattle.call.specs.declared.Shown.{Shown}

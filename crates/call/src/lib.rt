@@ -3,7 +3,7 @@ use engine_value::Engine;
 ghost use mathlib.Core.Path.{_≡_};
 ghost use Prim.Native.Nat.{_≤_};
 ghost use Rattle.engine_value.specs.Engine.{routeIn};
-ghost use Rattle.timing.specs.Position.{pointCount};
+ghost use Rattle.position.specs.Position.{pointCount};
 ghost use Rattle.call.specs.Shown.{standingIn, standingsIn};
 ghost use Rattle.call.specs.View.{shownView};
 
@@ -41,8 +41,8 @@ fn standing(e: Engine, k: u8) -> u8
 {
     let n = point_count(e);
     if k < n {
-        let s = timing::standing_of(e.progress, k);
-        return timing::standing_code(s);
+        let s = position::standing_of(e.progress, k);
+        return position::standing_code(s);
     }
     0
 }

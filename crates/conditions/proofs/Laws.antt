@@ -14,10 +14,10 @@ use Rattle.engine_value.specs.declared.Load.{Load}
 use Rattle.engine_value.specs.declared.Zone.{Zone}
 use Rattle.engine_value.specs.declared.Position.{Position}
 use Rattle.engine_value.specs.declared.Progress.{Progress}
-use Rattle.timing.specs.Position.{pointsLoaded, pointCount, placed}
-use Rattle.timing.specs.Standing.{standing, isPassed, behind}
-use Rattle.timing.specs.declared.Named.{Named}
-use Rattle.timing.specs.declared.Standing.the-variants.{Targeted, Reached}
+use Rattle.position.specs.Position.{pointsLoaded, pointCount, placed}
+use Rattle.position.specs.Standing.{standing, isPassed, behind}
+use Rattle.position.specs.declared.Named.{Named}
+use Rattle.position.specs.declared.Standing.the-variants.{Targeted, Reached}
 use Rattle.conditions.specs.Conditions.{etcsFulfilled, noEmergencyBrake, noInconsistency, dataValid, endAhead, lastAhead, firstAhead, profilesThere, tooFar, located, inZones, lookUp, nine, wordOf}
 use Rattle.conditions.specs.declared.LookedUp.{LookedUp}
 

@@ -11,7 +11,7 @@ use lib.Pow.{pow-pos}
 use borrow.Author.Tests.{eqb-true, eqb-false, eq-eqb, ne-eqb}
 use Rattle.engine_value.specs.Engine.{Route}
 use Rattle.engine_value.specs.declared.Position.{Position}
-use Rattle.timing.specs.declared.Standing.{Standing}
+use Rattle.position.specs.declared.Standing.{Standing}
 use Rattle.conditions.specs.Conditions.{wordOf, allOf, lookedUp, nine, conditions, allConditions, O}
 
 pub word-most : (l : List Bool) → wordOf l < 2 ^ length l

@@ -10,10 +10,10 @@ use Rattle.engine_value.specs.declared.Zone.{Zone}
 use Rattle.engine_value.specs.declared.Load.{Load}
 use Rattle.engine_value.specs.declared.Segment.{Segment}
 use Rattle.engine_value.specs.declared.Position.{Position}
-use Rattle.timing.specs.Position.{segmentNamed, offsetDefined, pointsLoaded, pointCount, placed}
-use Rattle.timing.specs.Standing.{isPassed, behind}
-use Rattle.timing.specs.declared.Named.{Named}
-use Rattle.timing.specs.declared.Standing.{Standing}
+use Rattle.position.specs.Position.{segmentNamed, offsetDefined, pointsLoaded, pointCount, placed}
+use Rattle.position.specs.Standing.{isPassed, behind}
+use Rattle.position.specs.declared.Named.{Named}
+use Rattle.position.specs.declared.Standing.{Standing}
 use Rattle.conditions.specs.declared.LookedUp.{LookedUp}
 
 -- "0, 1, 5, 8 are report bits 0, 1, 2, 3."

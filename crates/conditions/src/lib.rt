@@ -5,7 +5,7 @@ ghost use Prim.Native.Nat.{_-_, _≤_, min};
 ghost use lib.Dec.{leb};
 ghost use Rattle.wire.specs.Numbers.{flag};
 ghost use Rattle.engine_value.specs.Engine.{routeIn};
-ghost use Rattle.timing.specs.Standing.{standing};
+ghost use Rattle.position.specs.Standing.{standing};
 ghost use Rattle.conditions.specs.Conditions.{etcsFulfilled, noEmergencyBrake, noInconsistency, dataValid};
 ghost use Rattle.conditions.specs.Conditions.{endAhead, lastAhead, profilesThere, tooFar, located, inZones, lookUp, lookedUp, nine, wordOf, conditions, allConditions};
 use engine_value::Engine;
@@ -15,7 +15,7 @@ use engine_value::Progress;
 use engine_value::Segment;
 use engine_value::UNDEFINED;
 use engine_value::Zone;
-use timing::Named;
+use position::Named;
 
 // The number of all nine.
 pub const ALL_CONDITIONS: u16 = 511;
@@ -78,7 +78,7 @@ fn last_ahead(l: Load, p: Progress) -> bool
     if !l.valid {
         return false;
     }
-    let last = one_less(timing::at_most(l.point_count, 64));
+    let last = one_less(position::at_most(l.point_count, 64));
     !(last < p.next)
 }
 
@@ -89,7 +89,7 @@ pub fn profiles_there(e: Engine, p: Progress) -> bool
     if !e.load.valid {
         return false;
     }
-    if timing::at_most(e.load.point_count, 64) <= p.next {
+    if position::at_most(e.load.point_count, 64) <= p.next {
         return true;
     }
     let k = p.next as usize;
@@ -123,7 +123,7 @@ fn or_in_zone(before: bool, z: Zone, offset: u32) -> bool
 fn in_zones(s: Segment, offset: u32) -> bool
     ensures { λ r. ⌜ r ≡ inZones (s .zones) (min (s .«zone_count») 4) offset ⌝ }
 {
-    let n = timing::at_most(s.zone_count, 4);
+    let n = position::at_most(s.zone_count, 4);
     let mut i: u8 = 0;
     let mut inside = false;
     while i < n {
@@ -172,7 +172,7 @@ pub fn look_up(s: Named, x: Position, profiles: bool) -> LookedUp
 pub fn looked_up(e: Engine) -> LookedUp
     ensures { λ r. ⌜ r ≡ lookedUp (routeIn e) (e .train .position) (standing (e .progress)) ⌝ }
 {
-    let s = timing::segment_named(e);
+    let s = position::segment_named(e);
     let profiles = profiles_there(e, e.progress);
     look_up(s, e.train.position, profiles)
 }

@@ -12,14 +12,14 @@ use Rattle.wire.specs.declared.Verdict.{Verdict}
 use Rattle.engine_value.specs.Engine.{routeIn, undefined, progress, withRoute, withSkips, withProgress, withPosition}
 use Rattle.engine_value.specs.declared.Position.{Position}
 use Rattle.engine_value.specs.declared.Engine.{Engine}
-use Rattle.timing.specs.Position.{segmentNamed}
+use Rattle.position.specs.Position.{segmentNamed}
 use Rattle.timing.specs.Distance.{reportIn}
-use Rattle.timing.specs.Standing.{standing, behind}
+use Rattle.position.specs.Standing.{standing, behind}
 use Rattle.timing.specs.Load.{target}
 use Rattle.timing.specs.Report.{reportOf}
 use Rattle.timing.specs.Changes.{passings, reportChanges}
-use Rattle.timing.specs.declared.Found.the-variants.{At}
-use Rattle.timing.specs.declared.Named.{Named}
+use Rattle.position.specs.declared.Found.the-variants.{At}
+use Rattle.position.specs.declared.Named.{Named}
 use Rattle.timing.specs.declared.Reported.{Reported}
 use Rattle.conditions.specs.declared.LookedUp.{LookedUp}
 use Rattle.route.specs.Route.{LoadValue, loadOf}

@@ -12,7 +12,7 @@ use Rattle.engine_value.specs.Engine.{Route, routeIn, progress}
 use Rattle.engine_value.specs.declared.Progress.{Progress}
 use Rattle.engine_value.specs.declared.Engine.{Engine}
 use Rattle.journey.specs.Journey.{blankHead}
-use Rattle.timing.specs.Standing.{standing}
+use Rattle.position.specs.Standing.{standing}
 use Rattle.timing.specs.Changes.{statusDeparted, statusSkipped, statusRevoked}
 use Rattle.timing.specs.declared.Reported.{Reported}
 use Rattle.conditions.specs.Conditions.{lookedUp}

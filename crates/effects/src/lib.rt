@@ -7,11 +7,11 @@ use engine_value::UNDEFINED;
 use event::Event;
 use event_packets::Changes;
 use journey::Head;
+use position::Found;
+use position::Named;
+use position::Standing;
 use route::Loaded;
-use timing::Found;
-use timing::Named;
 use timing::Reported;
-use timing::Standing;
 use wire::Verdict;
 ghost use mathlib.Core.Path.{_≡_};
 ghost use mathlib.Core.Bool.{false};
@@ -20,11 +20,11 @@ ghost use lib.ListN.{set};
 ghost use Rattle.wire.specs.declared.Verdict.the-variants.{Accepted};
 ghost use Rattle.engine_value.specs.Engine.{routeIn, fresh, progress, withPosition, withRoute, withSkips, withProgress};
 ghost use Rattle.journey.specs.Journey.{blankHead};
-ghost use Rattle.timing.specs.Standing.{standing, behind};
+ghost use Rattle.position.specs.Standing.{standing, behind};
 ghost use Rattle.conditions.specs.Conditions.{profilesThere};
-ghost use Rattle.timing.specs.Skips.{stopNamed};
+ghost use Rattle.position.specs.Skips.{stopNamed};
 ghost use Rattle.timing.specs.Load.{target};
-ghost use Rattle.timing.specs.declared.Found.the-variants.{At};
+ghost use Rattle.position.specs.declared.Found.the-variants.{At};
 ghost use Rattle.event.specs.Kinds.{mode, lever, reports, trainLength, number, bringing};
 ghost use Rattle.call.specs.Effect.{taking, positionEffect, loadEffect, offsetBeyond, sameBool, skipEffect, effect};
 ghost use Rattle.effects.specs.View.{noChanges, oneChange, reportedChanges, skipStatus, routeView, lookedUpIn, plainEffect, Gives};
@@ -280,7 +280,7 @@ fn load(e: Engine, journey: &[u8], book: &[u8], looked: LookedUp) -> Effect
 fn is_behind(p: Progress, k: u8) -> bool
     ensures { λ r. ⌜ r ≡ behind (standing p k) ⌝ }
 {
-    match timing::standing_of(p, k) {
+    match position::standing_of(p, k) {
         Standing::Unused => false,
         Standing::Targeted => false,
         Standing::Reached => true,
@@ -344,7 +344,7 @@ fn skip(e: Engine, nidtp: u32, on: bool, looked: LookedUp) -> Effect
     requires { ⌜ looked ≡ lookedUpIn e ⌝ }
     ensures { λ r. ⌜ Gives e (skipEffect e on (stopNamed (routeIn e) nidtp)) r ⌝ }
 {
-    let Found::At(k) = timing::find_stop(e, nidtp) else {
+    let Found::At(k) = position::find_stop(e, nidtp) else {
         return plain(e, Verdict::Refused(14), looked, looked);
     };
     skip_at(e, k, on, looked)
@@ -375,7 +375,7 @@ pub fn effect_of(e: Engine, v: Event, journey: &[u8], book: &[u8]) -> Effect
     ensures { λ r. ⌜ Gives e (effect e (now (journey .entry)) (now (book .entry)) v) r ⌝ }
 {
     // conditions::looked_up, written out: a call of it would copy the engine once more
-    let s = timing::segment_named(e);
+    let s = position::segment_named(e);
     let profiles = conditions::profiles_there(e, e.progress);
     let looked = conditions::look_up(s, e.train.position, profiles);
     match v {

@@ -10,7 +10,7 @@ use event_packets::Writes;
 use wire::Verdict;
 ghost use mathlib.Core.Path.{_≡_};
 ghost use Rattle.engine_value.specs.Engine.{routeIn, withControl};
-ghost use Rattle.timing.specs.Standing.{standing};
+ghost use Rattle.position.specs.Standing.{standing};
 ghost use Rattle.conditions.specs.Conditions.{conditions};
 ghost use Rattle.states.specs.ControlGroup.{controlAfter};
 ghost use Rattle.call.specs.Call.{stepBy, outcomeOf, stepOf};

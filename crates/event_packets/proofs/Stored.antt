@@ -20,8 +20,8 @@ use Rattle.packet_writer.proofs.Stores.{sets-more}
 use Rattle.packets.specs.declared.Header.{Header}
 use Rattle.packets.specs.declared.Packet.{Packet}
 use Rattle.journey.specs.declared.Head.{Head}
-use Rattle.timing.specs.Position.{point, known}
-use Rattle.timing.specs.Standing.{standing}
+use Rattle.position.specs.Position.{point, known}
+use Rattle.position.specs.Standing.{standing}
 use Rattle.timing.specs.Changes.{Change, change, passings, when, statusPassed, statusStopped}
 use Rattle.conditions.specs.Conditions.{endAhead}
 use Rattle.call.specs.Packets.{Status, statusDue, header, timingPoint, jpReceived, atoStatus, packetsOf}

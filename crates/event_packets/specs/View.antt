@@ -18,7 +18,7 @@ use Rattle.packets.specs.Packets.{joined}
 use Rattle.packets.specs.declared.Header.{Header}
 use Rattle.packets.specs.declared.TimingPoint.{TimingPoint}
 use Rattle.packets.specs.declared.Packet.{Packet}
-use Rattle.timing.specs.Standing.{standing}
+use Rattle.position.specs.Standing.{standing}
 use Rattle.conditions.specs.Conditions.{endAhead}
 use Rattle.timing.specs.Changes.{Change, change, passings, when, statusStopped}
 use Rattle.call.specs.Packets.{Status, received, timingPoint, atoStatus}

@@ -10,7 +10,7 @@ use packets::Header;
 use packets::JpReceived;
 use packets::Packet;
 use packets::TimingPoint;
-use timing::Front;
+use position::Front;
 ghost use mathlib.Core.Path.{_≡_};
 ghost use Prim.Native.Nat.{_-_, _≤_};
 ghost use lib.Dec.{eqb};
@@ -18,7 +18,7 @@ ghost use lib.Seq.{sets};
 ghost use Rattle.wire.specs.Numbers.{flag, if_then_else_};
 ghost use Rattle.engine_value.specs.Engine.{routeIn, unknownNidc};
 ghost use Rattle.packets.specs.Packets.{joined};
-ghost use Rattle.timing.specs.Position.{point, known};
+ghost use Rattle.position.specs.Position.{point, known};
 ghost use Rattle.timing.specs.Changes.{change, passings, statusStopped};
 ghost use Rattle.call.specs.Packets.{header, timingPoint, jpReceived, atoStatus, statusDue};
 ghost use Rattle.event_packets.specs.View.{statusView, firstView, stoppedView, timingPointView, packets62, packets65, packets68, packetsView, sizeView, Put};
@@ -120,7 +120,7 @@ pub fn timing_point(e: Engine, index: u8, status: u8, after: Progress) -> Packet
 fn is_known(e: Engine) -> bool
     ensures { λ r. ⌜ r ≡ known (routeIn e) (e .train .position) ⌝ }
 {
-    match timing::front_position(e) {
+    match position::front_position(e) {
         Front::Known(_) => true,
         Front::Unknown => false,
     }

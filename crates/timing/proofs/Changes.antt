@@ -11,7 +11,7 @@ use borrow.Author.Tests.{eqb-false, not-true}
 use Rattle.wire.proofs.ReaderLaws.{and-left, and-right}
 use Rattle.engine_value.specs.Engine.{Route, progress}
 use Rattle.engine_value.specs.declared.Progress.{Progress}
-use Rattle.timing.specs.Position.{pointCount, placed, known}
+use Rattle.position.specs.Position.{pointCount, placed, known}
 use Rattle.timing.specs.Distance.{Report, beyond, atStop, moving}
 use Rattle.timing.specs.Report.{looked, lookedFrom, departs, stays, firstLooked, reported, becameReached}
 use Rattle.timing.specs.Changes.{Change, change, statusPassed, statusStopped, statusDeparted, passings, when, reportChanges}

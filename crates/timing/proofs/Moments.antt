@@ -10,11 +10,11 @@ use lib.Dec.{ltb}
 use lib.ListN.{length, getD}
 use borrow.Author.Tests.{ltb-true, ltb-false}
 use Rattle.engine_value.specs.Engine.{Route, progress}
-use Rattle.timing.specs.declared.Standing.{Standing}
-use Rattle.timing.specs.declared.Standing.the-variants.{Unused, Targeted, Reached, Passed}
-use Rattle.timing.specs.Position.{pointCount}
+use Rattle.position.specs.declared.Standing.{Standing}
+use Rattle.position.specs.declared.Standing.the-variants.{Unused, Targeted, Reached, Passed}
+use Rattle.position.specs.Position.{pointCount}
 use Rattle.timing.specs.Distance.{Report, beyond, moving}
-use Rattle.timing.specs.Standing.{standing}
+use Rattle.position.specs.Standing.{standing}
 use Rattle.timing.specs.Report.{run}
 use Rattle.timing.specs.History.{reportNumber, firstOf, settles, Settled, Departs, Passes, Moment, Before, HasMoment, IsSettled, Stands}
 use Rattle.timing.specs.Rule.{PointOutcome, departing, through, after, pointOutcome, standingFor, standingByReports}

@@ -6,49 +6,21 @@ use mathlib.Core.List.{List, [], _∷_}
 use mathlib.Core.Bool.{Bool, true, false, not, false≢true}
 use native.Mathlib.Omega.{arith}
 use native.Mathlib.Nat.{eq-or-lt-of-le}
-use lib.Dec.{ltb, eqb}
-use borrow.Author.Tests.{ltb-true, ltb-false, lt-ltb, le-ltb, eq-eqb, ne-eqb, eqb-true, not-true}
+use lib.Dec.{ltb}
+use borrow.Author.Tests.{ltb-true, ltb-false, lt-ltb, le-ltb, not-true}
 use Rattle.engine_value.specs.Engine.{Route, progress}
 use Rattle.engine_value.specs.declared.Progress.{Progress}
-use Rattle.timing.specs.declared.Standing.the-variants.{Unused, Targeted, Reached, Passed}
-use Rattle.timing.specs.Position.{pointCount, placed, known}
+use Rattle.position.specs.declared.Standing.the-variants.{Reached}
+use Rattle.position.specs.Position.{pointCount, placed, known}
 use Rattle.timing.specs.Distance.{Report, beyond, atStop, moving}
-use Rattle.timing.specs.Standing.{standing}
+use Rattle.position.specs.Standing.{standing}
 use Rattle.timing.specs.Report.{looked, lookedFrom, stays, reported, becameReached, run}
+use Rattle.position.proofs.Laws.{standing-passed, standing-unused, standing-at, standing-reached, standing-targeted, reached-only}
 use Rattle.wire.proofs.ReaderLaws.{and-left, and-right}
 use Rattle.timing.specs.History.{settles}
 use Rattle.timing.specs.Rule.{PointOutcome, departing, through, after, pointOutcome, standingFor, standingByReports}
 use Rattle.timing.specs.Rule.PointOutcome.{passes, reaches, notSettled, notLookedAt}
 use Rattle.timing.proofs.Steps.{look-stops, look-passes, look-judges, reported-stays, reported-departs, reported-looks, following-is, InRange, looked-range, reported-range, started, run-up}
-
-zero-one : _≡_ {A = ℕ} 0 1 → ⊥
-zero-one e = omega arith
-
--- ---- standings of a progress
-
-pub standing-passed : (p : Progress) (k : ℕ) → k < p .next → standing p k ≡ Passed
-standing-passed p k h = rw (lt-ltb k (p .next) h)
-
-pub standing-unused : (p : Progress) (k : ℕ) → p .next < k → standing p k ≡ Unused
-standing-unused p k h = rw (le-ltb k (p .next) (omega arith), ne-eqb k (p .next) (λ q. omega arith))
-
-standing-at : (p : Progress) → p .reached ≡ true → standing p (p .next) ≡ Reached
-standing-at p e = rw (le-ltb (p .next) (p .next) (omega arith), eq-eqb (p .next) (p .next) refl, e)
-
-pub standing-reached : (k : ℕ) → standing (progress k true) k ≡ Reached
-standing-reached k = rw (le-ltb k k (omega arith), eq-eqb k k refl)
-
-pub standing-targeted : (k : ℕ) → standing (progress k false) k ≡ Targeted
-standing-targeted k = rw (le-ltb k k (omega arith), eq-eqb k k refl)
-
-pub reached-only : (p : Progress) (k : ℕ) → standing p k ≡ Reached → (k ≡ p .next) × (p .reached ≡ true)
-reached-only p k e = go _ refl _ refl _ refl
-  where
-    go : (a : Bool) → ltb k (p .next) ≡ a → (b : Bool) → eqb k (p .next) ≡ b → (c : Bool) → p .reached ≡ c → (k ≡ p .next) × (p .reached ≡ true)
-    go true x b y c z = absurd (zero-one (cc))
-    go false x false y c z = absurd (zero-one (cc))
-    go false x true y false z = absurd (zero-one (cc))
-    go false x true y true z = (eqb-true k (p .next) y, z)
 
 -- ---- the rule by case
 

@@ -8,11 +8,10 @@ use native.Mathlib.Numerals.{add-one}
 use Rattle.engine_value.specs.Engine.{Route, progress}
 use Rattle.engine_value.specs.declared.Position.{Position}
 use Rattle.engine_value.specs.declared.Progress.{Progress}
-use Rattle.timing.specs.Position.{pointCount, placed, known}
+use Rattle.position.specs.Position.{pointCount, placed, known}
 use Rattle.timing.specs.Distance.{Report, beyond, atStop, moving}
-use Rattle.timing.specs.Standing.{following}
 use Rattle.timing.specs.Load.{unskippedReport, putBehind, targetFrom, target}
-use Rattle.timing.specs.Report.{looked, lookedFrom, stays, firstLooked, reported, run}
+use Rattle.timing.specs.Report.{following, looked, lookedFrom, stays, firstLooked, reported, run}
 
 -- ---- (b), one point
 

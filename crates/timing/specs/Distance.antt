@@ -10,9 +10,9 @@ use Rattle.engine_value.specs.Engine.{Route}
 use Rattle.engine_value.specs.declared.Point.{Point}
 use Rattle.engine_value.specs.declared.Position.{Position}
 use Rattle.engine_value.specs.declared.Engine.{Engine}
-use Rattle.timing.specs.Position.{point, frontAt}
-use Rattle.timing.specs.declared.Front.{Front}
-use Rattle.timing.specs.declared.Front.the-variants.{Known, Unknown}
+use Rattle.position.specs.Position.{point, frontAt}
+use Rattle.position.specs.declared.Front.{Front}
+use Rattle.position.specs.declared.Front.the-variants.{Known, Unknown}
 
 -- A position report, with the train length and the driver skips as they stood at it.
 pub record Report : Type 0 where

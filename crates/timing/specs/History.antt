@@ -6,11 +6,11 @@ use mathlib.Core.Bool.{Bool, true, false, _&&_, _||_}
 use lib.ListN.{getD, length}
 use Prim.Native.Nat.{ℕ, zero, suc, _≤_, _<_}
 use Rattle.engine_value.specs.Engine.{Route, freshPosition}
-use Rattle.timing.specs.Position.{known, placed}
+use Rattle.position.specs.Position.{known, placed}
 use Rattle.timing.specs.Distance.{Report, beyond, atStop, moving}
 use Rattle.timing.specs.Load.{unskippedReport}
-use Rattle.timing.specs.declared.Standing.{Standing}
-use Rattle.timing.specs.declared.Standing.the-variants.{Unused, Targeted, Reached, Passed}
+use Rattle.position.specs.declared.Standing.{Standing}
+use Rattle.position.specs.declared.Standing.the-variants.{Unused, Targeted, Reached, Passed}
 
 -- report t of a list, from 1
 abbrev pub reportNumber : List Report → ℕ → Report

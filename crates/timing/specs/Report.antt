@@ -1,13 +1,12 @@
 -- "Position report": steps (a) and (b).
-use Prim.Native.Nat.{ℕ, zero, suc, _+_, _-_}
+use Prim.Native.Nat.{ℕ, zero, suc, _+_, _-_, min}
 use mathlib.Core.List.{List, [], _∷_}
 use mathlib.Core.Bool.{Bool, false, not, _&&_}
 use Rattle.wire.specs.Numbers.{if_then_else_}
-use Rattle.engine_value.specs.Engine.{Route, progress}
+use Rattle.engine_value.specs.Engine.{Route, progress, maxPoints}
 use Rattle.engine_value.specs.declared.Progress.{Progress}
-use Rattle.timing.specs.Position.{pointCount, placed, segmentNamed, known}
+use Rattle.position.specs.Position.{pointCount, placed, segmentNamed, known}
 use Rattle.timing.specs.Distance.{Report, beyond, atStop, moving}
-use Rattle.timing.specs.Standing.{following}
 use Rattle.timing.specs.declared.Reported.{Reported}
 
 -- (b) "While the position is known and the targeted point placed: d > margin, it is passed and the next looked at; else, an unskipped stop with
@@ -21,6 +20,10 @@ looked j r (suc n) k =
 
 abbrev pub lookedFrom : Route → Report → ℕ → Progress
 lookedFrom j r k = looked j r (pointCount j - k) k
+
+-- the point after one; there is none behind the 64th
+abbrev pub following : ℕ → ℕ
+following k = min (k + 1) maxPoints
 
 -- (a) "a reached point, speed above 0: departed, it is passed, the next is targeted"
 abbrev pub departs : Report → Progress → Bool

@@ -7,8 +7,8 @@ use Rattle.wire.specs.Numbers.{if_then_else_}
 use Rattle.engine_value.specs.Engine.{Route}
 use Rattle.timing.specs.Distance.{Report, beyond, moving}
 use Rattle.timing.specs.History.{settles}
-use Rattle.timing.specs.declared.Standing.{Standing}
-use Rattle.timing.specs.declared.Standing.the-variants.{Unused, Targeted, Reached, Passed}
+use Rattle.position.specs.declared.Standing.{Standing}
+use Rattle.position.specs.declared.Standing.the-variants.{Unused, Targeted, Reached, Passed}
 
 -- what came of a point: passed, with the reports from its passing moment on; reached; not settled; or the point before has no passing moment
 pub data PointOutcome : Type 0 where

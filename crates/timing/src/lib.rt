@@ -1,47 +1,19 @@
-// Timing points: where the train's front is, which points pass, and where each point stands.
+// Timing points: d and margin, the load's target, the steps of a position report.
 use engine_value::Engine;
 use engine_value::Point;
-use engine_value::Position;
 use engine_value::Progress;
-use engine_value::Segment;
+use position::Front;
+use position::Named;
 ghost use mathlib.Core.Path.{_≡_};
-ghost use Prim.Native.Nat.{_<_, _^_, min};
+ghost use Prim.Native.Nat.{_<_, _^_};
 ghost use lib.IntN.{pos, negℤ};
 ghost use lib.Signed.{ltZ, leZ};
 ghost use Rattle.engine_value.specs.Engine.{routeIn};
-ghost use Rattle.timing.specs.Position.{pointCount, segmentNamed, front, frontAt};
+ghost use Rattle.position.specs.Position.{frontAt};
+ghost use Rattle.position.specs.View.{FrontBelow};
 ghost use Rattle.timing.specs.Distance.{reportIn, back, distance, unskipped, margin, exceeds, stopsAt};
-ghost use Rattle.timing.specs.Standing.{standing, standingCode, following};
 ghost use Rattle.timing.specs.Load.{target};
-ghost use Rattle.timing.specs.Report.{lookedFrom, reportOf};
-ghost use Rattle.timing.specs.Skips.{stopNamed};
-ghost use Rattle.timing.specs.View.{IndexBelow, FrontBelow};
-
-// The index of a segment or a point of the journey.
-pub enum Found {
-    At(usize),
-    Nothing,
-}
-
-// The journey segment of a name; blank where there is none.
-pub struct Named {
-    pub found: bool,
-    pub segment: Segment,
-}
-
-// Where the train's front is, from the journey's start.
-pub enum Front {
-    Known(u64),
-    Unknown,
-}
-
-// Where a timing point stands.
-pub enum Standing {
-    Unused,
-    Targeted,
-    Reached,
-    Passed,
-}
+ghost use Rattle.timing.specs.Report.{following, lookedFrom, reportOf};
 
 // What a position report brings: the segment that it names, the progress after it, the first point looked at, whether one departed before
 // that, and whether one became reached. Points from `from` to the new `next`, without it, are passed.
@@ -51,75 +23,6 @@ pub struct Reported {
     pub from: u8,
     pub departed: bool,
     pub reached: bool,
-}
-
-// ---- where the train is
-
-// A count, within what an array holds.
-pub fn at_most(n: u8, most: u8) -> u8
-    ensures { λ r. ⌜ r ≡ min n most ⌝ }
-{
-    if n < most { n } else { most }
-}
-
-// A number, widened: the caller learns its bound.
-fn wide(x: u32) -> u64
-    ensures { λ r. ⌜ (r ≡ x) × (r < 2 ^ 32) ⌝ }
-{
-    x as u64
-}
-
-// The journey segment that the train's position names.
-pub fn segment_named(e: Engine) -> Named
-    ensures { λ r. ⌜ r ≡ segmentNamed (routeIn e) (e .train .position) ⌝ }
-{
-    let nidc = e.train.position.nidc;
-    let nidsp = e.train.position.nidsp;
-    let segments = e.segments;
-    let n = at_most(e.load.segment_count, 40) as usize;
-    let mut i: usize = 0;
-    while i < n {
-        let s = segments[i];
-        if s.nidc == nidc && s.nidsp == nidsp {
-            return Named {
-                found: true,
-                segment: s,
-            };
-        }
-        i += 1;
-    }
-    let none = engine_value::blank_segment();
-    Named {
-        found: false,
-        segment: none,
-    }
-}
-
-// Where the front is, if the position is known: by the segment that it names.
-pub fn front_in(s: Named, x: Position) -> Front
-    ensures { λ r. ⌜ (r ≡ front s x) × FrontBelow (2 ^ 33) r ⌝ }
-{
-    if x.offset == 16777215 {
-        return Front::Unknown;
-    }
-    if !s.found {
-        return Front::Unknown;
-    }
-    if !s.segment.placed {
-        return Front::Unknown;
-    }
-    if s.segment.length < x.offset {
-        return Front::Unknown;
-    }
-    Front::Known(wide(s.segment.start) + wide(x.offset))
-}
-
-// Where the front is, if the position is known.
-pub fn front_position(e: Engine) -> Front
-    ensures { λ r. ⌜ (r ≡ frontAt (routeIn e) (e .train .position)) × FrontBelow (2 ^ 33) r ⌝ }
-{
-    let s = segment_named(e);
-    front_in(s, e.train.position)
 }
 
 // ---- d and margin
@@ -132,9 +35,9 @@ pub fn back(length: u32, alignment: u8) -> u64
         return 0;
     }
     if alignment == 1 {
-        return wide(length / 2);
+        return (length / 2) as u64;
     }
-    wide(length)
+    length as u64
 }
 
 // d: how far the aligned part of the train is beyond the point.
@@ -183,7 +86,7 @@ fn first_ahead(e: Engine, at: u64) -> u8
     ensures { λ r. ⌜ r ≡ target (routeIn e) (e .train .position) (e .train .length) ⌝ }
 {
     let length = e.train.length;
-    let n = at_most(e.load.point_count, 64);
+    let n = position::at_most(e.load.point_count, 64);
     let mut i: u8 = 0;
     'points: while i < n {
         let k = i as usize;
@@ -203,7 +106,7 @@ fn first_ahead(e: Engine, at: u64) -> u8
 pub fn target(e: Engine) -> u8
     ensures { λ r. ⌜ r ≡ target (routeIn e) (e .train .position) (e .train .length) ⌝ }
 {
-    match front_position(e) {
+    match position::front_position(e) {
         Front::Known(f) => first_ahead(e, f),
         Front::Unknown => 0,
     }
@@ -218,7 +121,7 @@ fn look(e: Engine, at: u64, from: u8) -> Progress
 {
     let points = e.points;
     let skips = e.skips;
-    let count = at_most(e.load.point_count, 64);
+    let count = position::at_most(e.load.point_count, 64);
     let mut next = from;
     let mut reached = false;
     'points: while next < count {
@@ -265,7 +168,7 @@ fn following(k: u8) -> u8
 pub fn report(e: Engine) -> Reported
     ensures { λ r. ⌜ r ≡ reportOf (routeIn e) (reportIn e) (e .progress) ⌝ }
 {
-    let segment = segment_named(e);
+    let segment = position::segment_named(e);
     let before = e.progress;
     let next = before.next;
     if before.reached {
@@ -279,7 +182,7 @@ pub fn report(e: Engine) -> Reported
             };
         }
         let from = following(next);
-        let progress = look_from(e, front_in(segment, e.train.position), from);
+        let progress = look_from(e, position::front_in(segment, e.train.position), from);
         return Reported {
             segment: segment,
             progress: progress,
@@ -288,58 +191,12 @@ pub fn report(e: Engine) -> Reported
             reached: progress.reached,
         };
     }
-    let progress = look_from(e, front_in(segment, e.train.position), next);
+    let progress = look_from(e, position::front_in(segment, e.train.position), next);
     Reported {
         segment: segment,
         progress: progress,
         from: next,
         departed: false,
         reached: progress.reached,
-    }
-}
-
-// ---- driver skips and standings
-
-// The stop of that name.
-pub fn find_stop(e: Engine, nidtp: u32) -> Found
-    ensures { λ r. ⌜ (r ≡ stopNamed (routeIn e) nidtp) × IndexBelow 64 r ⌝ }
-{
-    let n = at_most(e.load.point_count, 64) as usize;
-    let mut i: usize = 0;
-    while i < n {
-        let p = e.points[i];
-        if p.stop && p.nidtp == nidtp {
-            return Found::At(i);
-        }
-        i += 1;
-    }
-    Found::Nothing
-}
-
-// Where point k stands.
-pub fn standing_of(p: Progress, k: u8) -> Standing
-    ensures { λ r. ⌜ r ≡ standing p k ⌝ }
-{
-    if k < p.next {
-        return Standing::Passed;
-    }
-    if p.next < k {
-        return Standing::Unused;
-    }
-    if p.reached {
-        return Standing::Reached;
-    }
-    Standing::Targeted
-}
-
-// The number of a standing.
-pub fn standing_code(s: Standing) -> u8
-    ensures { λ r. ⌜ r ≡ standingCode s ⌝ }
-{
-    match s {
-        Standing::Unused => 0,
-        Standing::Targeted => 1,
-        Standing::Reached => 2,
-        Standing::Passed => 3,
     }
 }

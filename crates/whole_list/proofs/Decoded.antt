@@ -19,7 +19,7 @@ use Rattle.event.proofs.Known.{OfPosition, position-of}
 use Rattle.event.specs.Kinds.{carried, Role, off, load, report, other, skip, newer}
 use Rattle.route.specs.Route.{LoadValue, loadOf}
 use Rattle.route.proofs.Ranges.{PointFits, LoadFits, load-fits}
-use Rattle.timing.specs.Position.{point, pointCount}
+use Rattle.position.specs.Position.{point, pointCount}
 use Rattle.call.specs.Call.{Call}
 use Rattle.whole_list.specs.Values.{History, eventOfCall, loadOfCall, roleOfCall, isOff, latest, positionBy, routeLoaded, routeBy}
 use Rattle.whole_list.proofs.Recorded.{Ranged}

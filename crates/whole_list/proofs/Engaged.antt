@@ -17,9 +17,9 @@ use Rattle.event.specs.declared.Event.{Event}
 use Rattle.event.specs.declared.Event.the-variants.{PowerOff, Mode, PositionReport}
 use Rattle.event.proofs.Known.{OfRole, OfMode, known, mode-of}
 use Rattle.engine_value.specs.declared.Position.{Position}
-use Rattle.timing.specs.Position.{pointCount}
-use Rattle.timing.specs.declared.Standing.{Standing}
-use Rattle.timing.specs.declared.Standing.the-variants.{Reached}
+use Rattle.position.specs.Position.{pointCount}
+use Rattle.position.specs.declared.Standing.{Standing}
+use Rattle.position.specs.declared.Standing.the-variants.{Reached}
 use Rattle.timing.proofs.Moments.{as-function}
 use Rattle.states.specs.Codes.{modeAt}
 use Rattle.conditions.specs.Conditions.{lookedUp, nine, allOf, O}

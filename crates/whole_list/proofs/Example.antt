@@ -1,8 +1,8 @@
 -- The two lists by computation, and what the claim says of them.
 use mathlib.Core.Path.{_≡_, refl}
 use native.Mathlib.Omega.{arith}
-use Rattle.timing.specs.Position.{pointCount}
-use Rattle.timing.specs.declared.Standing.the-variants.{Reached, Passed}
+use Rattle.position.specs.Position.{pointCount}
+use Rattle.position.specs.declared.Standing.the-variants.{Reached, Passed}
 use Rattle.whole_list.specs.Values.{routeBy}
 use Rattle.whole_list.specs.Rules.{StandsBy, Engaged}
 use Rattle.whole_list.specs.Calls.{historyOf, engineAfter}

@@ -17,13 +17,13 @@ use Rattle.engine_value.specs.declared.Train.{Train}
 use Rattle.engine_value.specs.declared.Control.{Control}
 use Rattle.engine_value.specs.declared.Engine.{Engine}
 use Rattle.event.specs.Kinds.{Role, off, load, report, other, skip}
-use Rattle.timing.specs.Position.{pointCount, placed}
-use Rattle.timing.specs.Standing.{standing, isPassed, behind}
+use Rattle.position.specs.Position.{pointCount, placed}
+use Rattle.position.specs.Standing.{standing, isPassed, behind}
 use Rattle.timing.specs.Report.{run}
-use Rattle.timing.specs.Skips.{stopFrom, stopNamed}
-use Rattle.timing.specs.declared.Found.{Found}
-use Rattle.timing.specs.declared.Found.the-variants.{At, Nothing}
-use Rattle.timing.specs.declared.Standing.{Standing}
+use Rattle.position.specs.Skips.{stopFrom, stopNamed}
+use Rattle.position.specs.declared.Found.{Found}
+use Rattle.position.specs.declared.Found.the-variants.{At, Nothing}
+use Rattle.position.specs.declared.Standing.{Standing}
 use Rattle.timing.proofs.Steps.{InRange, started, run-range, target-most}
 use Rattle.timing.proofs.Rule.{as-rule}
 use Rattle.states.specs.Codes.{code}

@@ -19,17 +19,17 @@ use Rattle.event.specs.declared.Event.the-variants.{PowerOff, PositionReport, L
 use Rattle.event.specs.Kinds.{mode, lever, reports, trainLength, Carried, carried, Role, off, load, report, other, skip, roleOf, newer}
 use Rattle.event.proofs.Known.{OfRole, known}
 use Rattle.route.specs.Route.{LoadValue, loadOf}
-use Rattle.timing.specs.Position.{pointCount, segmentNamed}
+use Rattle.position.specs.Position.{pointCount, segmentNamed}
 use Rattle.timing.specs.Distance as distance
-use Rattle.timing.specs.Standing.{standing, behind}
+use Rattle.position.specs.Standing.{standing, behind}
 use Rattle.timing.specs.Load.{target}
 use Rattle.timing.specs.Report.{reported, becameReached, run}
 use Rattle.timing.specs.Changes.{Change, reportChanges}
-use Rattle.timing.specs.Skips.{stopNamed}
-use Rattle.timing.specs.declared.Found.{Found}
-use Rattle.timing.specs.declared.Found.the-variants.{At, Nothing}
+use Rattle.position.specs.Skips.{stopNamed}
+use Rattle.position.specs.declared.Found.{Found}
+use Rattle.position.specs.declared.Found.the-variants.{At, Nothing}
 use Rattle.timing.proofs.Steps.{run-snoc}
-use Rattle.timing.proofs.Rule.{standing-passed}
+use Rattle.position.proofs.Laws.{standing-passed}
 use Rattle.states.specs.Codes.{code}
 use Rattle.call.specs.Effect.{Effect, offsetBeyond, sameBool, reportedIn, positionEffect, loadedIn, loadEffect, skippedIn, skipEffect, taking, effectAs, effect}
 use Rattle.call.specs.Call.{Call}

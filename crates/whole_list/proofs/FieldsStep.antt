@@ -16,14 +16,15 @@ use Rattle.event.specs.declared.Event.{Event}
 use Rattle.event.specs.declared.Event.the-variants.{PositionReport, Load}
 use Rattle.event.specs.Kinds.{roleOf}
 use Rattle.route.specs.Route.{LoadValue, loadOf}
-use Rattle.timing.specs.Position.{pointCount}
+use Rattle.position.specs.Position.{pointCount}
 use Rattle.timing.specs.Distance as distance
-use Rattle.timing.specs.Standing.{standing, isPassed, isReached}
+use Rattle.position.specs.Standing.{standing, isPassed, isReached}
 use Rattle.timing.specs.Load.{target}
 use Rattle.timing.specs.Report.{reported, becameReached, run}
 use Rattle.timing.specs.Changes.{reportChanges}
 use Rattle.timing.proofs.Steps.{run-snoc}
-use Rattle.timing.proofs.Rule.{standing-passed, became-reached}
+use Rattle.position.proofs.Laws.{standing-passed}
+use Rattle.timing.proofs.Rule.{became-reached}
 use Rattle.conditions.specs.Conditions.{firstAhead}
 use Rattle.call.specs.Call.{Call}
 use Rattle.whole_list.specs.Values.{History, eventOfCall, loadOfCall, roleOfCall, latest, positionBy, lengthBy, routeBy, skippedBy, reportAt, reportsSince, behindAtLoad}

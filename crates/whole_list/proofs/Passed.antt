@@ -18,12 +18,12 @@ use Rattle.event.specs.declared.Event.the-variants as kind
 use Rattle.packets.specs.Packets.{packetOf, cut, cutPackets}
 use Rattle.packets.specs.declared.TimingPoint.{TimingPoint}
 use Rattle.packets.specs.declared.Packet.{Packet}
-use Rattle.timing.specs.Position.{point, pointCount}
+use Rattle.position.specs.Position.{point, pointCount}
 use Rattle.timing.specs.Distance.{Report}
 use Rattle.timing.specs.Changes.{Change, statusPassed, when, reportChanges}
-use Rattle.timing.specs.Skips.{stopNamed}
-use Rattle.timing.specs.declared.Found.{Found}
-use Rattle.timing.specs.declared.Found.the-variants.{At, Nothing}
+use Rattle.position.specs.Skips.{stopNamed}
+use Rattle.position.specs.declared.Found.{Found}
+use Rattle.position.specs.declared.Found.the-variants.{At, Nothing}
 use Rattle.timing.proofs.Changes.{Behind, recorded-behind, index-below}
 use Rattle.journey.specs.declared.Head.{Head}
 use Rattle.call.specs.Packets.{timingPoint, jpReceived, atoStatus, statusDue, received, packetsOf}

@@ -26,14 +26,14 @@ use Rattle.packets.specs.View.{headerView}
 use Rattle.packets.specs.Packets.{packetBytes, packetFits, packetOf}
 use Rattle.packets.proofs.RoundTrips.{TypedPacket, read-written}
 use Rattle.packets.specs.declared.Packet.{Packet}
-use Rattle.timing.specs.Position.{point, pointCount, known}
-use Rattle.timing.specs.Standing.{standing}
+use Rattle.position.specs.Position.{point, pointCount, known}
+use Rattle.position.specs.Standing.{standing}
 use Rattle.timing.specs.Changes.{Change, statusStopped, when}
-use Rattle.timing.specs.Skips.{stopNamed}
-use Rattle.timing.specs.declared.Found.{Found}
-use Rattle.timing.specs.declared.Found.the-variants.{At, Nothing}
-use Rattle.timing.specs.declared.Standing.{Standing}
-use Rattle.timing.specs.declared.Standing.the-variants.{Unused, Targeted, Reached, Passed}
+use Rattle.position.specs.Skips.{stopNamed}
+use Rattle.position.specs.declared.Found.{Found}
+use Rattle.position.specs.declared.Found.the-variants.{At, Nothing}
+use Rattle.position.specs.declared.Standing.{Standing}
+use Rattle.position.specs.declared.Standing.the-variants.{Unused, Targeted, Reached, Passed}
 use Rattle.conditions.specs.Conditions.{endAhead}
 use Rattle.conditions.proofs.WordLaws.{conditions-most}
 use Rattle.states.proofs.CodeLaws.{code-most}

@@ -10,15 +10,15 @@ use borrow.Author.Tests.{le-ltb, eq-eqb}
 use Rattle.wire.proofs.ReaderLaws.{and-right}
 use Rattle.engine_value.specs.Engine.{Route, progress}
 use Rattle.engine_value.specs.declared.Progress.{Progress}
-use Rattle.timing.specs.Position.{pointCount}
+use Rattle.position.specs.Position.{pointCount}
 use Rattle.timing.specs.Distance.{Report, moving}
-use Rattle.timing.specs.Standing.{standing}
+use Rattle.position.specs.Standing.{standing}
 use Rattle.timing.specs.Report.{departs, stays, firstLooked, reported, becameReached}
 use Rattle.timing.specs.Changes.{Change, change, statusPassed, statusStopped, statusDeparted, passings, when, reportChanges}
-use Rattle.timing.specs.declared.Standing.{Standing}
-use Rattle.timing.specs.declared.Standing.the-variants.{Unused, Targeted, Reached}
+use Rattle.position.specs.declared.Standing.{Standing}
+use Rattle.position.specs.declared.Standing.the-variants.{Unused, Targeted, Reached}
 use Rattle.timing.proofs.Steps.{InRange, following-is, looked-range, reported-first, reported-up, reported-range}
-use Rattle.timing.proofs.Rule.{standing-passed, standing-unused}
+use Rattle.position.proofs.Laws.{standing-passed, standing-unused}
 use Rattle.whole_list.specs.Table.{changeAt, changesFrom}
 
 -- ---- a range of points, and two ranges one after the other

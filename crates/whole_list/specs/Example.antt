@@ -8,9 +8,9 @@ use lib.ListN.{length}
 use Rattle.wire.specs.Judged.{Judged}
 use Rattle.wire.specs.Judged.Judged.{refuse}
 use Rattle.engine_value.specs.Engine.{fresh}
-use Rattle.timing.specs.Standing.{standing}
-use Rattle.timing.specs.declared.Standing.{Standing}
-use Rattle.timing.specs.declared.Standing.the-variants.{Targeted, Reached, Passed}
+use Rattle.position.specs.Standing.{standing}
+use Rattle.position.specs.declared.Standing.{Standing}
+use Rattle.position.specs.declared.Standing.the-variants.{Targeted, Reached, Passed}
 use Rattle.states.specs.Codes.{code}
 use Rattle.call.specs.Call.{Call, Accepted}
 use Rattle.call.specs.Trials.{answered, plain, powerOn, configured, reports, at, press, mode, plainly, trialLoad}

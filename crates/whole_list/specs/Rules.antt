@@ -7,12 +7,12 @@ use lib.ListN.{length, drop, getD}
 use Rattle.engine_value.specs.declared.Position.{Position}
 use Rattle.event.specs.declared.Event.the-variants.{PositionReport}
 use Rattle.event.specs.Kinds.{off, load, report, other, skip}
-use Rattle.timing.specs.Position.{pointCount}
-use Rattle.timing.specs.Standing.{isReached}
+use Rattle.position.specs.Position.{pointCount}
+use Rattle.position.specs.Standing.{isReached}
 use Rattle.timing.specs.History.{Stands}
 use Rattle.timing.specs.Rule.{standingByReports}
-use Rattle.timing.specs.declared.Standing.{Standing}
-use Rattle.timing.specs.declared.Standing.the-variants.{Reached}
+use Rattle.position.specs.declared.Standing.{Standing}
+use Rattle.position.specs.declared.Standing.the-variants.{Reached}
 use Rattle.states.specs.Codes.{modeAt, leverAt}
 use Rattle.conditions.specs.Conditions.{conditions, O}
 use Rattle.states.specs.States.{machine, T, machineAfter, given}

@@ -16,14 +16,14 @@ use Rattle.journey.specs.declared.Head.{Head}
 use Rattle.route.specs.Route.{LoadValue, loadOf}
 use Rattle.packets.specs.Packets.{joined}
 use Rattle.packets.specs.declared.Packet.{Packet}
-use Rattle.timing.specs.Position.{pointCount, segmentNamed}
-use Rattle.timing.specs.Standing.{isReached, behind}
+use Rattle.position.specs.Position.{pointCount, segmentNamed}
+use Rattle.position.specs.Standing.{isReached, behind}
 use Rattle.timing.specs.Changes.{Change, change, statusPassed, statusStopped, statusDeparted, statusSkipped, statusRevoked}
-use Rattle.timing.specs.Skips.{stopNamed}
-use Rattle.timing.specs.declared.Found.{Found}
-use Rattle.timing.specs.declared.Found.the-variants.{At, Nothing}
-use Rattle.timing.specs.declared.Standing.{Standing}
-use Rattle.timing.specs.declared.Standing.the-variants.{Unused, Targeted, Reached, Passed}
+use Rattle.position.specs.Skips.{stopNamed}
+use Rattle.position.specs.declared.Found.{Found}
+use Rattle.position.specs.declared.Found.the-variants.{At, Nothing}
+use Rattle.position.specs.declared.Standing.{Standing}
+use Rattle.position.specs.declared.Standing.the-variants.{Unused, Targeted, Reached, Passed}
 use Rattle.states.specs.Codes.{code}
 use Rattle.conditions.specs.Conditions.{firstAhead}
 use Rattle.states.specs.Numbers.{powerRows, stateRow}

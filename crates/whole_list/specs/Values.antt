@@ -16,9 +16,9 @@ use Rattle.event.specs.Kinds.{Role, off, load, report, other, skip, mode, lever
 use Rattle.route.specs.Route.{LoadValue, loadOf}
 use Rattle.timing.specs.Distance as distance
 use Rattle.timing.specs.Load.{target}
-use Rattle.timing.specs.Skips.{stopNamed}
-use Rattle.timing.specs.declared.Found.{Found}
-use Rattle.timing.specs.declared.Found.the-variants.{At, Nothing}
+use Rattle.position.specs.Skips.{stopNamed}
+use Rattle.position.specs.declared.Found.{Found}
+use Rattle.position.specs.declared.Found.the-variants.{At, Nothing}
 use Rattle.call.specs.Call.{Call}
 
 abbrev pub History : Type 0

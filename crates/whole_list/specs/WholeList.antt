@@ -15,11 +15,11 @@ use Rattle.packets.specs.Packets.{packetOf, packetBytes}
 use Rattle.packets.specs.declared.TimingPoint.{TimingPoint}
 use Rattle.packets.specs.declared.AtoStatus.{AtoStatus}
 use Rattle.packets.specs.declared.Packet.{Packet}
-use Rattle.timing.specs.Position.{point, pointCount, known, placed}
+use Rattle.position.specs.Position.{point, pointCount, known, placed}
 use Rattle.timing.specs.Distance.{beyond}
-use Rattle.timing.specs.Standing.{standing}
+use Rattle.position.specs.Standing.{standing}
 use Rattle.timing.specs.Changes.{statusPassed}
-use Rattle.timing.specs.declared.Standing.{Standing}
+use Rattle.position.specs.declared.Standing.{Standing}
 use Rattle.states.specs.Codes.{code}
 use Rattle.states.specs.States.{wanted}
 use Rattle.states.specs.declared.EtcsMode.the-variants.{Other}

@@ -1,7 +1,7 @@
 use mathlib.Core.Path.{_∙_, ap}
 use native.Mathlib.Omega.{arith}
 use borrow.Author.Needs.{needs}
-use Rattle.timing.specs.Standing.{standingCode}
+use Rattle.position.specs.Standing.{standingCode}
 use Rattle.call.proofs.Rows.{standing-there, standing-past}
 use Rattle.call.proofs.standing.Statement.{statement}
 use Rattle.call.proofs.standing.Tie as tie

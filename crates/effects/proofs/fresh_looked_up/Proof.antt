@@ -1,5 +1,5 @@
 use mathlib.Core.Path.{refl}
-use Rattle.timing.specs.Position.{segmentFrom}
+use Rattle.position.specs.Position.{segmentFrom}
 use Rattle.effects.proofs.fresh_looked_up.Statement.{statement}
 use Rattle.effects.proofs.fresh_looked_up.Tie as tie
 

@@ -1,5 +1,5 @@
 use mathlib.Core.Path.{sym, ap, _∙_}
-use Rattle.timing.specs.Standing.{behind}
+use Rattle.position.specs.Standing.{behind}
 use borrow.Author.Needs.{needs}
 use Rattle.effects.proofs.is_behind.Statement.{statement}
 use Rattle.effects.proofs.is_behind.Tie as tie

@@ -2,8 +2,8 @@ use mathlib.Core.Path.{_≡_, refl, sym, ap, ap₂, _∙_}
 use Rattle.engine_value.specs.Engine.{routeIn}
 use Rattle.engine_value.specs.declared.Position.{Position}
 use Rattle.engine_value.specs.declared.Engine.{Engine}
-use Rattle.timing.specs.Position.{segmentNamed}
-use Rattle.timing.specs.Standing.{standing}
+use Rattle.position.specs.Position.{segmentNamed}
+use Rattle.position.specs.Standing.{standing}
 use Rattle.timing.specs.declared.Reported.{Reported}
 use Rattle.conditions.specs.Conditions.{profilesThere, lookUp}
 use Rattle.conditions.specs.declared.LookedUp.{LookedUp}

@@ -1,5 +1,5 @@
 use mathlib.Core.Path.{refl, sym, ap, subst, _∙_}
-use Rattle.timing.specs.View.{IndexBelow}
+use Rattle.position.specs.View.{IndexBelow}
 use Rattle.call.specs.Effect.{skipEffect}
 use Rattle.effects.specs.View.{Gives}
 use Rattle.effects.proofs.Laws.{gives-number}

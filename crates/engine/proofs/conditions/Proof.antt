@@ -1,5 +1,5 @@
 use mathlib.Core.Path.{ap, _∙_}
-use Rattle.timing.specs.Standing.{standing}
+use Rattle.position.specs.Standing.{standing}
 use Rattle.conditions.specs.Conditions.{nine, wordOf, conditions}
 use borrow.Author.Needs.{needs}
 use Rattle.engine.proofs.conditions.Statement.{statement}

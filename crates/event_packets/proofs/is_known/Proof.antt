@@ -1,5 +1,5 @@
 use mathlib.Core.Path.{sym, ap, _∙_}
-use Rattle.timing.specs.Position.{isKnown}
+use Rattle.position.specs.Position.{isKnown}
 use borrow.Author.Needs.{needs}
 use Rattle.event_packets.proofs.is_known.Statement.{statement}
 use Rattle.event_packets.proofs.is_known.Tie as tie

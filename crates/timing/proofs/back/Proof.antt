@@ -1,4 +1,4 @@
-use mathlib.Core.Path.{sym, _∙_}
+use mathlib.Core.Path.{sym}
 use borrow.Author.Tests.{eq-eqb, ne-eqb}
 use native.Mathlib.Omega.{arith}
 use borrow.Author.Needs.{needs}
@@ -8,17 +8,14 @@ use Rattle.timing.proofs.back.Tie as tie
 returns : tie.Need-returns
 returns c = (sym (rw (eq-eqb _ _ (c .if1 .taken))), search needs)
 
-wide-requires : tie.Need-wide-requires
-wide-requires c κs = search needs
+cast-result : tie.Need-cast-result
+cast-result c = search needs
 
 returns-2 : tie.Need-returns-2
-returns-2 c = (c .wide .ensures .0 ∙ sym (simp (ne-eqb _ _ (c .before .before .if1 .left), eq-eqb _ _ (c .before .if2 .taken))), omega arith)
-
-wide-requires-2 : tie.Need-wide-requires-2
-wide-requires-2 c κs = search needs
+returns-2 c = (sym (simp (ne-eqb _ _ (c .before .if1 .left), eq-eqb _ _ (c .if2 .taken))), omega arith)
 
 returns-3 : tie.Need-returns-3
-returns-3 c = (c .wide2 .ensures .0 ∙ sym (simp (ne-eqb _ _ (c .before .before .if1 .left), ne-eqb _ _ (c .before .if2 .left))), omega arith)
+returns-3 c = (sym (simp (ne-eqb _ _ (c .before .if1 .left), ne-eqb _ _ (c .if2 .left))), omega arith)
 
 pub back-spec : {M : Type 1} → statement M
-back-spec = tie.close (tie.spec returns wide-requires returns-2 wide-requires-2 returns-3)
+back-spec = tie.close (tie.spec returns cast-result returns-2 returns-3)

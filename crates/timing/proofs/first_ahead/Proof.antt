@@ -5,7 +5,8 @@ use native.Mathlib.Omega.{arith}
 use borrow.Author.Needs.{needs}
 use Rattle.engine_value.specs.Engine.{routeIn}
 use Rattle.timing.specs.Load.{unskippedReport, targetFrom, target}
-use Rattle.timing.proofs.Laws.{left-all, target-none, target-unplaced, target-ahead, target-more}
+use Rattle.position.proofs.Laws.{left-all}
+use Rattle.timing.proofs.Laws.{target-none, target-unplaced, target-ahead, target-more}
 use Rattle.timing.proofs.first_ahead.Statement.{statement}
 use Rattle.timing.proofs.first_ahead.Tie as tie
 

@@ -1,5 +1,5 @@
 use mathlib.Core.Path.{ap, _∙_}
-use Rattle.timing.specs.Position.{front}
+use Rattle.position.specs.Position.{front}
 use Rattle.timing.proofs.Laws.{report-stays, report-departs, report-looks}
 use borrow.Author.Needs.{needs}
 use Rattle.timing.proofs.report.Statement.{statement}

@@ -1,5 +1,5 @@
 use mathlib.Core.Path.{sym, subst, _∙_}
-use Rattle.timing.specs.View.{FrontBelow}
+use Rattle.position.specs.View.{FrontBelow}
 use Rattle.timing.specs.Load.{target}
 use Rattle.timing.proofs.Laws.{target-unknown}
 use borrow.Author.Needs.{needs}

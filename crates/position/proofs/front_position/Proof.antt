@@ -1,8 +1,8 @@
 use mathlib.Core.Path.{ap, _∙_}
-use Rattle.timing.specs.Position.{front}
+use Rattle.position.specs.Position.{front}
 use borrow.Author.Needs.{needs}
-use Rattle.timing.proofs.front_position.Statement.{statement}
-use Rattle.timing.proofs.front_position.Tie as tie
+use Rattle.position.proofs.front_position.Statement.{statement}
+use Rattle.position.proofs.front_position.Tie as tie
 
 segment-named-requires : tie.Need-segment-named-requires
 segment-named-requires c κs = search needs

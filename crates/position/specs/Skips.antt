@@ -7,9 +7,9 @@ use lib.Dec.{eqb}
 use Rattle.wire.specs.Numbers.{if_then_else_}
 use Rattle.engine_value.specs.Engine.{Route, blankPoint}
 use Rattle.engine_value.specs.declared.Point.{Point}
-use Rattle.timing.specs.Position.{pointCount}
-use Rattle.timing.specs.declared.Found.{Found}
-use Rattle.timing.specs.declared.Found.the-variants.{At, Nothing}
+use Rattle.position.specs.Position.{pointCount}
+use Rattle.position.specs.declared.Found.{Found}
+use Rattle.position.specs.declared.Found.the-variants.{At, Nothing}
 
 -- the first of n points from k on that is a stop of that name
 unfoldable pub stopFrom : List Point → ℕ → ℕ → ℕ → Found

@@ -1,8 +1,8 @@
 use mathlib.Core.Path.{sym}
 use borrow.Author.Tests.{eq-eqb, ne-eqb, lt-ltb, le-ltb}
 use native.Mathlib.Omega.{arith}
-use Rattle.timing.proofs.standing_of.Statement.{statement}
-use Rattle.timing.proofs.standing_of.Tie as tie
+use Rattle.position.proofs.standing_of.Statement.{statement}
+use Rattle.position.proofs.standing_of.Tie as tie
 
 returns : tie.Need-returns
 returns c = sym (rw (lt-ltb _ _ (c .if1 .taken)))

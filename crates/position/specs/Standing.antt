@@ -1,12 +1,11 @@
 -- Where a point stands. Targeted, reached, passed, not used are document 01's terms (000 §7.2.1).
-use Prim.Native.Nat.{ℕ, _+_, min}
+use Prim.Native.Nat.{ℕ}
 use mathlib.Core.Bool.{Bool, true, false, _||_}
 use lib.Dec.{eqb, ltb}
 use Rattle.wire.specs.Numbers.{if_then_else_}
-use Rattle.engine_value.specs.Engine.{maxPoints}
 use Rattle.engine_value.specs.declared.Progress.{Progress}
-use Rattle.timing.specs.declared.Standing.{Standing}
-use Rattle.timing.specs.declared.Standing.the-variants.{Unused, Targeted, Reached, Passed}
+use Rattle.position.specs.declared.Standing.{Standing}
+use Rattle.position.specs.declared.Standing.the-variants.{Unused, Targeted, Reached, Passed}
 
 -- "earlier ones passed, later ones not used"
 abbrev pub standing : Progress → ℕ → Standing
@@ -30,10 +29,6 @@ isReached Passed = false
 -- "reached or passed"
 abbrev pub behind : Standing → Bool
 behind s = isReached s || isPassed s
-
--- the point after one; there is none behind the 64th
-abbrev pub following : ℕ → ℕ
-following k = min (k + 1) maxPoints
 
 -- a standing as a number; the codes are ours: 0 not used, 1 targeted, 2 reached, 3 passed
 abbrev pub standingCode : Standing → ℕ

@@ -10,9 +10,9 @@ use Rattle.engine_value.specs.declared.Load.{Load}
 use Rattle.engine_value.specs.declared.Segment.{Segment}
 use Rattle.engine_value.specs.declared.Point.{Point}
 use Rattle.engine_value.specs.declared.Position.{Position}
-use Rattle.timing.specs.declared.Named.{Named}
-use Rattle.timing.specs.declared.Front.{Front}
-use Rattle.timing.specs.declared.Front.the-variants.{Known, Unknown}
+use Rattle.position.specs.declared.Named.{Named}
+use Rattle.position.specs.declared.Front.{Front}
+use Rattle.position.specs.declared.Front.the-variants.{Known, Unknown}
 
 -- how many points and segments there are; the arrays hold 64 and 40
 abbrev pub pointsLoaded : Load → ℕ

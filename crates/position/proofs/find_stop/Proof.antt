@@ -4,10 +4,10 @@ use mathlib.Core.Logic.{⊎-elim}
 use native.Mathlib.Omega.{arith}
 use borrow.Author.Needs.{needs}
 use Rattle.engine_value.specs.Engine.{routeIn}
-use Rattle.timing.specs.Skips.{stopFrom, stopNamed}
-use Rattle.timing.proofs.Laws.{left-all, stop-none, stop-hit, stop-miss}
-use Rattle.timing.proofs.find_stop.Statement.{statement}
-use Rattle.timing.proofs.find_stop.Tie as tie
+use Rattle.position.specs.Skips.{stopFrom, stopNamed}
+use Rattle.position.proofs.Laws.{left-all, stop-none, stop-hit, stop-miss}
+use Rattle.position.proofs.find_stop.Statement.{statement}
+use Rattle.position.proofs.find_stop.Tie as tie
 
 -- what is left of the search from i answers the whole search
 abbrev Inv-loop : tie.InvT-loop

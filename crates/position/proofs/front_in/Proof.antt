@@ -1,12 +1,10 @@
-use Prim.Native.Nat.{_+_}
-use mathlib.Core.Path.{sym, ap₂, _∙_}
+use mathlib.Core.Path.{sym}
 use borrow.Author.Tests.{not-true, not-false}
 use native.Mathlib.Omega.{arith}
-use Rattle.timing.specs.declared.Front.the-variants.{Known}
-use Rattle.timing.proofs.Laws.{by-undefined, by-missing, by-unplaced, by-past, by-within}
+use Rattle.position.proofs.Laws.{by-undefined, by-missing, by-unplaced, by-past, by-within}
 use borrow.Author.Needs.{needs}
-use Rattle.timing.proofs.front_in.Statement.{statement}
-use Rattle.timing.proofs.front_in.Tie as tie
+use Rattle.position.proofs.front_in.Statement.{statement}
+use Rattle.position.proofs.front_in.Tie as tie
 
 returns : tie.Need-returns
 returns c = let a = c .before .before .args in
@@ -24,23 +22,21 @@ returns-4 : tie.Need-returns-4
 returns-4 c = let a = c .before .before .before .before .before .before .before .before .before .args in
     (sym (by-past (a .s) (a .x) (c .before .before .before .before .before .before .before .if1 .left) (not-false _ (c .before .before .before .before .before .if2 .left)) (not-false _ (c .before .before .before .if3 .left)) (c .if4 .taken)), tt)
 
-wide-requires : tie.Need-wide-requires
-wide-requires c κs = search needs
+cast-t4 : tie.Need-cast-t4
+cast-t4 c = search needs
 
-wide-requires-2 : tie.Need-wide-requires-2
-wide-requires-2 c κs = search needs
+cast-t5 : tie.Need-cast-t5
+cast-t5 c = search needs
 
 add-t6 : tie.Need-add-t6
 add-t6 c = search needs
 
 returns-5 : tie.Need-returns-5
-returns-5 c = let s = c .before .before in let a = s .before .before .before .before .before .before .before .before .before .args in (
-  ap₂ (λ x y. Known (x + y)) (c .before .wide .ensures .0) (c .wide2 .ensures .0)
-      ∙ sym (by-within (a .s) (a .x) (s .before .before .before .before .before .before .before .if1 .left) (not-false _ (s .before .before .before .before .before .if2 .left)) (not-false _ (s .before .before .before .if3 .left)) (s .if4 .left)),
-  omega arith,
-)
+returns-5 c = let s = c .before .before in
+    let a = s .before .before .before .before .before .before .before .before .before .args in
+    (sym (by-within (a .s) (a .x) (s .before .before .before .before .before .before .before .if1 .left) (not-false _ (s .before .before .before .before .before .if2 .left)) (not-false _ (s .before .before .before .if3 .left)) (s .if4 .left)), omega arith)
 
 pub front-in-spec : {M : Type 1} → statement M
 front-in-spec =
     tie.close
-    (tie.spec returns returns-2 returns-3 returns-4 wide-requires wide-requires-2 add-t6 returns-5)
+    (tie.spec returns returns-2 returns-3 returns-4 cast-t4 cast-t5 add-t6 returns-5)

@@ -7,10 +7,10 @@ use borrow.Author.Tests.{eq-eqb, ne-eqb}
 use native.Mathlib.Omega.{arith}
 use borrow.Author.Needs.{needs}
 use Rattle.engine_value.specs.Engine.{blankSegment}
-use Rattle.timing.specs.Position.{segmentFrom}
-use Rattle.timing.proofs.Laws.{getD-there, and-first, left-all, segment-none, segment-hit, segment-miss}
-use Rattle.timing.proofs.segment_named.Statement.{statement}
-use Rattle.timing.proofs.segment_named.Tie as tie
+use Rattle.position.specs.Position.{segmentFrom}
+use Rattle.position.proofs.Laws.{getD-there, and-first, left-all, segment-none, segment-hit, segment-miss}
+use Rattle.position.proofs.segment_named.Statement.{statement}
+use Rattle.position.proofs.segment_named.Tie as tie
 
 -- what is left of the search from i answers the whole search
 abbrev Inv-loop : tie.InvT-loop
