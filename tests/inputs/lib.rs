@@ -5,6 +5,7 @@ pub mod edges;
 mod faults;
 mod journeys;
 pub mod lists;
+pub mod packet_trials;
 pub mod profiles;
 mod random;
 mod script;

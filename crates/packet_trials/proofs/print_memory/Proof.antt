@@ -2,8 +2,8 @@ use Prim.Native.Nat.{_-_}
 use mathlib.Core.Path.{_≡_}
 use lib.ListN.{length}
 use borrow.Author.Needs.{needs}
-use Rattle.packet_trials.proofs.hexadecimal.Statement.{statement}
-use Rattle.packet_trials.proofs.hexadecimal.Tie as tie
+use Rattle.packet_trials.proofs.print_memory.Statement.{statement}
+use Rattle.packet_trials.proofs.print_memory.Tie as tie
 
 abbrev Inv-loop : tie.InvT-loop
 Inv-loop s i₀ i-end i = i-end ≡ length s
@@ -23,17 +23,11 @@ loop-holds c = search needs
 shared-slice-read-b : tie.Need-shared-slice-read-b Inv-loop μ-loop
 shared-slice-read-b c = search needs
 
-digit-requires : tie.Need-digit-requires Inv-loop μ-loop
-digit-requires c κs = search needs
+print-digit-requires : tie.Need-print-digit-requires Inv-loop μ-loop
+print-digit-requires c κs = search needs
 
-digit-requires-2 : tie.Need-digit-requires-2 Inv-loop μ-loop
-digit-requires-2 c κs = search needs
-
-slice-aggregate-write-all-2 : tie.Need-slice-aggregate-write-all-2 Inv-loop μ-loop
-slice-aggregate-write-all-2 c = search needs
-
-write-all-requires-2 : tie.Need-write-all-requires-2 Inv-loop μ-loop
-write-all-requires-2 c κs = search needs
+print-digit-requires-2 : tie.Need-print-digit-requires-2 Inv-loop μ-loop
+print-digit-requires-2 c κs = search needs
 
 add-i : tie.Need-add-i Inv-loop μ-loop
 add-i c = search needs
@@ -47,8 +41,8 @@ loop-again c = search needs
 returns : tie.Need-returns Inv-loop μ-loop
 returns c = search needs
 
-pub hexadecimal-spec : {M : Type 1} → statement M
-hexadecimal-spec =
+pub print-memory-spec : {M : Type 1} → statement M
+print-memory-spec =
     tie.close
     (tie.spec
     Inv-loop
@@ -57,10 +51,8 @@ hexadecimal-spec =
     write-all-requires
     loop-holds
     shared-slice-read-b
-    digit-requires
-    digit-requires-2
-    slice-aggregate-write-all-2
-    write-all-requires-2
+    print-digit-requires
+    print-digit-requires-2
     add-i
     loop-less
     loop-again
