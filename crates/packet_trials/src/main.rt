@@ -1,6 +1,6 @@
-// Trials of the packets' reader and writer, from standard input. A trial is a byte a number: what is tried, the position, the sizes of name, packet
-// and memory; then the name, the packet and the memory. Each gives a line: its name; of a packet that was read its number and its values in decimal,
-// header first; of one that was written W and the count; or R and the number; after writing also the memory in hexadecimal.
+// Trials of the packets' reader and writer, from standard input. A trial is five bytes (what is tried, the position, the sizes of name, packet and
+// memory), then name, packet and memory. It gives a line: its name, and R and the number of a refusal, or W and the count, or the packet's number and its
+// values in decimal, header first; after writing also the memory in hexadecimal. tests/inputs/packet_trials.rs has the trials.
 use packet_reader::PacketRead;
 use packet_writer::Written;
 use packets::AtoStatus;

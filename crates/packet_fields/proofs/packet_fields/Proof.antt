@@ -1,6 +1,6 @@
 use borrow.Author.Needs.{needs}
-use Rattle.host.proofs.packet_fields.Statement.{statement}
-use Rattle.host.proofs.packet_fields.Tie as tie
+use Rattle.packet_fields.proofs.packet_fields.Statement.{statement}
+use Rattle.packet_fields.proofs.packet_fields.Tie as tie
 
 packet-size-requires : tie.Need-packet-size-requires
 packet-size-requires c κs = search needs

@@ -2,9 +2,9 @@ use mathlib.Core.Path.{sym, ap, _∙_}
 use borrow.Author.Needs.{needs}
 use Rattle.packet_reader.specs.declared.PacketRead.{PacketRead}
 use Rattle.packet_reader.specs.View.{readView}
-use Rattle.host.specs.View.{fieldsView}
-use Rattle.host.proofs.hollwern_read.Statement.{statement}
-use Rattle.host.proofs.hollwern_read.Tie as tie
+use Rattle.packet_fields.specs.View.{fieldsView}
+use Rattle.packet_fields.proofs.read_fields.Statement.{statement}
+use Rattle.packet_fields.proofs.read_fields.Tie as tie
 
 read-packet-requires : tie.Need-read-packet-requires
 read-packet-requires c κs = search needs
@@ -27,8 +27,8 @@ returns c = c .packet-fields .ensures ∙ ap (λ (x : PacketRead). fieldsView (r
 returns-2 : tie.Need-returns-2
 returns-2 c = c .refused .ensures ∙ ap (λ (x : PacketRead). fieldsView (readView x)) (sym (c .before .before .answer2 .given .1)) ∙ ap fieldsView (c .before .before .before .before .read-packet .ensures)
 
-pub hollwern-read-spec : {M : Type 1} → statement M
-hollwern-read-spec =
+pub read-fields-spec : {M : Type 1} → statement M
+read-fields-spec =
     tie.close
     (tie.spec
     read-packet-requires
