@@ -12,11 +12,11 @@ use Rattle.engine_value.specs.Engine.{max4, maxNidc, maxNidtp, maxSegments, max
 use Rattle.engine_value.specs.declared.Zone.{Zone}
 use Rattle.wire.specs.Numbers.{bit}
 use Rattle.wire.specs.Lists.{All, any, twice}
-use Rattle.wire.specs.Parse.{Parse, andThen, field, free, bitMap, listed}
-use Rattle.wire.specs.Parse.Parse.{bad, good}
-use Rattle.wire.proofs.ReaderLaws.{field-inv}
-use Rattle.wire.proofs.Sure.{Sure, sure-on, sure-of, listed-all}
-use Rattle.wire.specs.Judged.{Judged, thenJudge, read, row}
+use Rattle.fields.specs.Parse.{Parse, andThen, field, free, bitMap, listed, read}
+use Rattle.fields.specs.Parse.Parse.{bad, good}
+use Rattle.fields.proofs.ReaderLaws.{field-inv}
+use Rattle.fields.proofs.Sure.{Sure, sure-on, sure-of, listed-all}
+use Rattle.wire.specs.Judged.{Judged, thenJudge, row}
 use Rattle.wire.specs.Judged.Judged.{refuse, accept}
 use Rattle.book.specs.Book.{BookPoint, BookSegment, maxLength, maxRecordPoints, maxReach, bookPoint, zoneRecord, segmentRecord, records, lookup, lookupPoint}
 use Rattle.book.specs.Table.{sameSegment, nidtpTwice, bookOf}

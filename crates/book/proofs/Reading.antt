@@ -9,9 +9,9 @@ use native.Mathlib.Omega.{arith}
 use Rattle.engine_value.specs.Engine.{max4, maxNidc, maxNidtp, maxZones}
 use Rattle.engine_value.specs.declared.Zone.{Zone}
 use Rattle.wire.specs.Numbers.{number, bit}
-use Rattle.wire.specs.Parse.{Parse, Reader, andThen, field, free, mapFits, bitMap, many, counted, listed, must, give}
-use Rattle.wire.specs.Parse.Parse.{bad, good}
-use Rattle.wire.proofs.ReaderLaws.{then-inv, FieldRead, field-inv}
+use Rattle.fields.specs.Parse.{Parse, Reader, andThen, field, free, mapFits, bitMap, many, counted, listed, must, give}
+use Rattle.fields.specs.Parse.Parse.{bad, good}
+use Rattle.fields.proofs.ReaderLaws.{then-inv, FieldRead, field-inv}
 use Rattle.book.specs.Book.{BookPoint, maxLength, maxRecordPoints, maxReach, bookPoint, zoneRecord, segmentRecord}
 use Rattle.book.specs.View.{items, pointOf, zoneOf, bare, bareReader, skip, most, Extent, extent}
 use Rattle.book.specs.declared.Kind.{Kind}

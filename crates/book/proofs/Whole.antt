@@ -8,11 +8,11 @@ use lib.Seq.{drop-drop, drop-length, take-all, take-append-le, take-suc-set, set
 use lib.Dec.{eqb, ltb}
 use native.Mathlib.Omega.{arith}
 use borrow.Author.Tests.{eq-eqb, ne-eqb, lt-ltb, le-ltb, ltb-true, ltb-false}
-use Rattle.wire.specs.Parse.{Parse, andThen}
-use Rattle.wire.specs.Parse.Parse.{bad, good}
+use Rattle.fields.specs.Parse.{Parse, andThen}
+use Rattle.fields.specs.Parse.Parse.{bad, good}
 use Rattle.wire.specs.Judged.Judged.{refuse, accept}
 use Rattle.wire.specs.Lists.{All, any, twice}
-use Rattle.wire.proofs.Sure.{sure-of}
+use Rattle.fields.proofs.Sure.{sure-of}
 use Rattle.engine_value.specs.Engine.{maxSegments}
 use Rattle.book.specs.Book.{BookSegment, segmentRecord, records}
 use Rattle.book.specs.Table.{sameSegment, nidtpTwice, bookOf}

@@ -5,7 +5,8 @@ use mathlib.Core.Bool.{Bool, _&&_, _||_}
 use lib.ListN.{length}
 use lib.Dec.{eqb, ltb}
 use Rattle.wire.specs.Lists.{any, twice}
-use Rattle.wire.specs.Judged.{Judged, thenJudge, row, read, _>>=_, _>>_}
+use Rattle.wire.specs.Judged.{Judged, thenJudge, row, _>>=_, _>>_}
+use Rattle.fields.specs.Parse.{read}
 use Rattle.wire.specs.Judged.Judged.{accept}
 use Rattle.engine_value.specs.Engine.{maxSegments}
 use Rattle.book.specs.Book.{BookPoint, BookSegment, records}

@@ -7,8 +7,8 @@ use mathlib.Core.Option.{Option, none, some}
 use lib.ListN.{length, drop, take, getD, replicate}
 use lib.Dec.{eqb}
 use Rattle.wire.specs.Numbers.{number, if_then_else_}
-use Rattle.wire.specs.Parse.{Parse, Reader, andThen, field, give, _>>_}
-use Rattle.wire.specs.Parse.Parse.{bad, good}
+use Rattle.fields.specs.Parse.{Parse, Reader, andThen, field, give, _>>_}
+use Rattle.fields.specs.Parse.Parse.{bad, good}
 use Rattle.wire.specs.Judged.{Judged}
 use Rattle.wire.specs.Judged.Judged.{refuse, accept}
 use Rattle.engine_value.specs.Engine.{maxZones, blankZone, filled}

@@ -1,8 +1,8 @@
 // Books: segment records end to end, read and checked (7, 8), and look-ups in them.
 use engine_value::Zone;
-use wire::Field;
-use wire::Width;
-use wire::read_field;
+use fields::Field;
+use fields::Width;
+use fields::read_field;
 ghost use mathlib.Core.Path.{_≡_};
 ghost use mathlib.Core.List.{List, [], _∷_};
 ghost use Prim.Native.Nat.{ℕ, _≤_, min};
@@ -10,7 +10,7 @@ ghost use lib.ListN.{drop, take, getD};
 ghost use lib.Dec.{eqb};
 ghost use Rattle.wire.specs.Numbers.{number};
 ghost use Rattle.wire.specs.Lists.{any, twice};
-ghost use Rattle.wire.specs.Parse.{mapFits};
+ghost use Rattle.fields.specs.Parse.{mapFits};
 ghost use Rattle.book.specs.Book.{segmentRecord, lookupPoint};
 ghost use Rattle.book.specs.Table.{sameSegment, nidtpTwice};
 ghost use Rattle.book.specs.View.{items, entryView, segmentsView, blankEntry, entriesView, isNamed, indexFrom, pointView, zoneView, zonesView, BookRead};
@@ -177,7 +177,7 @@ fn segment_map(map: u32) -> bool
     if map / 4 % 2 != 1 {
         return false;
     }
-    wire::upper_clear(map)
+    fields::upper_clear(map)
 }
 
 fn read_segment(s: &[u8], at: usize) -> SegmentRead

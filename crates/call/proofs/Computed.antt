@@ -1,6 +1,6 @@
 -- For proofs by computation: `unfolding computed` opens `stepOf` and all that it is made of.
 use Rattle.wire.specs.Numbers.{number, bytesOf}
-use Rattle.wire.specs.Parse.{field, bitMap, optional, many, counted, listed}
+use Rattle.fields.specs.Parse.{field, bitMap, optional, many, counted, listed}
 use Rattle.event.specs.Events.{eventWith, contentAmong, eventOfKind, eventOf}
 use Rattle.book.specs.Book.{bookPoint, zoneRecord, segmentRecord, records}
 use Rattle.book.specs.Table.{bookOf}

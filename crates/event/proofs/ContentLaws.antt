@@ -8,7 +8,7 @@ use lib.Dec.{eqb, leb}
 use native.Mathlib.Omega.{arith}
 use borrow.Author.Tests.{eq-eqb, ne-eqb, le-leb, lt-leb, leb-true}
 use Rattle.wire.specs.Numbers.{number}
-use Rattle.wire.proofs.ReaderLaws.{and-left, and-right}
+use Rattle.wire.proofs.ListLaws.{and-left, and-right}
 use Rattle.wire.specs.Judged.{Judged}
 use Rattle.wire.specs.Judged.Judged.{refuse, accept}
 use Rattle.event.specs.Content.{Field, Content, Values, size, valuesAt, fits, one}

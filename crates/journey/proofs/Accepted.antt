@@ -8,11 +8,10 @@ use lib.ListN.{length}
 use lib.Dec.{eqb}
 use Rattle.wire.specs.Numbers.{bit}
 use Rattle.wire.specs.Lists.{All}
-use Rattle.wire.specs.Parse.{Parse, field, free, bitMap, optional, must, counted}
-use Rattle.wire.specs.Parse.Parse.{bad, good}
-use Rattle.wire.proofs.ReaderLaws.{field-inv}
-use Rattle.wire.proofs.Sure.{optional-most, Sure, sure-on, sure-of, counted-all}
-use Rattle.wire.specs.Judged.{whole}
+use Rattle.fields.specs.Parse.{Parse, field, free, bitMap, optional, must, counted, whole}
+use Rattle.fields.specs.Parse.Parse.{bad, good}
+use Rattle.fields.proofs.ReaderLaws.{field-inv}
+use Rattle.fields.proofs.Sure.{optional-most, Sure, sure-on, sure-of, counted-all}
 use Rattle.wire.specs.Judged.Judged.{refuse, accept}
 use Rattle.engine_value.specs.Engine.{max4, maxNidc, maxNidtp, noOperational, maxSegments, maxPoints}
 use Rattle.journey.specs.Journey.{maxDate, maxAtots, noAtots, maxAlignment, maxStopping, JourneyValue, nameRecord, pointRecord, headRecord, journeyRecord, journeyValue}

@@ -9,8 +9,8 @@ use lib.Seq.{take-suc-set, set-at, take-at, take-take, length-take-le, getD-appe
 use lib.Dec.{ltb}
 use borrow.Author.Tests.{ltb-true, ltb-false}
 use mathlib.Core.Bool.{Bool, true, false}
-use Rattle.wire.specs.Parse.{Parse, Reader, andThen, field, many, counted}
-use Rattle.wire.specs.Parse.Parse.{bad, good}
+use Rattle.fields.specs.Parse.{Parse, Reader, andThen, field, many, counted}
+use Rattle.fields.specs.Parse.Parse.{bad, good}
 use Rattle.engine_value.specs.Engine.{filled}
 
 -- an array of which the first i elements are set, and the others blank

@@ -8,9 +8,9 @@ use lib.ListN.{length, take, drop}
 use lib.Seq.{length-take-le}
 use borrow.Author.Tests.{eq-eqb, ne-eqb}
 use Rattle.wire.specs.Numbers.{bit}
-use Rattle.wire.specs.Parse.{Parse, andThen, must, mapFits, counted}
-use Rattle.wire.proofs.ReaderLaws.{and-left, and-right}
-use Rattle.wire.specs.Parse.Parse.{bad, good}
+use Rattle.fields.specs.Parse.{Parse, andThen, must, mapFits, counted}
+use Rattle.wire.proofs.ListLaws.{and-left, and-right}
+use Rattle.fields.specs.Parse.Parse.{bad, good}
 use Rattle.wire.specs.Judged.Judged.{refuse, accept}
 use Rattle.journey.specs.Journey.{nameRecord, pointRecord, headRecord, journeyRecord, journeyValue}
 use Rattle.journey.proofs.Filling.{filled-length}

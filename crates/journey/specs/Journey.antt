@@ -4,8 +4,8 @@ use mathlib.Core.List.{List, [], _∷_}
 use mathlib.Core.Bool.{false, not, _||_}
 use Rattle.wire.specs.Numbers.{bit}
 use Rattle.engine_value.specs.Engine.{maxNidc, maxNidtp, noOperational, maxSegments, maxPoints}
-use Rattle.wire.specs.Parse.{Reader, andThen, field, free, bitMap, optional, give, must, counted, _>>=_, _>>_}
-use Rattle.wire.specs.Judged.{Judged, whole}
+use Rattle.fields.specs.Parse.{Reader, andThen, field, free, bitMap, optional, give, must, counted, _>>=_, _>>_, whole}
+use Rattle.wire.specs.Judged.{Judged}
 use Rattle.journey.specs.declared.Name.{Name}
 use Rattle.journey.specs.declared.JourneyPoint.{JourneyPoint}
 use Rattle.journey.specs.declared.Head.{Head}

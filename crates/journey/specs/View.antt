@@ -6,8 +6,8 @@ use mathlib.Core.Bool.{true}
 use lib.ListN.{length, drop, take, replicate}
 use lib.Dec.{eqb}
 use Rattle.wire.specs.Numbers.{if_then_else_}
-use Rattle.wire.specs.Parse.{Parse, counted}
-use Rattle.wire.specs.Parse.Parse.{bad, good}
+use Rattle.fields.specs.Parse.{Parse, counted}
+use Rattle.fields.specs.Parse.Parse.{bad, good}
 use Rattle.wire.specs.Judged.{Judged}
 use Rattle.wire.specs.Judged.Judged.{refuse, accept}
 use Rattle.journey.specs.Journey.{blankName, blankJourneyPoint, blankHead, JourneyValue, nameRecord, pointRecord, journeyValue}

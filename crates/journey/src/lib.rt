@@ -1,14 +1,14 @@
 // Journeys: read whole (9).
-use wire::Field;
-use wire::Width;
-use wire::read_field;
-use wire::read_optional;
+use fields::Field;
+use fields::Width;
+use fields::read_field;
+use fields::read_optional;
 ghost use mathlib.Core.Path.{_≡_};
 ghost use mathlib.Core.List.{[], _∷_};
 ghost use mathlib.Core.Bool.{not, _&&_, _||_};
 ghost use lib.ListN.{drop};
 ghost use Rattle.wire.specs.Numbers.{bit};
-ghost use Rattle.wire.specs.Parse.{mapFits};
+ghost use Rattle.fields.specs.Parse.{mapFits};
 ghost use Rattle.journey.specs.Journey.{nameRecord, pointRecord, headRecord};
 ghost use Rattle.journey.specs.View.{nameView, pointView, headView, NamesRead, PointsRead, refusedJourney, JourneyRead};
 
@@ -170,7 +170,7 @@ fn head_map(map: u32) -> bool
     if map / 16 % 2 != 1 {
         return false;
     }
-    wire::upper_clear(map)
+    fields::upper_clear(map)
 }
 
 // The map and the fields before the segments.

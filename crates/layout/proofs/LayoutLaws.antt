@@ -11,7 +11,7 @@ use lib.Dec.{leb, ltb}
 use borrow.Author.Tests.{leb-true, ltb-true}
 use Rattle.wire.specs.Numbers.{number, bytesOf, Bytes}
 use Rattle.wire.proofs.NumberLaws.{length-bytesOf, number-bytesOf, number-bound, reread}
-use Rattle.wire.proofs.ReaderLaws.{and-left, and-right}
+use Rattle.wire.proofs.ListLaws.{and-left, and-right}
 use Rattle.layout.specs.Layout.{Content, Field, Layout, Value, Values, packed, unpacked, bytes, size, valuesAt, contentFits, fits}
 use Rattle.layout.specs.Layout.Content.{free, upTo, part}
 

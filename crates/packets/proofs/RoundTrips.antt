@@ -12,7 +12,7 @@ use Rattle.wire.specs.Numbers.{Bytes, if_then_else_}
 use Rattle.wire.specs.Lists.{All}
 use Rattle.wire.specs.Judged.{Judged, thenJudge, row}
 use Rattle.wire.specs.Judged.Judged.{refuse, accept}
-use Rattle.wire.proofs.ReaderLaws.{and-left, and-right}
+use Rattle.wire.proofs.ListLaws.{and-left, and-right}
 use Rattle.layout.specs.Layout.{Values, bytes, size, valuesAt, fits}
 use Rattle.layout.proofs.LayoutLaws.{length-bytes, sound, Typed, read-written as values-back, written-read as bytes-back, read-typed as values-typed}
 use Rattle.packets.specs.Layouts.{PacketKind, headerLayout, contentAt, kindSize, kinds}

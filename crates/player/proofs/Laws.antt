@@ -4,7 +4,7 @@ use mathlib.Core.Path.{_≡_, refl}
 use mathlib.Core.List.{List}
 use lib.ListN.{length}
 use native.Mathlib.Omega.{arith}
-use Rattle.wire.specs.Parse.Parse.{bad, good}
+use Rattle.fields.specs.Parse.Parse.{bad, good}
 use Rattle.engine_value.specs.declared.Engine.{Engine}
 use Rattle.call.specs.Call.{stepOf}
 use Rattle.player_text.specs.Calls.{Given, call}

@@ -2,8 +2,8 @@
 use Prim.Native.Nat.{ℕ, zero, suc}
 use mathlib.Core.Path.{_≡_}
 use mathlib.Core.List.{List}
-use Rattle.wire.specs.Parse.{Parse}
-use Rattle.wire.specs.Parse.Parse.{bad, good}
+use Rattle.fields.specs.Parse.{Parse}
+use Rattle.fields.specs.Parse.Parse.{bad, good}
 use Rattle.engine_value.specs.declared.Engine.{Engine}
 use Rattle.call.specs.Call.{Call, Outcome, stepOf}
 use Rattle.player_text.specs.Calls.{Given, call}

@@ -13,9 +13,9 @@ use borrow.Author.Tests.{leb-true, leb-false, le-leb, lt-leb, lt-ltb, le-ltb}
 use mir.Val.{boolByte}
 use Rattle.wire.specs.Numbers.{number, flag}
 use Rattle.wire.proofs.NumberLaws.{sets-past}
-use Rattle.wire.specs.Parse.{field}
-use Rattle.wire.specs.Parse.Parse.{bad, good}
-use Rattle.wire.proofs.ReaderLaws.{field-short, field-good, field-inv, then-inv, cond-good}
+use Rattle.fields.specs.Parse.{field}
+use Rattle.fields.specs.Parse.Parse.{bad, good}
+use Rattle.fields.proofs.ReaderLaws.{field-short, field-good, field-inv, then-inv, cond-good}
 use Rattle.packets.specs.Packets.{frontSize}
 use Rattle.packets.proofs.Cutting.{cut-none, cut-first}
 use Rattle.player_text.specs.Calls.{Given, some, block, profiles, call}

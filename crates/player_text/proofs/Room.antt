@@ -12,9 +12,9 @@ use Rattle.wire.specs.Numbers.{Bytes, number, flag}
 use Rattle.wire.proofs.NumberLaws.{number-bound}
 use Rattle.wire.specs.Judged.{Judged}
 use Rattle.wire.specs.Judged.Judged.{refuse, accept}
-use Rattle.wire.specs.Parse.{field}
-use Rattle.wire.specs.Parse.Parse.{good}
-use Rattle.wire.proofs.ReaderLaws.{field-good}
+use Rattle.fields.specs.Parse.{field}
+use Rattle.fields.specs.Parse.Parse.{good}
+use Rattle.fields.proofs.ReaderLaws.{field-good}
 use Rattle.packets.specs.Packets.{frontSize, cut, cutPackets}
 use Rattle.packets.proofs.Cutting.{front-some}
 use Rattle.call.specs.Call.{Accepted}

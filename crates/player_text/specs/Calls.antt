@@ -5,8 +5,8 @@ use mathlib.Core.Bool.{Bool, true, false}
 use lib.ListN.{length, take, drop}
 use lib.Dec.{eqb, leb}
 use Rattle.wire.specs.Numbers.{number, if_then_else_}
-use Rattle.wire.specs.Parse.{Parse, Reader, field, give, _>>=_, _>>_}
-use Rattle.wire.specs.Parse.Parse.{bad, good}
+use Rattle.fields.specs.Parse.{Parse, Reader, field, give, _>>=_, _>>_}
+use Rattle.fields.specs.Parse.Parse.{bad, good}
 use Rattle.player_text.specs.Parts.{partOf}
 use Rattle.player_text.specs.declared.calls.Block.{Block}
 use Rattle.player_text.specs.declared.calls.Call.{Call}

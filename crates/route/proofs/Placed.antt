@@ -12,7 +12,6 @@ use lib.Dec.{leb}
 use borrow.Author.Tests.{leb-false}
 use Rattle.wire.specs.Numbers.{if_then_else_}
 use Rattle.wire.specs.Lists.{All, any, every, tabulate, sum}
-use Rattle.wire.proofs.Sure.{all-at}
 use Rattle.wire.proofs.ListLaws.{one-more, any-false, any-same, map-same, map-append, every-append, sum-append, tabulate-more}
 use Rattle.engine_value.specs.Engine.{blankSegment, blankPoint, filled}
 use Rattle.engine_value.specs.declared.Segment.{Segment}

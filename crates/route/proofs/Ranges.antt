@@ -12,8 +12,7 @@ use Rattle.wire.specs.Numbers.{flag}
 use Rattle.wire.specs.Lists.{All, twice}
 use Rattle.wire.specs.Judged.{Judged, thenJudge, row}
 use Rattle.wire.specs.Judged.Judged.{refuse, accept}
-use Rattle.wire.proofs.Sure.{all-at}
-use Rattle.wire.proofs.ListLaws.{or-false}
+use Rattle.wire.proofs.ListLaws.{all-at, or-false}
 use Rattle.engine_value.specs.Engine.{max4, blankSegment, blankPoint}
 use Rattle.engine_value.specs.declared.Segment.{Segment}
 use Rattle.engine_value.specs.declared.Point.{Point}

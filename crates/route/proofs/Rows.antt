@@ -7,9 +7,9 @@ use native.Mathlib.Omega.{arith}
 use lib.ListN.{length, take, length-map}
 use lib.Dec.{eqb}
 use Rattle.wire.specs.Lists.{twice, falls, strictlyRises}
-use Rattle.wire.specs.Parse.{Parse}
-use Rattle.wire.specs.Parse.Parse.{bad, good}
-use Rattle.wire.specs.Judged.{Judged, thenJudge, row, read, whole}
+use Rattle.fields.specs.Parse.{Parse, read, whole}
+use Rattle.fields.specs.Parse.Parse.{bad, good}
+use Rattle.wire.specs.Judged.{Judged, thenJudge, row}
 use Rattle.wire.specs.Judged.Judged.{refuse, accept}
 use Rattle.engine_value.specs.Engine.{blankSegment, blankPoint, filled}
 use Rattle.engine_value.specs.declared.Segment.{Segment}

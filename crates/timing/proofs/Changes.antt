@@ -8,7 +8,7 @@ use mathlib.Core.Bool.{Bool, true, false, not, _&&_, false≢true}
 use native.Mathlib.Omega.{arith}
 use native.Mathlib.Nat.{eq-or-lt-of-le}
 use borrow.Author.Tests.{eqb-false, not-true}
-use Rattle.wire.proofs.ReaderLaws.{and-left, and-right}
+use Rattle.wire.proofs.ListLaws.{and-left, and-right}
 use Rattle.engine_value.specs.Engine.{Route, progress}
 use Rattle.engine_value.specs.declared.Progress.{Progress}
 use Rattle.position.specs.Position.{pointCount, placed, known}

@@ -16,7 +16,7 @@ use Rattle.timing.specs.Distance.{Report, beyond, atStop, moving}
 use Rattle.position.specs.Standing.{standing}
 use Rattle.timing.specs.Report.{looked, lookedFrom, stays, reported, becameReached, run}
 use Rattle.position.proofs.Laws.{standing-passed, standing-unused, standing-at, standing-reached, standing-targeted, reached-only}
-use Rattle.wire.proofs.ReaderLaws.{and-left, and-right}
+use Rattle.wire.proofs.ListLaws.{and-left, and-right}
 use Rattle.timing.specs.History.{settles}
 use Rattle.timing.specs.Rule.{PointOutcome, departing, through, after, pointOutcome, standingFor, standingByReports}
 use Rattle.timing.specs.Rule.PointOutcome.{passes, reaches, notSettled, notLookedAt}

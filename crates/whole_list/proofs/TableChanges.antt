@@ -7,7 +7,7 @@ use Prim.Native.Nat.{ℕ, zero, suc, _+_, _-_, _≤_, _<_}
 use native.Mathlib.Omega.{arith}
 use native.Mathlib.Nat.{eq-or-lt-of-le}
 use borrow.Author.Tests.{le-ltb, eq-eqb}
-use Rattle.wire.proofs.ReaderLaws.{and-right}
+use Rattle.wire.proofs.ListLaws.{and-right}
 use Rattle.engine_value.specs.Engine.{Route, progress}
 use Rattle.engine_value.specs.declared.Progress.{Progress}
 use Rattle.position.specs.Position.{pointCount}

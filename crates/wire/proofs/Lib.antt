@@ -1,4 +1,2 @@
 pub mod NumberLaws
-pub mod ReaderLaws
-pub mod Sure
 pub mod ListLaws

@@ -9,10 +9,17 @@ use lib.ListN.{length, getD, take, drop, set, length-take, drop-of-length-le}
 use lib.Seq.{slice-cons, take-suc-set}
 use lib.Dec.{ltb, leb}
 use borrow.Author.Tests.{lt-ltb, le-ltb, ltb-true, ltb-false, le-leb, leb-true}
-use Rattle.wire.proofs.ReaderLaws.{and-left, and-right}
 use Rattle.wire.specs.Lists.{All, any, every, tabulate, sum, falls, strictlyRises}
 
 -- ---- tests
+
+pub and-left : (a b : Bool) → (a && b) ≡ true → a ≡ true
+and-left true b e = refl
+and-left false b e = e
+
+pub and-right : (a b : Bool) → (a && b) ≡ true → b ≡ true
+and-right true b e = e
+and-right false b e = absurd (false≢true e)
 
 pub or-true-left : (a b : Bool) → a ≡ true → (a || b) ≡ true
 or-true-left a b e = rw e
@@ -153,6 +160,12 @@ module _ {A : Type 0} (d : A) (n i : ℕ) (l : List A) where
   -- none
   pub left-none : n ≤ i → drop i (take n l) ≡ []
   left-none h = drop-of-length-le (take n l) {i = i} (rw length-take (omega arith))
+
+-- what holds of each element holds of the one at an index
+pub all-at : {A : Type 0} (P : A → Type 0) (d : A) → P d → (xs : List A) (k : ℕ) → All P xs → P (getD xs k d)
+all-at P d h [] k a = h
+all-at P d h (x ∷ xs) zero a = a .0
+all-at P d h (x ∷ xs) (suc k) a = all-at P d h xs k (a .1)
 
 -- an element that is there is the same whatever stands for one that is not
 pub getD-there : {A : Type 0} (l : List A) (k : ℕ) (d e : A) → k < length l → getD l k d ≡ getD l k e

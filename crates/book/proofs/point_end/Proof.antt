@@ -1,6 +1,6 @@
 use denote.Ref.{now}
 use mathlib.Core.Path.{_∙_, sym, ap}
-use Rattle.wire.specs.Parse.{fieldView}
+use Rattle.fields.specs.View.{fieldView}
 use Rattle.book.specs.Book.{bookPoint}
 use borrow.Author.Needs.{needs}
 use Rattle.book.proofs.point_end.Statement.{statement}

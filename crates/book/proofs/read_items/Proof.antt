@@ -1,8 +1,8 @@
 use denote.Ref.{now}
 use mathlib.Core.Path.{_∙_, sym, ap}
 use native.Mathlib.Omega.{arith}
-use Rattle.wire.specs.Parse.{fieldView}
-use Rattle.wire.proofs.ReaderLaws.{field-inv}
+use Rattle.fields.specs.View.{fieldView}
+use Rattle.fields.proofs.ReaderLaws.{field-inv}
 use Rattle.book.specs.View.{extent, endsView}
 use Rattle.book.proofs.Reading.{most-small}
 use borrow.Author.Needs.{needs}

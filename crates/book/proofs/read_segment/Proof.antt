@@ -4,8 +4,9 @@ use lib.ListN.{drop}
 use native.Mathlib.Omega.{arith}
 use borrow.Author.Tests.{not-true, not-false}
 use Rattle.wire.specs.Numbers.{bit}
-use Rattle.wire.specs.Parse.{bitMap, fieldView}
-use Rattle.wire.proofs.ReaderLaws.{field-inv}
+use Rattle.fields.specs.View.{fieldView}
+use Rattle.fields.specs.Parse.{bitMap}
+use Rattle.fields.proofs.ReaderLaws.{field-inv}
 use Rattle.book.specs.Book.{bookPoint, zoneRecord, segmentRecord}
 use Rattle.book.specs.View.{pointOf, zoneOf, itemsView}
 use Rattle.book.proofs.Reading.{point-fixed, zone-fixed, listed-extent}

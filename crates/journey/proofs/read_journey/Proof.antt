@@ -4,8 +4,8 @@ use lib.ListN.{drop, take, length-drop}
 use native.Mathlib.Omega.{arith}
 use borrow.Author.Needs.{needs}
 use borrow.Author.Tests.{not-true, not-false}
-use Rattle.wire.specs.Parse.{counted}
-use Rattle.wire.specs.Parse.Parse.{good}
+use Rattle.fields.specs.Parse.{counted}
+use Rattle.fields.specs.Parse.Parse.{good}
 use Rattle.journey.specs.Journey.{nameRecord, pointRecord, headRecord}
 use Rattle.journey.specs.View.{headView}
 use Rattle.journey.proofs.Rows.{told-refused, told-accepted, names-bad, names-good, points-bad, points-good, headless, nameless, pointless, left-over, exact}

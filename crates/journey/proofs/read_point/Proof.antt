@@ -1,9 +1,10 @@
-use Rattle.wire.proofs.Sure.{optional-most}
+use Rattle.fields.proofs.Sure.{optional-most}
 use denote.Ref.{now}
 use mathlib.Core.Path.{_∙_, sym, ap}
 use native.Mathlib.Omega.{arith}
-use Rattle.wire.specs.Parse.{bitMap, fieldView}
-use Rattle.wire.proofs.ReaderLaws.{field-inv}
+use Rattle.fields.specs.View.{fieldView}
+use Rattle.fields.specs.Parse.{bitMap}
+use Rattle.fields.proofs.ReaderLaws.{field-inv}
 use Rattle.journey.specs.Journey.{pointRecord}
 use Rattle.journey.proofs.Rows.{map-stands, map-missing}
 use borrow.Author.Needs.{needs}

@@ -5,8 +5,9 @@ use mathlib.Core.Bool.{false≢true}
 use lib.ListN.{drop}
 use native.Mathlib.Omega.{arith}
 use borrow.Author.Needs.{needs}
-use Rattle.wire.specs.Parse.{fieldView, counted}
-use Rattle.wire.proofs.ReaderLaws.{field-inv}
+use Rattle.fields.specs.View.{fieldView}
+use Rattle.fields.specs.Parse.{counted}
+use Rattle.fields.proofs.ReaderLaws.{field-inv}
 use Rattle.journey.specs.Journey.{pointRecord}
 use Rattle.journey.proofs.Filling.{Reading, reading-none, reading-more, reading-bad, reading-end, counted-bad, counted-good}
 use Rattle.journey.specs.View.{pointView}

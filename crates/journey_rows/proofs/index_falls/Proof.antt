@@ -6,9 +6,8 @@ use borrow.Author.Needs.{needs}
 use borrow.Author.Tests.{lt-ltb, le-ltb}
 use Rattle.journey.specs.View.{pointsView}
 use Rattle.journey.specs.Journey.{blankJourneyPoint}
-use Rattle.wire.proofs.ListLaws.{fallsFrom, falls-from}
+use Rattle.wire.proofs.ListLaws.{fallsFrom, falls-from, left-more, left-none}
 use Rattle.journey_rows.specs.Rows.{indices}
-use Rattle.wire.proofs.ListLaws.{left-more, left-none}
 use Rattle.journey_rows.proofs.index_falls.Statement.{statement}
 use Rattle.journey_rows.proofs.index_falls.Tie as tie
 

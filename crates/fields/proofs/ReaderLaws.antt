@@ -2,18 +2,19 @@
 use Prim.Native.Nat.{ℕ, zero, suc, _+_, _-_, _^_, _≤_, _<_}
 use mathlib.Core.Path.{_≡_, refl, sym, ap, _∙_}
 use mathlib.Core.List.{List, [], _∷_, _++_}
-use mathlib.Core.Bool.{Bool, true, false, cond, _&&_, and-false, false≢true}
+use mathlib.Core.Bool.{Bool, true, false, cond, _&&_, and-false}
 use lib.ListN.{length, drop, length-drop, length-append}
 use lib.Seq.{drop-drop, drop-at}
 use lib.Dec.{leb}
 use native.Mathlib.Omega.{arith}
 use borrow.Author.Tests.{le-leb, lt-leb, leb-true}
 use Rattle.wire.specs.Numbers.{number, bytesOf}
+use Rattle.wire.proofs.ListLaws.{and-left, and-right}
 use Rattle.wire.proofs.NumberLaws.{number-bytesOf, length-bytesOf}
-use Rattle.wire.specs.declared.Width.{Width}
-use Rattle.wire.specs.declared.Width.the-variants.{One, Two, Four}
-use Rattle.wire.specs.Parse.{Parse, andThen, field, bytes}
-use Rattle.wire.specs.Parse.Parse.{bad, good}
+use Rattle.fields.specs.declared.Width.{Width}
+use Rattle.fields.specs.declared.Width.the-variants.{One, Two, Four}
+use Rattle.fields.specs.Parse.{Parse, andThen, field, bytes}
+use Rattle.fields.specs.Parse.Parse.{bad, good}
 
 pub bytes-pos : (w : Width) → 1 ≤ bytes w
 bytes-pos One = omega arith
@@ -47,14 +48,6 @@ then-inv (good a r₁) f b r e = (a, r₁, refl, e)
 pub cond-good : {A : Type 0} (t : Bool) (x : A) (y : List ℕ) (a : A) (r : List ℕ) → cond t (good x y) bad ≡ good a r → (t ≡ true) × (a ≡ x) × (r ≡ y)
 cond-good true x y a r e = (refl, cc, cc)
 cond-good false x y a r e = let z : _≡_ {A = ℕ} 0 1 = cc in absurd (omega arith)
-
-pub and-left : (a b : Bool) → (a && b) ≡ true → a ≡ true
-and-left true b e = refl
-and-left false b e = e
-
-pub and-right : (a b : Bool) → (a && b) ≡ true → b ≡ true
-and-right true b e = e
-and-right false b e = absurd (false≢true e)
 
 -- what a field that was read tells: its bytes were there, its value and its range, and what is left
 pub record FieldRead (w low high : ℕ) (l : List ℕ) (n : ℕ) (r : List ℕ) : Type 0 where

@@ -1,7 +1,7 @@
 use borrow.Author.Tests.{eq-eqb, ne-eqb}
 use mathlib.Core.Bool.{and-false, and-true}
-use Rattle.wire.proofs.upper_clear.Statement.{statement}
-use Rattle.wire.proofs.upper_clear.Tie as tie
+use Rattle.fields.proofs.upper_clear.Statement.{statement}
+use Rattle.fields.proofs.upper_clear.Tie as tie
 
 returns : tie.Need-returns
 returns c = rw (eq-eqb _ _ (c .if1 .taken))

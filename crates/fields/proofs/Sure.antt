@@ -5,10 +5,10 @@ use mathlib.Core.List.{List, [], _∷_}
 use mathlib.Core.Bool.{Bool, true, false}
 use native.Mathlib.Omega.{arith}
 use lib.ListN.{length, getD}
 use Rattle.wire.specs.Lists.{All}
-use Rattle.wire.specs.Parse.{Parse, Reader, andThen, field, optional, many, counted, listed}
-use Rattle.wire.specs.Parse.Parse.{bad, good}
-use Rattle.wire.proofs.ReaderLaws.{field-inv}
+use Rattle.fields.specs.Parse.{Parse, Reader, andThen, field, optional, many, counted, listed}
+use Rattle.fields.specs.Parse.Parse.{bad, good}
+use Rattle.fields.proofs.ReaderLaws.{field-inv}
 
 -- an optional field is within its range, or the value that an absent one means
 pub optional-most : (b : Bool) (other w low high most : ℕ) (l : List ℕ) (n : ℕ) (r : List ℕ) → other ≤ most → high ≤ most → optional b other (field w low high) l ≡ good n r → n ≤ most
@@ -27,11 +27,6 @@ sure-on P (good a r) f h = h a r refl
 module _ {A : Type 0} (P : A → Type 0) where
   pub sure-of : (p : Parse A) (a : A) (r : List ℕ) → p ≡ good a r → Sure P p → P a
   sure-of p a r e h = subst (λ (q : Parse A). Sure P q) e h
-
-  pub all-at : (d : A) → P d → (xs : List A) (k : ℕ) → All P xs → P (getD xs k d)
-  all-at d h [] k a = h
-  all-at d h (x ∷ xs) zero a = a .0
-  all-at d h (x ∷ xs) (suc k) a = all-at d h xs k (a .1)
 
   module _ (p : Reader A) (each : (l : List ℕ) → Sure P (p l)) where
     pub many-all : (n : ℕ) (l : List ℕ) → Sure (λ (xs : List A). (length xs ≡ n) × All P xs) (many n p l)
