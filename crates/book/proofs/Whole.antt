@@ -2,7 +2,7 @@
 use Prim.Native.Nat.{ℕ, zero, suc, _+_, _-_, _≤_, _<_, min}
 use mathlib.Core.Path.{_≡_, refl, sym, ap, _∙_, subst}
 use mathlib.Core.List.{List, [], _∷_, _++_, map, append-assoc, append-nil}
-use mathlib.Core.Bool.{Bool, true, false, cond, _||_, false≢true}
+use mathlib.Core.Bool.{Bool, true, false, cond, _||_}
 use lib.ListN.{length, drop, take, set, replicate, length-drop, length-append, length-set, drop-of-length-le}
 use lib.Seq.{drop-drop, drop-length, take-all, take-append-le, take-suc-set, set-out, drop-set-lt}
 use lib.Dec.{eqb, ltb}
@@ -12,6 +12,7 @@ use Rattle.fields.specs.Parse.{Parse, andThen}
 use Rattle.fields.specs.Parse.Parse.{bad, good}
 use Rattle.wire.specs.Judged.Judged.{refuse, accept}
 use Rattle.wire.specs.Lists.{All, any, twice}
+use Rattle.wire.specs.declared.Verdict.{Verdict}
 use Rattle.fields.proofs.Sure.{sure-of}
 use Rattle.engine_value.specs.Engine.{maxSegments}
 use Rattle.book.specs.Book.{BookSegment, segmentRecord, records}
@@ -151,9 +152,9 @@ module _ (s : List ℕ) where
   all-fit gs r e = sure-of (All SegmentFits) (records (suc (length s)) s) gs r e (records-fit (suc (length s)) s)
 
   -- a refusal
-  pub book-refused : (k : ℕ) → eqb k 0 ≡ false → bookOf s ≡ refuse k → BookRead s (refusedBook k)
+  pub book-refused : (k : ℕ) → bookOf s ≡ refuse k → BookRead s (refusedBook k)
   unfolding bookView
-  book-refused k z e = record { seen = rw z (sym e); few = omega arith; none = λ u. refl; blank = refl }
+  book-refused k e = record { seen = sym e; few = omega arith; none = λ n q. refl; blank = refl }
 
   or-last : (a b c : Bool) → c ≡ true → (a || (b || c)) ≡ true
   or-last true b c e = refl
@@ -166,7 +167,7 @@ module _ (s : List ℕ) where
   -- where there are not too many, the records are those that the answer lists
   module _ (n : ℕ) (es : List Entry) (gs : List BookSegment) (a : allRecords s ≡ good gs []) (g : Listed s n es gs) (h : n ≤ 40) where
     abbrev pub book : Book
-    book = record { number = 0; count = n; entries = es }
+    book = record { verdict = Verdict.Accepted; count = n; entries = es }
 
     few : gs ≡ segmentsView s book
     few = sym (take-all 40 gs (omega (arith, g .count))) ∙ g .first
@@ -185,4 +186,4 @@ module _ (s : List ℕ) where
 
     pub book-good : twice sameSegment (segmentsView s book) ≡ false → any nidtpTwice (segmentsView s book) ≡ false → BookRead s book
     unfolding bookView
-    book-good t u = record { seen = sym (judged false (rw (t, u))); few = h; none = λ z. absurd (false≢true (sym z)); blank = let m : min n 40 ≡ n = omega arith in rw m at (g .blank) }
+    book-good t u = record { seen = sym (judged false (rw (t, u))); few = h; none = λ k q. let z : _≡_ {A = ℕ} 0 1 = cc in absurd (omega arith); blank = let m : min n 40 ≡ n = omega arith in rw m at (g .blank) }

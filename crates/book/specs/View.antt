@@ -2,15 +2,17 @@
 use Prim.Native.Nat.{ℕ, zero, suc, _+_, _-_, _≤_, min}
 use mathlib.Core.Path.{_≡_}
 use mathlib.Core.List.{List, [], _∷_, map}
-use mathlib.Core.Bool.{Bool, true, false, _&&_}
+use mathlib.Core.Bool.{Bool, _&&_}
 use mathlib.Core.Option.{Option, none, some}
 use lib.ListN.{length, drop, take, getD, replicate}
 use lib.Dec.{eqb}
 use Rattle.wire.specs.Numbers.{number, if_then_else_}
 use Rattle.fields.specs.Parse.{Parse, Reader, andThen, field, give, _>>_}
 use Rattle.fields.specs.Parse.Parse.{bad, good}
-use Rattle.wire.specs.Judged.{Judged}
-use Rattle.wire.specs.Judged.Judged.{refuse, accept}
+use Rattle.wire.specs.Judged.{Judged, thenJudge}
+use Rattle.wire.specs.Judged.Judged.{accept}
+use Rattle.wire.specs.View.{verdictView}
+use Rattle.wire.specs.declared.Verdict.{Verdict}
 use Rattle.engine_value.specs.Engine.{maxZones, blankZone, filled}
 use Rattle.engine_value.specs.declared.Zone.{Zone}
 use Rattle.book.specs.Book.{BookPoint, BookSegment, bookPoint, zoneRecord, records, maxRecordPoints}
@@ -24,6 +26,7 @@ use Rattle.book.specs.declared.Kind.{Kind}
 use Rattle.book.specs.declared.Ends.{Ends}
 use Rattle.book.specs.declared.Items.{Items}
 use Rattle.book.specs.declared.SegmentRead.{SegmentRead}
+use Rattle.book.specs.declared.Counted.{Counted}
 use Rattle.book.specs.declared.Records.{Records}
 
 -- ---- records, look-ups and the whole book
@@ -57,7 +60,7 @@ abbrev pub segmentsView : List ℕ → Book → List BookSegment
 segmentsView s b = map (entryView s) (entriesView b)
 
 unfoldable pub bookView : List ℕ → Book → Judged (List BookSegment)
-bookView s b = if eqb (b .number) 0 then accept (segmentsView s b) else refuse (b .number)
+bookView s b = thenJudge (verdictView (b .verdict)) (λ u. accept (segmentsView s b))
 
 -- what stands in the array beyond the count
 abbrev pub blankEntry : Entry
@@ -67,7 +70,7 @@ blankEntry = record { nidc = 0; nidsp = 0; length = 0; points = 0; «points_at»
 pub record BookRead (s : List ℕ) (b : Book) : Type 0 where
   pub seen : bookView s b ≡ bookOf s
   pub few : b .count ≤ 40
-  pub none : eqb (b .number) 0 ≡ false → b .count ≡ 0
+  pub none : (n : ℕ) → b .verdict ≡ Verdict.Refused n → b .count ≡ 0
   pub blank : drop (b .count) (b .entries) ≡ replicate (40 - b .count) blankEntry
 
 -- a segment is named by NID_C and NID_SP together
@@ -153,10 +156,13 @@ pub record Listed (s : List ℕ) (n : ℕ) (es : List Entry) (gs : List BookSegm
   pub blank : drop (min n 40) es ≡ replicate (40 - min n 40) blankEntry
 
 -- the answer of the pass over the book
-pub record RecordsRead (s : List ℕ) (r : Records) : Type 0 where
-  pub bad : r .whole ≡ false → allRecords s ≡ Parse.bad
-  pub good : r .whole ≡ true → (gs : List BookSegment) × (allRecords s ≡ Parse.good gs []) × Listed s (r .count) (r .first) gs
+abbrev pub CountedIn : List ℕ → List Entry → Counted → Type 0
+CountedIn s es (Counted.Whole n) = (gs : List BookSegment) × (allRecords s ≡ good gs []) × Listed s n es gs
+CountedIn s es Counted.Bad = allRecords s ≡ bad
+
+abbrev pub RecordsRead : List ℕ → Records → Type 0
+RecordsRead s r = CountedIn s (r .first) (r .counted)
 
 -- "Every refusal returns the number only"
 abbrev pub refusedBook : ℕ → Book
-refusedBook n = record { number = n; count = 0; entries = replicate 40 blankEntry }
+refusedBook n = record { verdict = Verdict.Refused n; count = 0; entries = replicate 40 blankEntry }

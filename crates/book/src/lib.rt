@@ -3,6 +3,7 @@ use engine_value::Zone;
 use fields::Field;
 use fields::Width;
 use fields::read_field;
+use wire::Verdict;
 ghost use mathlib.Core.Path.{_≡_};
 ghost use mathlib.Core.List.{List, [], _∷_};
 ghost use Prim.Native.Nat.{ℕ, _≤_, min};
@@ -27,9 +28,9 @@ pub struct Entry {
     pub zones_at: usize,
 }
 
-// The records of a book in their order; number is 0, or that of the row that refuses.
+// The records of a book in their order; none where a row refuses.
 pub struct Book {
-    pub number: u8,
+    pub verdict: Verdict,
     pub count: u8,
     pub entries: [Entry; 40],
 }
@@ -75,10 +76,15 @@ enum SegmentRead {
     Bad,
 }
 
-// One pass over a book: whether it is records to its end, how many, and the first 40.
+// How many records a book is to its end.
+enum Counted {
+    Whole(usize),
+    Bad,
+}
+
+// One pass over a book: its records are counted, and the first 40 are kept.
 struct Records {
-    whole: bool,
-    count: usize,
+    counted: Counted,
     first: [Entry; 40],
 }
 
@@ -250,8 +256,7 @@ fn read_records(s: &[u8]) -> Records
     while at < s.len() {
         let SegmentRead::Record(e, next) = read_segment(s, at) else {
             return Records {
-                whole: false,
-                count: n,
+                counted: Counted::Bad,
                 first: first,
             };
         };
@@ -262,8 +267,7 @@ fn read_records(s: &[u8]) -> Records
         n += 1;
     }
     Records {
-        whole: true,
-        count: n,
+        counted: Counted::Whole(n),
         first: first,
     }
 }
@@ -425,7 +429,7 @@ fn refused(number: u8) -> Book
     let blank = blank_entry();
     let entries = [blank; 40];
     Book {
-        number: number,
+        verdict: Verdict::Refused(number),
         count: 0,
         entries: entries,
     }
@@ -436,17 +440,16 @@ pub fn read_book(s: &[u8]) -> Book
     ensures { λ r. ⌜ BookRead (now (s .entry)) r ⌝ }
 {
     let all = read_records(s);
-    let whole = all.whole;
-    if !whole {
+    let counted = all.counted;
+    let Counted::Whole(n) = counted else {
         return refused(7);
-    }
-    let n = all.count;
+    };
     if 40 < n {
         return refused(8);
     }
     let entries = all.first;
     let book = Book {
-        number: 0,
+        verdict: Verdict::Accepted,
         count: n as u8,
         entries: entries,
     };

@@ -80,19 +80,19 @@ module _ (e : Engine) (x : Position) where
 
 -- load
 module _ (e : Engine) (journey book : List ℕ) (l : Loaded) (told : loadView l ≡ loadOf journey book) where
-  pub load-number : (l .number ≡ 0 → ⊥) → refuse (l .number) ≡ loadEffect e journey book
+  pub load-number : (n : ℕ) → l .verdict ≡ Verdict.Refused n → refuse n ≡ loadEffect e journey book
   unfolding loadEffect
-  load-number h =
-      let t : loadView l ≡ refuse (l .number) = rw (ne-eqb (l .number) 0 h) in
+  load-number n h =
+      let t : loadView l ≡ refuse n = rw h in
       ap (λ (x : Judged LoadValue). thenJudge x (λ v. accept (loadedIn e v))) (sym t ∙ told)
 
-  load-route : l .number ≡ 0 → accept (loadedIn e (record { route = routeView l; head = l .head })) ≡ loadEffect e journey book
+  load-route : l .verdict ≡ Verdict.Accepted → accept (loadedIn e (record { route = routeView l; head = l .head })) ≡ loadEffect e journey book
   unfolding loadEffect
   load-route h =
-      let t : loadView l ≡ accept (record { route = routeView l; head = l .head }) = rw (eq-eqb (l .number) 0 h) in
+      let t : loadView l ≡ accept (record { route = routeView l; head = l .head }) = rw h in
       ap (λ (x : Judged LoadValue). thenJudge x (λ v. accept (loadedIn e v))) (sym t ∙ told)
 
-  pub load-taken : (m : Engine) (ch : Changes) → l .number ≡ 0
+  pub load-taken : (m : Engine) (ch : Changes) → l .verdict ≡ Verdict.Accepted
       → m ≡ withProgress (withRoute e (routeView l)) (progress (target (routeView l) (e .train .position) (e .train .length)) false) → ch ≡ noChanges
       → (v w : LookedUp) → v ≡ lookedUpIn e → w ≡ lookedUpIn m
       → Gives e (loadEffect e journey book) (record { engine = m; verdict = Verdict.Accepted; loaded = true; head = l .head; changes = ch; reached = false; before = v; after = w })

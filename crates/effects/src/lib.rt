@@ -257,8 +257,9 @@ fn load(e: Engine, journey: &[u8], book: &[u8], looked: LookedUp) -> Effect
     ensures { λ r. ⌜ Gives e (loadEffect e (now (journey .entry)) (now (book .entry))) r ⌝ }
 {
     let l = route::load_route(journey, book);
-    if l.number != 0 {
-        return plain(e, Verdict::Refused(l.number), looked, looked);
+    let verdict = l.verdict;
+    if let Verdict::Refused(n) = verdict {
+        return plain(e, Verdict::Refused(n), looked, looked);
     }
     let m = with_target(with_route(e, l));
     let head = l.head;

@@ -1,17 +1,20 @@
 -- Arrays that hold a list from their front on and blank elements behind it, and the loops that fill them.
 use Prim.Native.Nat.{ℕ, zero, suc, _+_, _-_, _≤_, _<_}
-use mathlib.Core.Path.{_≡_, refl, sym, ap, _∙_}
+use mathlib.Core.Path.{_≡_, refl, sym, ap, _∙_, subst}
 use mathlib.Core.List.{List, [], _∷_, _++_, append-assoc, append-nil}
 use native.Mathlib.Omega.{arith}
 use native.Mathlib.Numerals.{add-one}
-use lib.ListN.{length, getD, take, set, replicate, length-set, length-take, length-append, length-replicate, replicate-append-replicate, List·getD-eq-default, List·getD-append}
+use lib.ListN.{length, getD, take, drop, set, replicate, length-set, length-take, length-append, length-replicate, replicate-append-replicate, List·getD-eq-default, List·getD-append}
 use lib.Seq.{take-suc-set, set-at, take-at, take-take, length-take-le, getD-append-add}
 use lib.Dec.{ltb}
 use borrow.Author.Tests.{ltb-true, ltb-false}
 use mathlib.Core.Bool.{Bool, true, false}
 use Rattle.fields.specs.Parse.{Parse, Reader, andThen, field, many, counted}
 use Rattle.fields.specs.Parse.Parse.{bad, good}
+use Rattle.fields.proofs.ReaderLaws.{field-inv}
 use Rattle.engine_value.specs.Engine.{filled}
+use Rattle.journey.specs.View.{listView, Fills, ListRead}
+use Rattle.journey.specs.declared.Listed.{Listed}
 
 -- an array of which the first i elements are set, and the others blank
 pub record Filling {A : Type 0} (blank : A) (high i : ℕ) (xs : List A) : Type 0 where
@@ -91,7 +94,7 @@ pub record Reading {A : Type 0} (p : Reader A) (blank : A) (high n i : ℕ) (all
   pub left : all ≡ behind (take i xs) (many (n - i) p l)
 
 module _ {A : Type 0} (p : Reader A) (blank : A) (high n : ℕ) (all : Parse (List A)) where
-  pub reading-none : (l : List ℕ) → n ≤ high → all ≡ many n p l → Reading p blank high n 0 all l (replicate high blank)
+  reading-none : (l : List ℕ) → n ≤ high → all ≡ many n p l → Reading p blank high n 0 all l (replicate high blank)
   reading-none l h e =
       let z : n - 0 ≡ n = omega arith in
       record { within = omega arith; most = h; array = filling-none blank high; left = e ∙ rw z (plain (many n p l)) }
@@ -100,7 +103,7 @@ module _ {A : Type 0} (p : Reader A) (blank : A) (high n : ℕ) (all : Parse (Li
       plain bad = refl
       plain (good ys r) = refl
 
-  pub reading-more : (i : ℕ) (l r : List ℕ) (xs : List A) (a : A) → i < n → p l ≡ good a r → Reading p blank high n i all l xs → Reading p blank high n (i + 1) all r (set xs i a)
+  reading-more : (i : ℕ) (l r : List ℕ) (xs : List A) (a : A) → i < n → p l ≡ good a r → Reading p blank high n i all l xs → Reading p blank high n (i + 1) all r (set xs i a)
   unfolding many
   reading-more i l r xs a h g f =
       let m : n ≤ high = f .most in
@@ -118,11 +121,11 @@ module _ {A : Type 0} (p : Reader A) (blank : A) (high n : ℕ) (all : Parse (Li
       one ys a bad = refl
       one ys a (good zs r) = ap (λ (x : List A). good x r) (sym (append-assoc ys (a ∷ []) zs))
 
-  pub reading-bad : (i : ℕ) (l : List ℕ) (xs : List A) → i < n → p l ≡ bad → Reading p blank high n i all l xs → bad ≡ all
+  reading-bad : (i : ℕ) (l : List ℕ) (xs : List A) → i < n → p l ≡ bad → Reading p blank high n i all l xs → bad ≡ all
   unfolding many
   reading-bad i l xs h g f = let e : n - i ≡ suc (n - (i + 1)) = omega arith in sym (f .left ∙ rw (e, g))
 
-  pub reading-end : (i : ℕ) (l : List ℕ) (xs : List A) → n ≤ i → Reading p blank high n i all l xs → (good (take n xs) l ≡ all) × (xs ≡ filled high blank (take n xs))
+  reading-end : (i : ℕ) (l : List ℕ) (xs : List A) → n ≤ i → Reading p blank high n i all l xs → (good (take n xs) l ≡ all) × (xs ≡ filled high blank (take n xs))
   unfolding many
   reading-end i l xs h f =
       let w : i ≤ n = f .within in
@@ -131,12 +134,34 @@ module _ {A : Type 0} (p : Reader A) (blank : A) (high n : ℕ) (all : Parse (Li
       let q : i ≡ n = omega arith in
       (sym (f .left ∙ rw (e, append-nil, q)), rw (← q) (filling-end blank high i xs (omega arith) (f .array)))
 
--- a counted list by its count
-module _ {A : Type 0} (p : Reader A) (high : ℕ) (l : List ℕ) where
-  pub counted-bad : field 1 1 high l ≡ bad → bad ≡ counted high p l
+-- a counted list, from the bytes l of s on
+module _ {A : Type 0} (p : Reader A) (blank : A) (high : ℕ) (s l : List ℕ) where
+  pub list-uncounted : (xs : List A) → field 1 1 high l ≡ bad → ListRead p blank high s l xs Listed.Bad
   unfolding counted
-  counted-bad e = rw e
+  list-uncounted xs e = record { seen = rw e; array = tt }
 
-  pub counted-good : (n : ℕ) (r : List ℕ) → field 1 1 high l ≡ good n r → counted high p l ≡ many n p r
+  -- i of its n items are read
+  abbrev pub ListTo : ℕ → ℕ → List ℕ → List A → Type 0
+  ListTo n i r xs = Reading p blank high n i (counted high p l) r xs
+
+  pub list-counted : (n : ℕ) (r : List ℕ) → field 1 1 high l ≡ good n r → ListTo n 0 r (replicate high blank)
   unfolding counted
-  counted-good n r e = rw e
+  list-counted n r e = reading-none p blank high n _ r (field-inv 1 1 high l n r e .most) (rw e)
+
+  module _ (n i : ℕ) (r : List ℕ) (xs : List A) (h : ListTo n i r xs) where
+    pub list-bad : i < n → p r ≡ bad → ListRead p blank high s l xs Listed.Bad
+    list-bad k e = record { seen = reading-bad p blank high n _ i r xs k e h; array = tt }
+
+    pub list-more : (a : A) (r′ : List ℕ) → i < n → p r ≡ good a r′ → ListTo n (i + 1) r′ (set xs i a)
+    list-more a r′ k e = reading-more p blank high n _ i r r′ xs a k e h
+
+    pub list-end : (q : ℕ) → drop q s ≡ r → n ≤ i → ListRead p blank high s l xs (Listed.Read n q)
+    list-end q z k = let e = reading-end p blank high n _ i r xs k h in record { seen = ap (good (take n xs)) z ∙ e .0; array = (h .most, e .1) }
+
+  -- what the answer says
+  module _ (xs : List A) (a : Listed) (h : ListRead p blank high s l xs a) where
+    pub list-unread : a ≡ Listed.Bad → counted high p l ≡ bad
+    list-unread e = sym (h .seen) ∙ ap (listView s xs) e
+
+    pub list-read : (n q : ℕ) → a ≡ Listed.Read n q → (counted high p l ≡ good (take n xs) (drop q s)) × (n ≤ high) × (xs ≡ filled high blank (take n xs))
+    list-read n q e = let f = subst (Fills blank high xs) e (h .array) in (sym (h .seen) ∙ ap (listView s xs) e, f .0, f .1)

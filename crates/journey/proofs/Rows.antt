@@ -4,7 +4,7 @@ use mathlib.Core.Path.{_≡_, refl, sym, ap, _∙_}
 use mathlib.Core.List.{List, [], _∷_}
 use mathlib.Core.Bool.{Bool, true, false, not, _&&_, _||_, false≢true}
 use native.Mathlib.Omega.{arith}
-use lib.ListN.{length, take, drop}
+use lib.ListN.{length, take}
 use lib.Seq.{length-take-le}
 use borrow.Author.Tests.{eq-eqb, ne-eqb}
 use Rattle.wire.specs.Numbers.{bit}
@@ -12,16 +12,15 @@ use Rattle.fields.specs.Parse.{Parse, andThen, must, mapFits, counted}
 use Rattle.wire.proofs.ListLaws.{and-left, and-right}
 use Rattle.fields.specs.Parse.Parse.{bad, good}
 use Rattle.wire.specs.Judged.Judged.{refuse, accept}
+use Rattle.wire.specs.declared.Verdict.{Verdict}
 use Rattle.journey.specs.Journey.{nameRecord, pointRecord, headRecord, journeyRecord, journeyValue}
 use Rattle.journey.proofs.Filling.{filled-length}
-use Rattle.journey.specs.View.{namesReadView, pointsReadView, refusedJourney, JourneyRead}
+use Rattle.journey.specs.View.{refusedJourney, JourneyRead}
 use Rattle.journey.specs.Journey.{blankName, blankJourneyPoint}
 use Rattle.journey.specs.declared.Name.{Name}
 use Rattle.journey.specs.declared.JourneyPoint.{JourneyPoint}
 use Rattle.journey.specs.declared.Head.{Head}
 use Rattle.journey.specs.declared.Journey.{Journey}
-use Rattle.journey.specs.declared.Names.{Names}
-use Rattle.journey.specs.declared.Points.{Points}
 use Rattle.engine_value.specs.Engine.{filled}
 
 -- a point's map: both its tests stand, or one fails
@@ -45,18 +44,6 @@ map-missing {A} m l f = go (pointBits m) (skipsStop m) refl
 
 pub told-refused : (s : List ℕ) (r : Journey) → r ≡ refusedJourney 9 → refuse 9 ≡ journeyValue s → JourneyRead s r
 told-refused s r e q = rw e record { seen = q; held = refl }
-
-pub names-bad : (s : List ℕ) (r : Names) → r .ok ≡ false → namesReadView s r ≡ bad
-names-bad s r q = rw q
-
-pub names-good : (s : List ℕ) (r : Names) → r .ok ≡ true → namesReadView s r ≡ good (take (r .count) (r .names)) (drop (r .next) s)
-names-good s r q = rw q
-
-pub points-bad : (s : List ℕ) (r : Points) → r .ok ≡ false → pointsReadView s r ≡ bad
-points-bad s r q = rw q
-
-pub points-good : (s : List ℕ) (r : Points) → r .ok ≡ true → pointsReadView s r ≡ good (take (r .count) (r .points)) (drop (r .next) s)
-points-good s r q = rw q
 
 module _ (s : List ℕ) where
   pub headless : headRecord s ≡ bad → refuse 9 ≡ journeyValue s
@@ -96,11 +83,11 @@ module _ {A : Type 0} (blank : A) (high n : ℕ) (xs : List A) (h : n ≤ high) 
 pub told-accepted : (s : List ℕ) (h : Head) (n m : ℕ) (ns : List Name) (ps : List JourneyPoint)
     → n ≤ 40 → m ≤ 64 → ns ≡ filled 40 blankName (take n ns) → ps ≡ filled 64 blankJourneyPoint (take m ps)
     → accept (record { head = h; names = take n ns; points = take m ps }) ≡ journeyValue s
-    → JourneyRead s (record { number = 0; head = h; «name_count» = n; names = ns; «point_count» = m; points = ps })
+    → JourneyRead s (record { verdict = Verdict.Accepted; head = h; «name_count» = n; names = ns; «point_count» = m; points = ps })
 told-accepted s h n m ns ps a b f g e =
     let p : min n 40 ≡ n = omega arith in
     let q : min m 64 ≡ m = omega arith in
     record {
       seen = ap (λ (k : ℕ). accept (record { head = h; names = take k ns; points = take (min m 64) ps })) p ∙ ap (λ (k : ℕ). accept (record { head = h; names = take n ns; points = take k ps })) q ∙ e;
-      held = λ i. record { number = 0; head = h; «name_count» = counts blankName 40 n ns a f i; names = holds blankName 40 n ns a f i; «point_count» = counts blankJourneyPoint 64 m ps b g i; points = holds blankJourneyPoint 64 m ps b g i };
+      held = λ i. record { verdict = Verdict.Accepted; head = h; «name_count» = counts blankName 40 n ns a f i; names = holds blankName 40 n ns a f i; «point_count» = counts blankJourneyPoint 64 m ps b g i; points = holds blankJourneyPoint 64 m ps b g i };
     }

@@ -2,14 +2,13 @@
 use Prim.Native.Nat.{ℕ, _≤_, min}
 use mathlib.Core.Path.{_≡_}
 use mathlib.Core.List.{List}
-use mathlib.Core.Bool.{true}
 use lib.ListN.{length, drop, take, replicate}
-use lib.Dec.{eqb}
-use Rattle.wire.specs.Numbers.{if_then_else_}
-use Rattle.fields.specs.Parse.{Parse, counted}
+use Rattle.fields.specs.Parse.{Parse, Reader, counted}
 use Rattle.fields.specs.Parse.Parse.{bad, good}
-use Rattle.wire.specs.Judged.{Judged}
+use Rattle.wire.specs.Judged.{Judged, thenJudge}
 use Rattle.wire.specs.Judged.Judged.{refuse, accept}
+use Rattle.wire.specs.View.{verdictView}
+use Rattle.wire.specs.declared.Verdict.{Verdict}
 use Rattle.journey.specs.Journey.{blankName, blankJourneyPoint, blankHead, JourneyValue, nameRecord, pointRecord, journeyValue}
 use Rattle.journey.specs.declared.Name.{Name}
 use Rattle.journey.specs.declared.JourneyPoint.{JourneyPoint}
@@ -18,6 +17,7 @@ use Rattle.journey.specs.declared.Journey.{Journey}
 use Rattle.journey.specs.declared.NameRead.{NameRead}
 use Rattle.journey.specs.declared.PointRead.{PointRead}
 use Rattle.journey.specs.declared.HeadRead.{HeadRead}
+use Rattle.journey.specs.declared.Listed.{Listed}
 use Rattle.journey.specs.declared.Names.{Names}
 use Rattle.journey.specs.declared.Points.{Points}
 use Rattle.engine_value.specs.Engine.{filled}
@@ -34,21 +34,24 @@ abbrev pub headView : List ℕ → HeadRead → Parse Head
 headView s (HeadRead.Read h next) = good h (drop next s)
 headView s HeadRead.Bad = bad
 
-abbrev pub namesReadView : List ℕ → Names → Parse (List Name)
-namesReadView s r = if r .ok then good (take (r .count) (r .names)) (drop (r .next) s) else bad
+-- a list that was read from the bytes l on, which are behind in s, into the array xs of `high` items, blank behind it
+abbrev pub listView : {A : Type 0} → List ℕ → List A → Listed → Parse (List A)
+listView s xs (Listed.Read n next) = good (take n xs) (drop next s)
+listView s xs Listed.Bad = bad
 
-pub record NamesRead (s : List ℕ) (at : ℕ) (r : Names) : Type 0 where
-  pub seen : namesReadView s r ≡ counted 40 nameRecord (drop at s)
-  pub most : r .count ≤ 40
-  pub array : r .ok ≡ true → r .names ≡ filled 40 blankName (take (r .count) (r .names))
+abbrev pub Fills : {A : Type 0} → A → ℕ → List A → Listed → Type 0
+Fills blank high xs (Listed.Read n next) = (n ≤ high) × (xs ≡ filled high blank (take n xs))
+Fills blank high xs Listed.Bad = Unit {0}
 
-abbrev pub pointsReadView : List ℕ → Points → Parse (List JourneyPoint)
-pointsReadView s r = if r .ok then good (take (r .count) (r .points)) (drop (r .next) s) else bad
+pub record ListRead {A : Type 0} (p : Reader A) (blank : A) (high : ℕ) (s l : List ℕ) (xs : List A) (r : Listed) : Type 0 where
+  pub seen : listView s xs r ≡ counted high p l
+  pub array : Fills blank high xs r
 
-pub record PointsRead (s : List ℕ) (at : ℕ) (r : Points) : Type 0 where
-  pub seen : pointsReadView s r ≡ counted 64 pointRecord (drop at s)
-  pub most : r .count ≤ 64
-  pub array : r .ok ≡ true → r .points ≡ filled 64 blankJourneyPoint (take (r .count) (r .points))
+abbrev pub NamesRead : List ℕ → ℕ → Names → Type 0
+NamesRead s at r = ListRead nameRecord blankName 40 s (drop at s) (r .names) (r .listed)
+
+abbrev pub PointsRead : List ℕ → ℕ → Points → Type 0
+PointsRead s at r = ListRead pointRecord blankJourneyPoint 64 s (drop at s) (r .points) (r .listed)
 
 -- ---- the whole journey
 
@@ -63,18 +66,18 @@ abbrev pub valueView : Journey → JourneyValue
 valueView j = record { head = j .head; names = namesView j; points = pointsView j }
 
 abbrev pub journeyView : Journey → Judged JourneyValue
-journeyView j = if eqb (j .number) 0 then accept (valueView j) else refuse (j .number)
+journeyView j = thenJudge (verdictView (j .verdict)) (λ u. accept (valueView j))
 
 -- "Every refusal returns the number only"
 abbrev pub refusedJourney : ℕ → Journey
 refusedJourney n =
-    record { number = n; head = blankHead; «name_count» = 0; names = replicate 40 blankName; «point_count» = 0; points = replicate 64 blankJourneyPoint }
+    record { verdict = Verdict.Refused n; head = blankHead; «name_count» = 0; names = replicate 40 blankName; «point_count» = 0; points = replicate 64 blankJourneyPoint }
 
 -- the one answer for each outcome: nothing stands beside the values, or beside the number
 abbrev pub journeyHeld : Judged JourneyValue → Journey
 journeyHeld (refuse n) = refusedJourney n
 journeyHeld (accept v) =
-    record { number = 0; head = v .head; «name_count» = length (v .names); names = filled 40 blankName (v .names); «point_count» = length (v .points); points = filled 64 blankJourneyPoint (v .points) }
+    record { verdict = Verdict.Accepted; head = v .head; «name_count» = length (v .names); names = filled 40 blankName (v .names); «point_count» = length (v .points); points = filled 64 blankJourneyPoint (v .points) }
 
 pub record JourneyRead (s : List ℕ) (r : Journey) : Type 0 where
   pub seen : journeyView r ≡ journeyValue s

@@ -3,6 +3,7 @@ use fields::Field;
 use fields::Width;
 use fields::read_field;
 use fields::read_optional;
+use wire::Verdict;
 ghost use mathlib.Core.Path.{_≡_};
 ghost use mathlib.Core.List.{[], _∷_};
 ghost use mathlib.Core.Bool.{not, _&&_, _||_};
@@ -38,9 +39,9 @@ pub struct Head {
     pub atots: u16,
 }
 
-// A journey that was read; number is 0, or 9.
+// A journey that was read; blank where 9 refuses.
 pub struct Journey {
-    pub number: u8,
+    pub verdict: Verdict,
     pub head: Head,
     pub name_count: u8,
     pub names: [Name; 40],
@@ -64,17 +65,19 @@ enum HeadRead {
     Bad,
 }
 
+// How many items were read, and the position behind them.
+enum Listed {
+    Read(u8, usize),
+    Bad,
+}
+
 struct Names {
-    ok: bool,
-    next: usize,
-    count: u8,
+    listed: Listed,
     names: [Name; 40],
 }
 
 struct Points {
-    ok: bool,
-    next: usize,
-    count: u8,
+    listed: Listed,
     points: [JourneyPoint; 64],
 }
 
@@ -233,9 +236,7 @@ fn read_names(s: &[u8], at: usize) -> Names
     let mut names = [blank; 40];
     let Field::Value(n, start) = read_field(s, at, Width::One, 1, 40) else {
         return Names {
-            ok: false,
-            next: at,
-            count: 0,
+            listed: Listed::Bad,
             names: names,
         };
     };
@@ -244,9 +245,7 @@ fn read_names(s: &[u8], at: usize) -> Names
     while i < (n as usize) {
         let NameRead::Read(name, next) = read_name(s, p) else {
             return Names {
-                ok: false,
-                next: p,
-                count: 0,
+                listed: Listed::Bad,
                 names: names,
             };
         };
@@ -255,9 +254,7 @@ fn read_names(s: &[u8], at: usize) -> Names
         i += 1;
     }
     Names {
-        ok: true,
-        next: p,
-        count: n as u8,
+        listed: Listed::Read(n as u8, p),
         names: names,
     }
 }
@@ -278,9 +275,7 @@ fn read_points(s: &[u8], at: usize) -> Points
     let mut points = [blank; 64];
     let Field::Value(n, start) = read_field(s, at, Width::One, 1, 64) else {
         return Points {
-            ok: false,
-            next: at,
-            count: 0,
+            listed: Listed::Bad,
             points: points,
         };
     };
@@ -289,9 +284,7 @@ fn read_points(s: &[u8], at: usize) -> Points
     while i < (n as usize) {
         let PointRead::Read(point, next) = read_point(s, p) else {
             return Points {
-                ok: false,
-                next: p,
-                count: 0,
+                listed: Listed::Bad,
                 points: points,
             };
         };
@@ -300,9 +293,7 @@ fn read_points(s: &[u8], at: usize) -> Points
         i += 1;
     }
     Points {
-        ok: true,
-        next: p,
-        count: n as u8,
+        listed: Listed::Read(n as u8, p),
         points: points,
     }
 }
@@ -331,7 +322,7 @@ fn refused(number: u8) -> Journey
     let names = [name; 40];
     let points = [point; 64];
     Journey {
-        number: number,
+        verdict: Verdict::Refused(number),
         head: head,
         name_count: 0,
         names: names,
@@ -348,24 +339,26 @@ pub fn read_journey(s: &[u8]) -> Journey
         return refused(9);
     };
     let ns = read_names(s, a);
-    if !ns.ok {
+    let names_listed = ns.listed;
+    let Listed::Read(name_count, b) = names_listed else {
         return refused(9);
-    }
-    let ps = read_points(s, ns.next);
-    if !ps.ok {
+    };
+    let ps = read_points(s, b);
+    let points_listed = ps.listed;
+    let Listed::Read(point_count, next) = points_listed else {
         return refused(9);
-    }
-    if ps.next < s.len() {
+    };
+    if next < s.len() {
         return refused(9);
     }
     let names = ns.names;
     let points = ps.points;
     Journey {
-        number: 0,
+        verdict: Verdict::Accepted,
         head: head,
-        name_count: ns.count,
+        name_count: name_count,
         names: names,
-        point_count: ps.count,
+        point_count: point_count,
         points: points,
     }
 }

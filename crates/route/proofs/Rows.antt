@@ -11,6 +11,7 @@ use Rattle.fields.specs.Parse.{Parse, read, whole}
 use Rattle.fields.specs.Parse.Parse.{bad, good}
 use Rattle.wire.specs.Judged.{Judged, thenJudge, row}
 use Rattle.wire.specs.Judged.Judged.{refuse, accept}
+use Rattle.wire.specs.declared.Verdict.{Verdict}
 use Rattle.engine_value.specs.Engine.{blankSegment, blankPoint, filled}
 use Rattle.engine_value.specs.declared.Segment.{Segment}
 use Rattle.engine_value.specs.declared.Point.{Point}
@@ -78,40 +79,32 @@ module _ (book : List BookSegment) (v : JourneyValue) where
 
 -- ---- answers
 
-pub told-refused : (x : Judged LoadValue) (n : ℕ) (r : Loaded) → eqb n 0 ≡ false → r ≡ refusedLoad n → x ≡ refuse n → Answered x r
-told-refused x n r t e q = rw (e, q) record { seen = rw t; held = rw t }
+pub told-refused : (x : Judged LoadValue) (n : ℕ) (r : Loaded) → r ≡ refusedLoad n → x ≡ refuse n → Answered x r
+told-refused x n r e q = rw (e, q) record { seen = refl; held = refl }
 
 pub told-loaded : (book : List BookSegment) (v : JourneyValue) (load : Load) (points : List Point) (segments : List Segment)
     → load ≡ loadGroup v → points ≡ filled 64 blankPoint (pointsOf book v) → segments ≡ filled 40 blankSegment (segmentsOf book (v .names))
-    → loadFor book v ≡ accept (loadValue book v) → Answered (loadFor book v) (record { number = 0; load = load; points = points; segments = segments; head = v .head })
+    → loadFor book v ≡ accept (loadValue book v) → Answered (loadFor book v) (record { verdict = Verdict.Accepted; load = load; points = points; segments = segments; head = v .head })
 unfolding routeOf
 told-loaded book v load points segments a b c e =
     record { seen = (λ i. accept (record { route = record { load = a i; points = b i; segments = c i }; head = v .head })) ∙ sym e; held = refl }
 
--- what an answer says of the outcome
-module _ (x : Judged LoadValue) (r : Loaded) (h : Answered x r) where
-  pub is-refused : eqb (r .number) 0 ≡ false → x ≡ refuse (r .number)
-  is-refused t = sym (h .seen) ∙ rw t
-
-  pub is-accepted : eqb (r .number) 0 ≡ true → x ≡ accept (record { route = record { load = r .load; points = r .points; segments = r .segments }; head = r .head })
-  is-accepted t = sym (h .seen) ∙ rw t
-
 -- ---- book and journey
 
 module _ (s : List ℕ) (b : Book) where
-  pub book-refused : eqb (b .number) 0 ≡ false → bookView s b ≡ refuse (b .number)
+  pub book-refused : (n : ℕ) → b .verdict ≡ Verdict.Refused n → bookView s b ≡ refuse n
   unfolding bookView
-  book-refused t = rw t
+  book-refused n t = rw t
 
-  pub book-accepted : eqb (b .number) 0 ≡ true → bookView s b ≡ accept (segmentsView s b)
+  pub book-accepted : b .verdict ≡ Verdict.Accepted → bookView s b ≡ accept (segmentsView s b)
   unfolding bookView
   book-accepted t = rw t
 
 module _ (j : Journey) where
-  pub journey-refused : eqb (j .number) 0 ≡ false → journeyView j ≡ refuse (j .number)
-  journey-refused t = rw t
+  pub journey-refused : (n : ℕ) → j .verdict ≡ Verdict.Refused n → journeyView j ≡ refuse n
+  journey-refused n t = rw t
 
-  pub journey-accepted : eqb (j .number) 0 ≡ true → journeyView j ≡ accept (valueView j)
+  pub journey-accepted : j .verdict ≡ Verdict.Accepted → journeyView j ≡ accept (valueView j)
   journey-accepted t = rw t
 
 module _ (journey bytes : List ℕ) where

@@ -4,10 +4,10 @@ use mathlib.Core.Path.{_≡_}
 use mathlib.Core.List.{List, [], map}
 use mathlib.Core.Option.{Option, none, some}
 use lib.ListN.{length, getD, replicate}
-use lib.Dec.{eqb}
-use Rattle.wire.specs.Numbers.{if_then_else_}
 use Rattle.wire.specs.Judged.{Judged, thenJudge}
 use Rattle.wire.specs.Judged.Judged.{refuse, accept}
+use Rattle.wire.specs.View.{verdictView}
+use Rattle.wire.specs.declared.Verdict.{Verdict}
 use Rattle.engine_value.specs.Engine.{maxSegments, maxPoints, maxZones, blankSegment, blankPoint, noLoad, filled}
 use Rattle.book.specs.Book.{BookPoint, BookSegment, maxLength, maxReach, lookup, lookupPoint}
 use Rattle.book.specs.View.{entryView, blankEntry}
@@ -26,17 +26,17 @@ use Rattle.route.specs.declared.Loaded.{Loaded}
 -- what an answer says
 abbrev pub loadView : Loaded → Judged LoadValue
 loadView r =
-    if eqb (r .number) 0 then accept (record { route = record { load = r .load; points = r .points; segments = r .segments }; head = r .head }) else refuse (r .number)
+    thenJudge (verdictView (r .verdict)) (λ u. accept (record { route = record { load = r .load; points = r .points; segments = r .segments }; head = r .head }))
 
 -- "Every refusal returns the number only"
 abbrev pub refusedLoad : ℕ → Loaded
 refusedLoad n =
-    record { number = n; load = noLoad; points = replicate maxPoints blankPoint; segments = replicate maxSegments blankSegment; head = blankHead }
+    record { verdict = Verdict.Refused n; load = noLoad; points = replicate maxPoints blankPoint; segments = replicate maxSegments blankSegment; head = blankHead }
 
 abbrev pub loadHeld : Judged LoadValue → Loaded
 loadHeld (refuse n) = refusedLoad n
 loadHeld (accept v) =
-    record { number = 0; load = v .route .load; points = v .route .points; segments = v .route .segments; head = v .head }
+    record { verdict = Verdict.Accepted; load = v .route .load; points = v .route .points; segments = v .route .segments; head = v .head }
 
 -- the rows 10 to 12, and what is then loaded
 abbrev pub loadFor : List BookSegment → JourneyValue → Judged LoadValue

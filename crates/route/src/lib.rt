@@ -11,6 +11,7 @@ use journey::Head;
 use journey::Journey;
 use journey::JourneyPoint;
 use journey::Name;
+use wire::Verdict;
 ghost use mathlib.Core.Path.{_≡_};
 ghost use mathlib.Core.List.{List};
 ghost use mathlib.Core.Bool.{false, not, _&&_, _||_};
@@ -30,9 +31,9 @@ ghost use Rattle.route.specs.Table.{pointMissing, places};
 ghost use Rattle.route.specs.Route.{loadGroup};
 ghost use Rattle.route.specs.View.{refusedLoad, recordView, recordedEntryView, Sound, PlacesFit, PlacingRead, loadFor, Answered, LoadRead};
 
-// What a load takes; number is 0, or that of the row that refuses.
+// What a load takes; blank where a row refuses.
 pub struct Loaded {
-    pub number: u8,
+    pub verdict: Verdict,
     pub load: Load,
     pub points: [Point; 64],
     pub segments: [Segment; 40],
@@ -390,7 +391,7 @@ fn refused(number: u8) -> Loaded
         atots: 0,
     };
     Loaded {
-        number: number,
+        verdict: Verdict::Refused(number),
         load: load,
         points: points,
         segments: segments,
@@ -421,7 +422,7 @@ fn place(j: Journey, b: Book, s: &[u8]) -> Loaded
     let segments = m.segments;
     let head = j.head;
     Loaded {
-        number: 0,
+        verdict: Verdict::Accepted,
         load: load,
         points: points,
         segments: segments,
@@ -434,12 +435,14 @@ pub fn load_route(journey: &[u8], book: &[u8]) -> Loaded
     ensures { λ r. ⌜ LoadRead (now (journey .entry)) (now (book .entry)) r ⌝ }
 {
     let b = book::read_book(book);
-    if b.number != 0 {
-        return refused(b.number);
+    let of_book = b.verdict;
+    if let Verdict::Refused(n) = of_book {
+        return refused(n);
     }
     let j = journey::read_journey(journey);
-    if j.number != 0 {
-        return refused(j.number);
+    let of_journey = j.verdict;
+    if let Verdict::Refused(n) = of_journey {
+        return refused(n);
     }
     place(j, b, book)
 }

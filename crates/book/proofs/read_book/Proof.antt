@@ -1,37 +1,51 @@
-use borrow.Author.Tests.{not-true, not-false}
 use Prim.Native.Nat.{min}
 use denote.Ref.{now}
 use lib.ListN.{take}
-use mathlib.Core.Path.{refl, _∙_, sym}
+use mathlib.Core.Path.{subst, _∙_, sym}
+use Rattle.book.specs.View.{CountedIn}
+use Rattle.book.specs.declared.Counted.{Counted}
 use Rattle.book.proofs.Whole.{book-bad, book-refused, book-many, book-fit, book-segment, book-point, book-good}
 use Rattle.book.proofs.Entries.{few-points}
 use borrow.Author.Needs.{needs}
 use Rattle.book.proofs.read_book.Statement.{statement}
 use Rattle.book.proofs.read_book.Tie as tie
 
+-- the records of a book that is read to its end
+all-read : (c : tie.After-known-told) → CountedIn (now (c .before .before .before .before .before .args .s)) (c .before .before .before .read-records .result .first) (Counted.Whole (c .before .counted .given .0 .0))
+all-read c =
+    let r = c .before .before .before in
+    subst (CountedIn (now (r .before .before .args .s)) (r .read-records .result .first)) (c .before .counted .given .1) (r .read-records .ensures)
+
 read-records-requires : tie.Need-read-records-requires
 read-records-requires c κs = search needs
+
+enum-known-counted : tie.Need-enum-known-counted
+enum-known-counted c = search needs
+
+enum-told : tie.Need-enum-told
+enum-told c = search needs
 
 refused-requires : tie.Need-refused-requires
 refused-requires c κs = search needs
 
 returns : tie.Need-returns
 returns c =
-    let s = now (c .before .before .before .before .args .s) in
-    rw (c .refused .ensures) (book-refused s 7 refl (book-bad s (c .before .before .read-records .ensures .bad (not-true _ (c .before .if1 .taken)))))
+    let r = c .before .before .before in
+    let s = now (r .before .before .args .s) in
+    rw (c .refused .ensures) (book-refused s 7 (book-bad s (subst (CountedIn s (r .read-records .result .first)) (c .before .enum-told .given .1) (r .read-records .ensures))))
 
 refused-requires-2 : tie.Need-refused-requires-2
 refused-requires-2 c κs = search needs
 
 returns-2 : tie.Need-returns-2
 returns-2 c =
-    let s = now (c .before .before .before .before .before .args .s) in
-    let all = c .before .before .before .read-records .result in
-    let g = c .before .before .before .read-records .ensures .good (not-false _ (c .before .before .if1 .left)) in
-    rw (c .refused2 .ensures) (book-refused s 8 refl (book-many s (all .count) (g .0) (g .1) (g .2 .count) (c .before .if2 .taken)))
+    let k = c .before .before in
+    let s = now (k .before .before .before .before .before .args .s) in
+    let g = all-read k in
+    rw (c .refused2 .ensures) (book-refused s 8 (book-many s _ (g .0) (g .1) (g .2 .count) (c .before .if1 .taken)))
 
-cast-t8 : tie.Need-cast-t8
-cast-t8 c = search needs
+cast-t9 : tie.Need-cast-t9
+cast-t9 c = search needs
 
 segment-twice-requires : tie.Need-segment-twice-requires
 segment-twice-requires c κs = search needs
@@ -41,48 +55,50 @@ refused-requires-3 c κs = search needs
 
 returns-3 : tie.Need-returns-3
 returns-3 c =
-    let s = now (c .before .before .before .before .before .before .before .before .args .s) in
-    let all = c .before .before .before .before .before .before .read-records .result in
-    let g = c .before .before .before .before .before .before .read-records .ensures .good (not-false _ (c .before .before .before .before .before .if1 .left)) in
-    let t = sym (c .before .before .segment-twice .ensures s) ∙ c .before .if3 .taken in
-    rw (c .refused3 .ensures) (book-refused s 8 refl (book-segment s (all .count) (all .first) (g .0) (g .1) (g .2) (c .before .before .before .before .if2 .left) t))
+    let k = c .before .before .before .before .before in
+    let s = now (k .before .before .before .before .before .args .s) in
+    let g = all-read k in
+    let t = sym (c .before .before .segment-twice .ensures s) ∙ c .before .if2 .taken in
+    rw (c .refused3 .ensures) (book-refused s 8 (book-segment s _ _ (g .0) (g .1) (g .2) (c .before .before .before .before .if1 .left) t))
 
 point-twice-requires : tie.Need-point-twice-requires
 point-twice-requires c κs =
-    let s = now (c .before .before .before .before .before .before .before .args .s) in
-    let all = c .before .before .before .before .before .read-records .result in
-    let g = c .before .before .before .before .before .read-records .ensures .good (not-false _ (c .before .before .before .before .if1 .left)) in
-    few-points s (take (min (all .count) 40) (all .first)) (book-fit s (all .count) (all .first) (g .0) (g .1) (g .2) (c .before .before .before .if2 .left))
+    let k = c .before .before .before .before in
+    let r = k .before .before .before in
+    let g = all-read k in
+    few-points (now (r .before .before .args .s)) (take (min (k .before .counted .given .0 .0) 40) (r .read-records .result .first)) (book-fit _ _ _ (g .0) (g .1) (g .2) (c .before .before .before .if1 .left))
 
 refused-requires-4 : tie.Need-refused-requires-4
 refused-requires-4 c κs = search needs
 
 returns-4 : tie.Need-returns-4
 returns-4 c =
-    let s = now (c .before .before .before .before .before .before .before .before .before .before .args .s) in
-    let all = c .before .before .before .before .before .before .before .before .read-records .result in
-    let g = c .before .before .before .before .before .before .before .before .read-records .ensures .good (not-false _ (c .before .before .before .before .before .before .before .if1 .left)) in
-    let t = sym (c .before .before .before .before .segment-twice .ensures s) ∙ c .before .before .before .if3 .left in
-    rw (c .refused4 .ensures) (book-refused s 8 refl (book-point s (all .count) (all .first) (g .0) (g .1) (g .2) (c .before .before .before .before .before .before .if2 .left) t (sym (c .before .before .point-twice .ensures) ∙ c .before .if4 .taken)))
+    let k = c .before .before .before .before .before .before .before in
+    let s = now (k .before .before .before .before .before .args .s) in
+    let g = all-read k in
+    let t = sym (c .before .before .before .before .segment-twice .ensures s) ∙ c .before .before .before .if2 .left in
+    rw (c .refused4 .ensures) (book-refused s 8 (book-point s _ _ (g .0) (g .1) (g .2) (c .before .before .before .before .before .before .if1 .left) t (sym (c .before .before .point-twice .ensures) ∙ c .before .if3 .taken)))
 
 returns-5 : tie.Need-returns-5
 returns-5 c =
-    let s = now (c .before .before .before .before .before .before .before .before .before .args .s) in
-    let all = c .before .before .before .before .before .before .before .read-records .result in
-    let g = c .before .before .before .before .before .before .before .read-records .ensures .good (not-false _ (c .before .before .before .before .before .before .if1 .left)) in
-    let t = sym (c .before .before .before .segment-twice .ensures s) ∙ c .before .before .if3 .left in
-    book-good s (all .count) (all .first) (g .0) (g .1) (g .2) (c .before .before .before .before .before .if2 .left) t (sym (c .before .point-twice .ensures) ∙ c .if4 .left)
+    let k = c .before .before .before .before .before .before in
+    let s = now (k .before .before .before .before .before .args .s) in
+    let g = all-read k in
+    let t = sym (c .before .before .before .segment-twice .ensures s) ∙ c .before .before .if2 .left in
+    book-good s _ _ (g .0) (g .1) (g .2) (c .before .before .before .before .before .if1 .left) t (sym (c .before .point-twice .ensures) ∙ c .if3 .left)
 
 pub read-book-spec : {M : Type 1} → statement M
 read-book-spec =
     tie.close
     (tie.spec
     read-records-requires
+    enum-known-counted
+    enum-told
     refused-requires
     returns
     refused-requires-2
     returns-2
-    cast-t8
+    cast-t9
     segment-twice-requires
     refused-requires-3
     returns-3

@@ -2,7 +2,6 @@ use Prim.Native.Nat.{_+_, _≤_, _-_}
 use denote.Ref.{now}
 use mathlib.Core.Path.{_≡_, _∙_, sym, ap}
 use mathlib.Core.List.{List, []}
-use mathlib.Core.Bool.{false≢true}
 use mathlib.Core.Logic.{⊎-elim}
 use lib.ListN.{length, set}
 use lib.Seq.{set-out}
@@ -40,7 +39,7 @@ returns c =
     let s = now (c .before .before .before .before .before .before .before .args .s) in
     let w = c .before .before .before .before .loop in
     let h = sym (c .before .before .read-segment .ensures) ∙ ap (segmentView s) (c .enum-told .given .1) in
-    record { bad = λ z. read-bad s (w .at) (w .n) (w .first) (w .inv .1) (w .inv .2) (c .before .before .before .loop-test .taken) h; good = λ z. absurd (false≢true z) }
+    read-bad s (w .at) (w .n) (w .first) (w .inv .1) (w .inv .2) (c .before .before .before .loop-test .taken) h
 
 mul-first : tie.Need-mul-first Inv-loop μ-loop
 mul-first c = search needs
@@ -80,7 +79,7 @@ returns-2 : tie.Need-returns-2 Inv-loop μ-loop
 returns-2 c =
     let s = now (c .before .before .before .before .args .s) in
     let w = c .before .loop in
-    record { bad = λ z. absurd (false≢true (sym z)); good = λ z. (w .inv .1, read-end s (w .at) (w .n) (w .first) (w .inv .1) (w .inv .2) (c .loop-test .left), w .inv .2 .listed) }
+    (w .inv .1, read-end s (w .at) (w .n) (w .first) (w .inv .1) (w .inv .2) (c .loop-test .left), w .inv .2 .listed)
 
 pub read-records-spec : {M : Type 1} → statement M
 read-records-spec =

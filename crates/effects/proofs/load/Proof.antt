@@ -12,17 +12,22 @@ use Rattle.effects.proofs.load.Tie as tie
 load-route-requires : tie.Need-load-route-requires
 load-route-requires c κs = search needs
 
+enum-known-verdict : tie.Need-enum-known-verdict
+enum-known-verdict c = search needs
+
 plain-requires : tie.Need-plain-requires
 plain-requires c κs = search needs
 
 returns : tie.Need-returns
 returns c =
-    let l = c .before .before .before in
+    let l = c .before .before .before .before in
     let b = l .before .before .before in
     let a = b .args in
-    let h = c .before .if1 .taken in
-    gives-number (a .e) (l .load-route .result .number) (a .looked) _ _ (c .plain .ensures) (b .pre)
-    (load-number (a .e) (now (a .journey)) (now (a .book)) (l .load-route .result) (l .load-route .ensures .seen) h)
+    gives-number (a .e) _ (a .looked) _ _ (c .plain .ensures) (b .pre)
+    (load-number (a .e) (now (a .journey)) (now (a .book)) (l .load-route .result) (l .load-route .ensures .seen) _ (c .before .before .verdict .given .1))
+
+enum-told : tie.Need-enum-told
+enum-told c = search needs
 
 with-route-requires : tie.Need-with-route-requires
 with-route-requires c κs = search needs
@@ -41,10 +46,11 @@ returns-2 c =
     let n = c .before in
     let t = n .before .before in
     let r = t .before in
-    let l = r .before .before .before in
+    let told = r .before in
+    let l = told .before .before in
     let s = l .before .before .before in
     let a = s .args in
-    load-taken (a .e) (now (a .journey)) (now (a .book)) (l .load-route .result) (l .load-route .ensures .seen) _ _ (r .before .if1 .left)
+    load-taken (a .e) (now (a .journey)) (now (a .book)) (l .load-route .result) (l .load-route .ensures .seen) _ _ (told .enum-told .given .1)
     (t .with-target .ensures ∙ ap (λ (x : Engine). withProgress x (progress (target (routeIn x) (x .train .position) (x .train .length)) false)) (r .with-route .ensures))
     (n .no-changes .ensures) _ _ (s .pre) (c .looked-up .ensures)
 
@@ -53,8 +59,10 @@ load-spec =
     tie.close
     (tie.spec
     load-route-requires
+    enum-known-verdict
     plain-requires
     returns
+    enum-told
     with-route-requires
     with-target-requires
     no-changes-requires

@@ -1,26 +1,34 @@
 use denote.Ref.{now}
 use mathlib.Core.Path.{_≡_, _∙_, sym, ap}
+use Prim.Native.Nat.{_≤_}
 use lib.ListN.{drop, take, length-drop}
 use native.Mathlib.Omega.{arith}
 use borrow.Author.Needs.{needs}
-use borrow.Author.Tests.{not-true, not-false}
 use Rattle.fields.specs.Parse.{counted}
 use Rattle.fields.specs.Parse.Parse.{good}
-use Rattle.journey.specs.Journey.{nameRecord, pointRecord, headRecord}
+use Rattle.engine_value.specs.Engine.{filled}
+use Rattle.journey.specs.Journey.{blankName, blankJourneyPoint, nameRecord, pointRecord, headRecord}
 use Rattle.journey.specs.View.{headView}
-use Rattle.journey.proofs.Rows.{told-refused, told-accepted, names-bad, names-good, points-bad, points-good, headless, nameless, pointless, left-over, exact}
+use Rattle.journey.proofs.Filling.{list-unread, list-read}
+use Rattle.journey.proofs.Rows.{told-refused, told-accepted, headless, nameless, pointless, left-over, exact}
 use Rattle.journey.proofs.read_journey.Statement.{statement}
 use Rattle.journey.proofs.read_journey.Tie as tie
 
 -- what was read so far
-head-read : (c : tie.After-known-told) → headRecord (now (c .before .before .before .before .before .args .s)) ≡ good (c .before .head .given .0 .0) (drop (c .before .head .given .0 .1 .0) (now (c .before .before .before .before .before .args .s)))
+head-read : (c : tie.After-known-told) → let s = now (c .before .before .before .before .before .args .s) in headRecord s ≡ good (c .before .head .given .0 .0) (drop (c .before .head .given .0 .1 .0) s)
 head-read c = sym (c .before .before .before .read-head .ensures) ∙ ap (headView (now (c .before .before .before .before .before .args .s))) (c .before .head .given .1)
 
-names-read : (c : tie.Else1) → counted 40 nameRecord (drop (c .before .before .before .before .head .given .0 .1 .0) (now (c .before .before .before .before .before .before .before .before .args .s))) ≡ good (take (c .before .before .read-names .result .count) (c .before .before .read-names .result .names)) (drop (c .before .before .read-names .result .next) (now (c .before .before .before .before .before .before .before .before .args .s)))
-names-read c = sym (c .before .before .read-names .ensures .seen) ∙ names-good _ (c .before .before .read-names .result) (not-false _ (c .if1 .left))
+names-read : (c : tie.After-known-told2)
+    → let h = c .before .before .before .before in let s = now (h .before .before .before .before .before .args .s) in
+    let xs = c .before .before .before .read-names .result .names in let n = c .before .names-listed .given .0 .0 in
+    (counted 40 nameRecord (drop (h .before .head .given .0 .1 .0) s) ≡ good (take n xs) (drop (c .before .names-listed .given .0 .1 .0) s)) × (n ≤ 40) × (xs ≡ filled 40 blankName (take n xs))
+names-read c = list-read nameRecord blankName 40 _ _ _ _ (c .before .before .before .read-names .ensures) _ _ (c .before .names-listed .given .1)
 
-points-read : (c : tie.Else2) → counted 64 pointRecord (drop (c .before .before .before .before .before .read-names .result .next) (now (c .before .before .before .before .before .before .before .before .before .before .before .args .s))) ≡ good (take (c .before .before .read-points .result .count) (c .before .before .read-points .result .points)) (drop (c .before .before .read-points .result .next) (now (c .before .before .before .before .before .before .before .before .before .before .before .args .s)))
-points-read c = sym (c .before .before .read-points .ensures .seen) ∙ points-good _ (c .before .before .read-points .result) (not-false _ (c .if2 .left))
+points-read : (c : tie.After-known-told3)
+    → let g = c .before .before .before .before in let s = now (g .before .before .before .before .before .before .before .before .before .args .s) in
+    let xs = c .before .before .before .read-points .result .points in let n = c .before .points-listed .given .0 .0 in
+    (counted 64 pointRecord (drop (g .before .names-listed .given .0 .1 .0) s) ≡ good (take n xs) (drop (c .before .points-listed .given .0 .1 .0) s)) × (n ≤ 64) × (xs ≡ filled 64 blankJourneyPoint (take n xs))
+points-read c = list-read pointRecord blankJourneyPoint 64 _ _ _ _ (c .before .before .before .read-points .ensures) _ _ (c .before .points-listed .given .1)
 
 read-head-requires : tie.Need-read-head-requires
 read-head-requires c κs = search needs
@@ -42,17 +50,28 @@ returns c =
 read-names-requires : tie.Need-read-names-requires
 read-names-requires c κs = search needs
 
+enum-known-names-listed : tie.Need-enum-known-names-listed
+enum-known-names-listed c = search needs
+
+enum-told-2 : tie.Need-enum-told-2
+enum-told-2 c = search needs
+
 refused-requires-2 : tie.Need-refused-requires-2
 refused-requires-2 c κs = search needs
 
 returns-2 : tie.Need-returns-2
 returns-2 c =
     let k = c .before .before .before in
-    let e = sym (k .read-names .ensures .seen) ∙ names-bad _ (k .read-names .result) (not-true _ (c .before .if1 .taken)) in
-    told-refused _ _ (c .refused2 .ensures) (nameless _ _ _ (head-read (k .before)) e)
+    told-refused _ _ (c .refused2 .ensures) (nameless _ _ _ (head-read (k .before)) (list-unread nameRecord blankName 40 _ _ _ _ (k .read-names .ensures) (c .before .enum-told2 .given .1)))
 
 read-points-requires : tie.Need-read-points-requires
 read-points-requires c κs = search needs
+
+enum-known-points-listed : tie.Need-enum-known-points-listed
+enum-known-points-listed c = search needs
+
+enum-told-3 : tie.Need-enum-told-3
+enum-told-3 c = search needs
 
 refused-requires-3 : tie.Need-refused-requires-3
 refused-requires-3 c κs = search needs
@@ -60,24 +79,26 @@ refused-requires-3 c κs = search needs
 returns-3 : tie.Need-returns-3
 returns-3 c =
     let k = c .before .before .before in
-    let e = sym (k .read-points .ensures .seen) ∙ points-bad _ (k .read-points .result) (not-true _ (c .before .if2 .taken)) in
-    told-refused _ _ (c .refused3 .ensures) (pointless _ _ _ (head-read (k .before .before .before .before)) _ _ (names-read (k .before)) e)
+    let n = k .before in
+    told-refused _ _ (c .refused3 .ensures) (pointless _ _ _ (head-read (n .before .before .before .before)) _ _ (names-read n .0) (list-unread pointRecord blankJourneyPoint 64 _ _ _ _ (k .read-points .ensures) (c .before .enum-told3 .given .1)))
 
 refused-requires-4 : tie.Need-refused-requires-4
 refused-requires-4 c κs = search needs
 
 returns-4 : tie.Need-returns-4
 returns-4 c =
-    let k = c .before .before .before in
-    told-refused _ _ (c .refused4 .ensures) (left-over _ _ _ (head-read (k .before .before .before .before .before .before)) _ _ (names-read (k .before .before .before)) _ _ (points-read k) (rw length-drop (omega arith)))
+    let p = c .before .before in
+    let n = p .before .before .before .before in
+    told-refused _ _ (c .refused4 .ensures) (left-over _ _ _ (head-read (n .before .before .before .before)) _ _ (names-read n .0) _ _ (points-read p .0) (rw length-drop (omega arith)))
 
 returns-5 : tie.Need-returns-5
 returns-5 c =
-    let k = c .before .before .before .before in
-    let n = k .before .before .before .before .before .read-names .ensures in
-    let p = k .before .before .read-points .ensures in
-    told-accepted _ _ _ _ _ _ (n .most) (p .most) (n .array (not-false _ (k .before .before .before .if1 .left))) (p .array (not-false _ (k .if2 .left)))
-    (exact _ _ _ (head-read (k .before .before .before .before .before .before)) _ _ (names-read (k .before .before .before)) _ _ (points-read k) (rw length-drop (omega arith)))
+    let p = c .before .before .before in
+    let n = p .before .before .before .before in
+    let names = names-read n in
+    let points = points-read p in
+    told-accepted _ _ _ _ _ _ (names .1) (points .1) (names .2) (points .2)
+    (exact _ _ _ (head-read (n .before .before .before .before)) _ _ (names .0) _ _ (points .0) (rw length-drop (omega arith)))
 
 pub read-journey-spec : {M : Type 1} → statement M
 read-journey-spec =
@@ -89,9 +110,13 @@ read-journey-spec =
     refused-requires
     returns
     read-names-requires
+    enum-known-names-listed
+    enum-told-2
     refused-requires-2
     returns-2
     read-points-requires
+    enum-known-points-listed
+    enum-told-3
     refused-requires-3
     returns-3
     refused-requires-4

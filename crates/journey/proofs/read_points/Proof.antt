@@ -1,22 +1,18 @@
 use Prim.Native.Nat.{_-_}
 use denote.Ref.{now}
-use mathlib.Core.Path.{_∙_, sym, ap}
-use mathlib.Core.Bool.{false≢true}
+use mathlib.Core.Path.{refl, _∙_, sym, ap}
 use lib.ListN.{drop}
 use native.Mathlib.Omega.{arith}
 use borrow.Author.Needs.{needs}
 use Rattle.fields.specs.View.{fieldView}
-use Rattle.fields.specs.Parse.{counted}
-use Rattle.fields.proofs.ReaderLaws.{field-inv}
-use Rattle.journey.specs.Journey.{pointRecord}
-use Rattle.journey.proofs.Filling.{Reading, reading-none, reading-more, reading-bad, reading-end, counted-bad, counted-good}
+use Rattle.journey.specs.Journey.{blankJourneyPoint, pointRecord}
+use Rattle.journey.proofs.Filling.{ListTo, list-uncounted, list-counted, list-bad, list-more, list-end}
 use Rattle.journey.specs.View.{pointView}
-use Rattle.journey.specs.Journey.{blankJourneyPoint}
 use Rattle.journey.proofs.read_points.Statement.{statement}
 use Rattle.journey.proofs.read_points.Tie as tie
 
 abbrev Inv-loop : tie.InvT-loop
-Inv-loop s at points₀ n start p₀ i₀ points p i = Reading pointRecord blankJourneyPoint 64 n i (counted 64 pointRecord (drop at s)) (drop p s) points
+Inv-loop s at points₀ n start p₀ i₀ points p i = ListTo pointRecord blankJourneyPoint 64 s (drop at s) n i (drop p s) points
 
 abbrev μ-loop : tie.MeasureT-loop
 μ-loop s at points₀ n start p₀ i₀ points p i = n - i
@@ -34,13 +30,13 @@ returns : tie.Need-returns Inv-loop μ-loop
 returns c =
     let s = now (c .before .before .before .before .args .s) in
     let e = sym (c .before .before .read-field .ensures) ∙ ap (fieldView s) (c .enum-told .given .1) in
-    record { seen = counted-bad pointRecord 64 _ e; most = omega arith; array = λ q. absurd (false≢true q) }
+    list-uncounted pointRecord blankJourneyPoint 64 s _ _ e
 
 loop-holds : tie.Need-loop-holds Inv-loop μ-loop
 loop-holds c =
     let s = now (c .before .before .before .before .before .args .s) in
     let e = sym (c .before .before .before .read-field .ensures) ∙ ap (fieldView s) (c .before .n .given .1) in
-    reading-none pointRecord blankJourneyPoint 64 _ _ _ (field-inv 1 1 64 _ _ _ e .most) (counted-good pointRecord 64 _ _ _ e)
+    list-counted pointRecord blankJourneyPoint 64 s _ _ _ e
 
 cast-loop : tie.Need-cast-loop Inv-loop μ-loop
 cast-loop c = search needs
@@ -59,7 +55,7 @@ returns-2 c =
     let w = c .before .before .before .before .loop in
     let s = now (c .before .before .before .before .before .before .before .before .before .before .args .s) in
     let e = sym (c .before .before .read-point .ensures) ∙ ap (pointView s) (c .enum-told2 .given .1) in
-    record { seen = reading-bad pointRecord blankJourneyPoint 64 _ _ _ _ _ (omega arith) e (w .inv); most = omega arith; array = λ q. absurd (false≢true q) }
+    list-bad pointRecord blankJourneyPoint 64 s _ _ _ _ _ (w .inv) (omega arith) e
 
 mul-points : tie.Need-mul-points Inv-loop μ-loop
 mul-points c = omega arith
@@ -78,16 +74,15 @@ loop-again c =
     let w = c .before .before .before .before .before .loop in
     let s = now (c .before .before .before .before .before .before .before .before .before .before .before .args .s) in
     let e = sym (c .before .before .before .read-point .ensures) ∙ ap (pointView s) (c .before .point .given .1) in
-    reading-more pointRecord blankJourneyPoint 64 _ _ _ _ _ _ _ (omega arith) e (w .inv)
+    list-more pointRecord blankJourneyPoint 64 s _ _ _ _ _ (w .inv) _ _ (omega arith) e
 
-cast-t20 : tie.Need-cast-t20 Inv-loop μ-loop
-cast-t20 c = omega arith
+cast-t22 : tie.Need-cast-t22 Inv-loop μ-loop
+cast-t22 c = omega arith
 
 returns-3 : tie.Need-returns-3 Inv-loop μ-loop
 returns-3 c =
     let w = c .before .loop in
-    let e = reading-end pointRecord blankJourneyPoint 64 _ _ _ _ _ (omega arith) (w .inv) in
-    record { seen = e .0; most = w .inv .most; array = λ q. e .1 }
+    list-end pointRecord blankJourneyPoint 64 _ _ _ _ _ _ (w .inv) (w .p) refl (omega arith)
 
 pub read-points-spec : {M : Type 1} → statement M
 read-points-spec =
@@ -110,5 +105,5 @@ read-points-spec =
     add-i
     loop-less
     loop-again
-    cast-t20
+    cast-t22
     returns-3)

@@ -1,55 +1,83 @@
-use mathlib.Core.Path.{sym, _∙_}
+use mathlib.Core.Path.{_≡_, sym, _∙_}
 use denote.Ref.{now}
-use borrow.Author.Tests.{eq-eqb, ne-eqb}
+use Rattle.wire.specs.Judged.Judged.{accept}
+use Rattle.book.specs.Table.{bookOf}
+use Rattle.book.specs.View.{segmentsView}
 use Rattle.route.proofs.Rows.{told-refused, book-refused, book-accepted, journey-refused, journey-accepted, no-book, no-journey, both}
 use Rattle.route.proofs.Accepted.{book-sound}
 use borrow.Author.Needs.{needs}
 use Rattle.route.proofs.load_route.Statement.{statement}
 use Rattle.route.proofs.load_route.Tie as tie
 
+-- a book that was read
+book-read : (c : tie.After-enum-told) → let b = c .before .before in let s = now (b .before .before .before .args .book) in bookOf s ≡ accept (segmentsView s (b .read-book .result))
+book-read c =
+    let b = c .before .before in
+    sym (b .read-book .ensures .seen) ∙ book-accepted (now (b .before .before .before .args .book)) (b .read-book .result) (c .enum-told .given .1)
+
 read-book-requires : tie.Need-read-book-requires
 read-book-requires c κs = search needs
+
+enum-known-of-book : tie.Need-enum-known-of-book
+enum-known-of-book c = search needs
 
 refused-requires : tie.Need-refused-requires
 refused-requires c κs = search needs
 
 returns : tie.Need-returns
 returns c =
-    let a = c .before .before .before .before .before .before .args in
-    let t = ne-eqb _ _ (c .before .if1 .taken) in
-    told-refused _ _ _ t (c .refused .ensures) (no-book (now (a .journey)) (now (a .book)) _ (sym (c .before .before .before .read-book .ensures .seen) ∙ book-refused (now (a .book)) (c .before .before .before .read-book .result) t))
+    let b = c .before .before .before .before in
+    let a = b .before .before .before .args in
+    told-refused _ _ _ (c .refused .ensures) (no-book (now (a .journey)) (now (a .book)) _ (sym (b .read-book .ensures .seen) ∙ book-refused (now (a .book)) (b .read-book .result) _ (c .before .before .of-book .given .1)))
+
+enum-told : tie.Need-enum-told
+enum-told c = search needs
 
 read-journey-requires : tie.Need-read-journey-requires
 read-journey-requires c κs = search needs
+
+enum-known-of-journey : tie.Need-enum-known-of-journey
+enum-known-of-journey c = search needs
 
 refused-requires-2 : tie.Need-refused-requires-2
 refused-requires-2 c κs = search needs
 
 returns-2 : tie.Need-returns-2
 returns-2 c =
-    let a = c .before .before .before .before .before .before .before .before .before .args in
-    let t = ne-eqb _ _ (c .before .if2 .taken) in
-    told-refused _ _ _ t (c .refused2 .ensures) (no-journey (now (a .journey)) (now (a .book)) _ _ (sym (c .before .before .before .before .before .before .read-book .ensures .seen) ∙ book-accepted (now (a .book)) (c .before .before .before .before .before .before .read-book .result) (eq-eqb _ _ (c .before .before .before .before .if1 .left))) (sym (c .before .before .before .read-journey .ensures .seen) ∙ journey-refused (c .before .before .before .read-journey .result) t))
+    let j = c .before .before .before .before in
+    let k = j .before in
+    let a = k .before .before .before .before .before .args in
+    told-refused _ _ _ (c .refused2 .ensures) (no-journey (now (a .journey)) (now (a .book)) _ _ (book-read k) (sym (j .read-journey .ensures .seen) ∙ journey-refused (j .read-journey .result) _ (c .before .before .of-journey .given .1)))
+
+enum-told-2 : tie.Need-enum-told-2
+enum-told-2 c = search needs
 
 place-requires : tie.Need-place-requires
 place-requires c κs =
-    let a = c .before .before .before .before .before .before .before .before .args in
-    book-sound (now (a .book)) _ (sym (c .before .before .before .before .before .read-book .ensures .seen) ∙ book-accepted (now (a .book)) (c .before .before .before .before .before .read-book .result) (eq-eqb _ _ (c .before .before .before .if1 .left)))
+    let k = c .before .before .before in
+    book-sound (now (k .before .before .before .before .before .args .book)) _ (book-read k)
 
 returns-3 : tie.Need-returns-3
 returns-3 c =
-    let a = c .before .before .before .before .before .before .before .before .before .args in
-    rw (both (now (a .journey)) (now (a .book)) _ _ (sym (c .before .before .before .before .before .before .read-book .ensures .seen) ∙ book-accepted (now (a .book)) (c .before .before .before .before .before .before .read-book .result) (eq-eqb _ _ (c .before .before .before .before .if1 .left))) (sym (c .before .before .before .read-journey .ensures .seen) ∙ journey-accepted (c .before .before .before .read-journey .result) (eq-eqb _ _ (c .before .if2 .left)))) (c .place .ensures)
+    let t = c .before in
+    let j = t .before .before in
+    let k = j .before in
+    let a = k .before .before .before .before .before .args in
+    rw (both (now (a .journey)) (now (a .book)) _ _ (book-read k) (sym (j .read-journey .ensures .seen) ∙ journey-accepted (j .read-journey .result) (t .enum-told2 .given .1))) (c .place .ensures)
 
 pub load-route-spec : {M : Type 1} → statement M
 load-route-spec =
     tie.close
     (tie.spec
     read-book-requires
+    enum-known-of-book
     refused-requires
     returns
+    enum-told
     read-journey-requires
+    enum-known-of-journey
     refused-requires-2
     returns-2
+    enum-told-2
     place-requires
     returns-3)

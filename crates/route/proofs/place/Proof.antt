@@ -1,5 +1,5 @@
 -- The tests stand for those of the definitions, since the arrays hold the definitions' lists.
-use mathlib.Core.Path.{_≡_, refl, sym, _∙_}
+use mathlib.Core.Path.{_≡_, sym, _∙_}
 use mathlib.Core.List.{List}
 use Prim.Native.Nat.{_≤_}
 use denote.Ref.{now}
@@ -48,7 +48,7 @@ refused-requires c κs = search needs
 returns : tie.Need-returns
 returns c =
     let k = c .before .before in
-    told-refused _ 10 _ refl (c .refused .ensures) (row-10 (bookAt k) (valueAt k) (sym (k .before .name-twice .ensures) ∙ c .before .if1 .taken))
+    told-refused _ 10 _ (c .refused .ensures) (row-10 (bookAt k) (valueAt k) (sym (k .before .name-twice .ensures) ∙ c .before .if1 .taken))
 
 refused-requires-2 : tie.Need-refused-requires-2
 refused-requires-2 c κs = search needs
@@ -56,7 +56,7 @@ refused-requires-2 c κs = search needs
 returns-2 : tie.Need-returns-2
 returns-2 c =
     let k = c .before .before .before in
-    told-refused _ 11 _ refl (c .refused2 .ensures) (row-11 (bookAt k) (valueAt k) (sym (k .before .name-twice .ensures) ∙ c .before .before .if1 .left) (eleven-is k ∙ c .before .if2 .taken))
+    told-refused _ 11 _ (c .refused2 .ensures) (row-11 (bookAt k) (valueAt k) (sym (k .before .name-twice .ensures) ∙ c .before .before .if1 .left) (eleven-is k ∙ c .before .if2 .taken))
 
 place-points-requires : tie.Need-place-points-requires
 place-points-requires c κs =
@@ -73,7 +73,7 @@ returns-3 : tie.Need-returns-3
 returns-3 c =
     let d = c .before .before in
     let k = d .before .before .before .before in
-    told-refused _ 12 _ refl (c .refused3 .ensures) (row-12 (bookAt k) (valueAt k) (sym (k .before .name-twice .ensures) ∙ d .before .before .before .if1 .left) (eleven-is k ∙ d .before .before .if2 .left) (twelve-is d ∙ c .before .if3 .taken))
+    told-refused _ 12 _ (c .refused3 .ensures) (row-12 (bookAt k) (valueAt k) (sym (k .before .name-twice .ensures) ∙ d .before .before .before .if1 .left) (eleven-is k ∙ d .before .before .if2 .left) (twelve-is d ∙ c .before .if3 .taken))
 
 load-of-requires : tie.Need-load-of-requires
 load-of-requires c κs = search needs
