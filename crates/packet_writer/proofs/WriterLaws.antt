@@ -2,16 +2,17 @@
 use Prim.Native.Nat.{ℕ, zero, suc, _+_, _*_, _/_, _%_, _^_, _≤_}
 use mathlib.Core.Path.{_≡_, refl, sym, ap, _∙_}
 use mathlib.Core.List.{List, _∷_, _++_}
-use lib.ListN.{length, drop}
+use lib.ListN.{length, take, drop, take-append-drop}
 use lib.Seq.{sets, sets-eq}
 use native.Mathlib.Nat.{pow-suc, mul-assoc, div-add-mod'}
 use native.Mathlib.Omega.{arith}
 use Rattle.wire.specs.Numbers.{bytesOf}
 use Rattle.layout.specs.Layout.{Values, bytes}
 use Rattle.packets.specs.Layouts.{headerLayout, contentAt}
-use Rattle.packets.specs.Packets.{packetBytes, sizeOf}
+use Rattle.packets.specs.Packets.{packetBytes, sizeOf, writtenMemory}
 use Rattle.packets.proofs.PacketLaws.{length-packetBytes}
 use Rattle.packets.specs.declared.Packet.{Packet}
+use Rattle.packet_writer.proofs.Stores.{sets-part}
 
 -- w bytes do not show what stands above them
 bytesOf-above : (w q n : ℕ) → bytesOf w (q * 256 ^ w + n) ≡ bytesOf w n
@@ -33,8 +34,17 @@ unfolding bytes bytesOf
 behind-header l n h content = refl
 
 -- a packet stored at the front keeps the bytes behind
-pub stored-front : (p : Packet) (memory : List ℕ) → sizeOf p ≤ length memory → sets memory 0 (packetBytes p) ≡ packetBytes p ++ drop (sizeOf p) memory
+stored-front : (p : Packet) (memory : List ℕ) → sizeOf p ≤ length memory → sets memory 0 (packetBytes p) ≡ packetBytes p ++ drop (sizeOf p) memory
 stored-front p memory h =
     let n = length-packetBytes p in
     let m : 0 + length (packetBytes p) ≡ sizeOf p = omega arith in
     sets-eq (packetBytes p) memory 0 (omega arith) ∙ ap (λ (k : ℕ). packetBytes p ++ drop k memory) m
+
+-- a packet stored from a position on keeps the bytes before it too
+pub appended : (p : Packet) (at : ℕ) (l : List ℕ) → sizeOf p ≤ length (drop at l) → writtenMemory p (drop at l) ≡ packetBytes p ++ drop (sizeOf p) (drop at l)
+    → sets l at (packetBytes p) ≡ take at l ++ writtenMemory p (drop at l)
+appended p at l h w = sym (sets-part at l (packetBytes p)) ∙ ap (λ (m : List ℕ). take at l ++ m) (stored-front p (drop at l) h ∙ sym w)
+
+-- and a refusal keeps all
+pub kept : (p : Packet) (at : ℕ) (l : List ℕ) → writtenMemory p (drop at l) ≡ drop at l → l ≡ take at l ++ writtenMemory p (drop at l)
+kept p at l w = sym (take-append-drop at l) ∙ ap (λ (m : List ℕ). take at l ++ m) (sym w)

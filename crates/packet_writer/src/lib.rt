@@ -22,13 +22,6 @@ pub enum Written {
     Refused(u8),
 }
 
-// One byte stored at a position, as `wire::put16` and `wire::put32` store two and four.
-fn put_byte(out: &mut [u8], at: usize, n: u8)
-    ensures { λ _. ⌜ now (out .exit) ≡ sets (now (out .entry)) at (bytesOf 1 n) ⌝ }
-{
-    wire::put8(out, at, n);
-}
-
 // The packet's number and the header, at the front.
 fn put_header(number: u8, h: Header, out: &mut [u8])
     ensures { λ _. ⌜ now (out .exit) ≡ sets (now (out .entry)) 0 (number ∷ bytes headerLayout (headerView h)) ⌝ }
@@ -55,8 +48,8 @@ fn put_timing_point(p: TimingPoint, out: &mut [u8])
     put_header(packets::TIMING_POINT, p.header, out);
     wire::put16(out, 17, p.nidc);
     wire::put32(out, 19, p.nidtp);
-    put_byte(out, 23, info_byte(p));
-    put_byte(out, 24, p.stopping);
+    wire::put8(out, 23, info_byte(p));
+    wire::put8(out, 24, p.stopping);
 }
 
 fn put_jp_received(p: JpReceived, out: &mut [u8])
@@ -67,8 +60,8 @@ fn put_jp_received(p: JpReceived, out: &mut [u8])
     wire::put16(out, 19, p.atots);
     wire::put16(out, 21, p.date);
     wire::put32(out, 23, p.seconds);
-    put_byte(out, 27, p.counter);
-    put_byte(out, 28, p.status);
+    wire::put8(out, 27, p.counter);
+    wire::put8(out, 28, p.status);
 }
 
 // State and conditions in one word. The remainder alters no word whose parts are in their ranges.
@@ -96,15 +89,31 @@ fn put_front(p: Packet, out: &mut [u8])
     }
 }
 
-// The packet at the front of the memory; the bytes behind it stay.
-pub fn write_packet(p: Packet, out: &mut [u8]) -> Written
-    ensures { λ r. ⌜ (writtenView r ≡ writtenCount p (now (out .entry))) × (now (out .exit) ≡ writtenMemory p (now (out .entry))) ⌝ }
+// A position, at most the end.
+fn within(n: usize, at: usize) -> usize
+    ensures { λ r. ⌜ r ≡ min at n ⌝ }
+{
+    if n < at { n } else { at }
+}
+
+// The packet's bytes from a position on, whatever its values; stores past the end store nothing. For a caller that has counted the bytes.
+pub fn put_packet(p: Packet, out: &mut [u8], at: usize)
+    ensures { λ _. ⌜ now (out .exit) ≡ sets (now (out .entry)) at (packetBytes p) ⌝ }
+{
+    let start = within(out.len(), at);
+    put_front(p, &mut out[start..]);
+}
+
+// The packet from a position on; the bytes before it and behind it stay.
+pub fn append_packet(p: Packet, out: &mut [u8], at: usize) -> Written
+    ensures { λ r. ⌜ (writtenView r ≡ writtenCount p (drop at (now (out .entry)))) × (now (out .exit) ≡ take at (now (out .entry)) ++ writtenMemory p (drop at (now (out .entry)))) ⌝ }
 {
     let fits = packets::packet_fits(p);
     let size = packets::packet_size(p);
+    let room = out.len() - within(out.len(), at);
     if fits {
-        if size <= out.len() {
-            put_front(p, out);
+        if size <= room {
+            put_packet(p, out, at);
             Written::Wrote(size)
         } else {
             Written::Refused(16)
@@ -114,25 +123,9 @@ pub fn write_packet(p: Packet, out: &mut [u8]) -> Written
     }
 }
 
-// A position, at most the end.
-fn within(n: usize, at: usize) -> usize
-    ensures { λ r. ⌜ r ≡ min at n ⌝ }
+// The packet at the front of the memory; the bytes behind it stay.
+pub fn write_packet(p: Packet, out: &mut [u8]) -> Written
+    ensures { λ r. ⌜ (writtenView r ≡ writtenCount p (now (out .entry))) × (now (out .exit) ≡ writtenMemory p (now (out .entry))) ⌝ }
 {
-    if n < at { n } else { at }
-}
-
-// The packet from a position on; the bytes before it and behind it stay.
-pub fn append_packet(p: Packet, out: &mut [u8], at: usize) -> Written
-    ensures { λ r. ⌜ (writtenView r ≡ writtenCount p (drop at (now (out .entry)))) × (now (out .exit) ≡ take at (now (out .entry)) ++ writtenMemory p (drop at (now (out .entry)))) ⌝ }
-{
-    let from = within(out.len(), at);
-    write_packet(p, &mut out[from..])
-}
-
-// The packet's bytes from a position on, whatever its values; stores past the end store nothing. For a caller that has counted the bytes.
-pub fn put_packet(p: Packet, out: &mut [u8], at: usize)
-    ensures { λ _. ⌜ now (out .exit) ≡ sets (now (out .entry)) at (packetBytes p) ⌝ }
-{
-    let start = within(out.len(), at);
-    put_front(p, &mut out[start..]);
+    append_packet(p, out, 0)
 }

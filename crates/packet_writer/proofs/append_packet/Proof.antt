@@ -1,51 +1,74 @@
-use Prim.Native.Nat.{ℕ}
+use Prim.Native.Nat.{_<_, _≤_}
 use denote.Ref.{now}
-use mathlib.Core.Path.{_∙_, ap}
-use mathlib.Core.List.{List, _++_}
-use lib.ListN.{take}
-use Rattle.packets.specs.Packets.{writtenCount, writtenMemory}
-use Rattle.packet_writer.proofs.Stores.{tail-lent, tail-back}
+use mathlib.Core.Path.{_≡_, _∙_, sym, ap}
+use mathlib.Core.Bool.{true, false}
+use lib.ListN.{length, drop, length-drop}
+use native.Mathlib.Omega.{arith}
+use Rattle.wire.specs.Judged.Judged.{accept}
+use Rattle.packets.specs.Packets.{sizeOf, packetFits}
+use Rattle.packets.proofs.PacketLaws.{written-19, written-16, written-all}
+use Rattle.packet_writer.proofs.WriterLaws.{appended, kept}
 use borrow.Author.Needs.{needs}
 use Rattle.packet_writer.proofs.append_packet.Statement.{statement}
 use Rattle.packet_writer.proofs.append_packet.Tie as tie
 
+packet-fits-requires : tie.Need-packet-fits-requires
+packet-fits-requires c κs = search needs
+
+packet-size-requires : tie.Need-packet-size-requires
+packet-size-requires c κs = search needs
+
 within-requires : tie.Need-within-requires
 within-requires c κs = search needs
 
-sub-write-packet : tie.Need-sub-write-packet
-sub-write-packet c = search needs
+sub-room : tie.Need-sub-room
+sub-room c = search needs
 
-part-write-packet-start : tie.Need-part-write-packet-start
-part-write-packet-start c = search needs
-
-part-write-packet-end : tie.Need-part-write-packet-end
-part-write-packet-end c = search needs
-
-write-packet-requires : tie.Need-write-packet-requires
-write-packet-requires c κs = search needs
+put-packet-requires : tie.Need-put-packet-requires
+put-packet-requires c κs = search needs
 
 same-length : tie.Need-same-length
 same-length c = search needs
 
 returns : tie.Need-returns
 returns c =
-    let b = c .before .before in
-    let d = b .before .before in
-    let s = d .before .before .args in
+    let d = c .before .before .before .before in
+    let s = d .before .before .before .before .before .before .args in
     let l = now (s .out) in
-    let e = d .within .ensures in
-    let same = tail-lent l (s .at) (d .within .result) e in
-    let r = b .write-packet .ensures in
-    (r .0 ∙ ap (writtenCount (s .p)) same, tail-back l (s .at) (d .within .result) _ e ∙ ap (λ (x : List ℕ). take (s .at) l ++ x) (r .1 ∙ ap (writtenMemory (s .p)) same))
+    let fits : packetFits (s .p) ≡ true = cc in
+    let n = length-drop (s .at) l in
+    let room : sizeOf (s .p) ≤ length (drop (s .at) l) = omega arith in
+    let w = written-all (s .p) (drop (s .at) l) fits room in
+    (ap accept (d .before .before .before .packet-size .ensures) ∙ sym (w .0), c .before .before .put-packet .ensures ∙ appended (s .p) (s .at) l room (w .1))
+
+returns-2 : tie.Need-returns-2
+returns-2 c =
+    let s = c .before .before .before .before .before .before .args in
+    let l = now (s .out) in
+    let fits : packetFits (s .p) ≡ true = cc in
+    let n = length-drop (s .at) l in
+    let short : length (drop (s .at) l) < sizeOf (s .p) = omega arith in
+    let w = written-16 (s .p) (drop (s .at) l) fits short in
+    (sym (w .0), kept (s .p) (s .at) l (w .1))
+
+returns-3 : tie.Need-returns-3
+returns-3 c =
+    let s = c .before .before .before .before .before .args in
+    let l = now (s .out) in
+    let beyond : packetFits (s .p) ≡ false = cc in
+    let w = written-19 (s .p) (drop (s .at) l) beyond in
+    (sym (w .0), kept (s .p) (s .at) l (w .1))
 
 pub append-packet-spec : {M : Type 1} → statement M
 append-packet-spec =
     tie.close
     (tie.spec
+    packet-fits-requires
+    packet-size-requires
     within-requires
-    sub-write-packet
-    part-write-packet-start
-    part-write-packet-end
-    write-packet-requires
+    sub-room
+    put-packet-requires
     same-length
-    returns)
+    returns
+    returns-2
+    returns-3)

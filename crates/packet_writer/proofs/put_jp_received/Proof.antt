@@ -1,6 +1,10 @@
+use Prim.Native.Nat.{_%_}
+use mathlib.Core.Path.{_≡_}
+use native.Mathlib.Omega.{arith}
 use Rattle.layout.specs.Layout.{bytes}
 use Rattle.packets.specs.Packets.{valueBytes}
 use Rattle.wire.specs.Numbers.{bytesOf}
+use borrow.Author.Needs.{needs}
 use borrow.Author.Needs.{needs}
 use Rattle.packet_writer.proofs.put_jp_received.Statement.{statement}
 use Rattle.packet_writer.proofs.put_jp_received.Tie as tie
@@ -20,11 +24,11 @@ put16-requires-3 c κs = search needs
 put32-requires : tie.Need-put32-requires
 put32-requires c κs = search needs
 
-put-byte-requires : tie.Need-put-byte-requires
-put-byte-requires c κs = search needs
+put8-requires : tie.Need-put8-requires
+put8-requires c κs = search needs
 
-put-byte-requires-2 : tie.Need-put-byte-requires-2
-put-byte-requires-2 c κs = search needs
+put8-requires-2 : tie.Need-put8-requires-2
+put8-requires-2 c κs = search needs
 
 same-length : tie.Need-same-length
 same-length c = search needs
@@ -39,7 +43,11 @@ returns c =
     let b = d .before .before .before .before in
     let a = b .before .before .before .before in
     let z = a .before .before .before .before in
-    rw (g .put-byte2 .ensures, f .put-byte .ensures, e .put32 .ensures, d .put163 .ensures, b .put162 .ensures, a .put16 .ensures, z .put-header .ensures)
+    let s = z .before .before .before in
+    let p = s .args .p in
+    let byte1 : p .counter % 256 ≡ p .counter = omega (arith, s .good) in
+    let byte2 : p .status % 256 ≡ p .status = omega (arith, s .good) in
+    rw (g .put82 .ensures, f .put8 .ensures, e .put32 .ensures, d .put163 .ensures, b .put162 .ensures, a .put16 .ensures, z .put-header .ensures, byte1, byte2)
 
 pub put-jp-received-spec : {M : Type 1} → statement M
 put-jp-received-spec =
@@ -50,7 +58,7 @@ put-jp-received-spec =
     put16-requires-2
     put16-requires-3
     put32-requires
-    put-byte-requires
-    put-byte-requires-2
+    put8-requires
+    put8-requires-2
     same-length
     returns)

@@ -1,7 +1,10 @@
-use native.Mathlib.Nat.{mod-mod}
+use Prim.Native.Nat.{_%_}
+use mathlib.Core.Path.{_≡_}
+use native.Mathlib.Omega.{arith}
 use Rattle.layout.specs.Layout.{bytes}
 use Rattle.packets.specs.Packets.{valueBytes}
 use Rattle.wire.specs.Numbers.{bytesOf}
+use borrow.Author.Needs.{needs}
 use borrow.Author.Needs.{needs}
 use Rattle.packet_writer.proofs.put_timing_point.Statement.{statement}
 use Rattle.packet_writer.proofs.put_timing_point.Tie as tie
@@ -18,11 +21,11 @@ put32-requires c κs = search needs
 info-byte-requires : tie.Need-info-byte-requires
 info-byte-requires c κs = search needs
 
-put-byte-requires : tie.Need-put-byte-requires
-put-byte-requires c κs = search needs
+put8-requires : tie.Need-put8-requires
+put8-requires c κs = search needs
 
-put-byte-requires-2 : tie.Need-put-byte-requires-2
-put-byte-requires-2 c κs = search needs
+put8-requires-2 : tie.Need-put8-requires-2
+put8-requires-2 c κs = search needs
 
 same-length : tie.Need-same-length
 same-length c = search needs
@@ -35,7 +38,10 @@ returns c =
     let b = d .before .before .before .before .before in
     let a = b .before .before .before .before in
     let z = a .before .before .before .before in
-    rw (e .put-byte2 .ensures, d .put-byte .ensures, d .before .info-byte .ensures, mod-mod, b .put32 .ensures, a .put16 .ensures, z .put-header .ensures)
+    let s = z .before .before .before in
+    let p = s .args .p in
+    let byte : p .stopping % 256 ≡ p .stopping = omega (arith, s .good) in
+    rw (e .put82 .ensures, d .put8 .ensures, d .before .info-byte .ensures, b .put32 .ensures, a .put16 .ensures, z .put-header .ensures, byte)
 
 pub put-timing-point-spec : {M : Type 1} → statement M
 put-timing-point-spec =
@@ -45,7 +51,7 @@ put-timing-point-spec =
     put16-requires
     put32-requires
     info-byte-requires
-    put-byte-requires
-    put-byte-requires-2
+    put8-requires
+    put8-requires-2
     same-length
     returns)
