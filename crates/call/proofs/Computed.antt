@@ -1,7 +1,7 @@
 -- For proofs by computation: `unfolding computed` opens `stepOf` and all that it is made of.
 use Rattle.wire.specs.Numbers.{number, bytesOf}
 use Rattle.fields.specs.Parse.{field, bitMap, optional, many, counted, listed}
-use Rattle.event.specs.Events.{eventWith, contentAmong, eventOfKind, eventOf}
+use Rattle.event.specs.Events.{eventRows, eventWith, contentAmong, eventOfKind, eventOf}
 use Rattle.book.specs.Book.{bookPoint, zoneRecord, segmentRecord, records}
 use Rattle.book.specs.Table.{bookOf}
 use Rattle.journey.specs.Journey.{nameRecord, pointRecord, headRecord, journeyRecord}
@@ -18,7 +18,7 @@ use Rattle.conditions.specs.Conditions.{firstAhead, inZones, conditions}
 use Rattle.states.specs.Numbers.{powerRows, stateRow}
 use Rattle.states.specs.States.{machineAfter}
 use Rattle.states.specs.ControlGroup.{controlAfter}
-use Rattle.layout.specs.Layout.{bytes}
+use Rattle.layout.specs.Layout.{bytes, valuesAt}
 use Rattle.packets.specs.Packets.{valueBytes}
 use Rattle.engine_value.specs.declared.Engine.{Engine}
 use Rattle.call.specs.Packets.{timingPoint, jpReceived, atoStatus, statusDue, packetsOf}
@@ -26,5 +26,5 @@ use Rattle.call.specs.Effect.{offsetBeyond, positionEffect, loadEffect, 
 use Rattle.call.specs.Call.{Call, Outcome, conditionsIn, judged, outcomeOf, stepOf}
 
 unfoldable pub computed : Engine → Call → Outcome
-unfolding number bytesOf field bitMap optional many counted listed eventWith contentAmong eventOfKind eventOf bookPoint zoneRecord segmentRecord records bookOf nameRecord pointRecord headRecord journeyRecord placedAt startAt segmentOf pointOf checked journeyOf routeOf loadOf segmentFrom front beyond atStop targetFrom target looked reported passings reportChanges stopFrom firstAhead inZones conditions powerRows stateRow machineAfter controlAfter bytes valueBytes timingPoint jpReceived atoStatus statusDue packetsOf offsetBeyond positionEffect loadEffect skipEffect effect conditionsIn judged outcomeOf stepOf
+unfolding number bytesOf field bitMap optional many counted listed valuesAt eventRows eventWith contentAmong eventOfKind eventOf bookPoint zoneRecord segmentRecord records bookOf nameRecord pointRecord headRecord journeyRecord placedAt startAt segmentOf pointOf checked journeyOf routeOf loadOf segmentFrom front beyond atStop targetFrom target looked reported passings reportChanges stopFrom firstAhead inZones conditions powerRows stateRow machineAfter controlAfter bytes valueBytes timingPoint jpReceived atoStatus statusDue packetsOf offsetBeyond positionEffect loadEffect skipEffect effect conditionsIn judged outcomeOf stepOf
 computed e c = stepOf e c

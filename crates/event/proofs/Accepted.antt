@@ -4,20 +4,23 @@ use mathlib.Core.Path.{_≡_, refl, sym, subst}
 use mathlib.Core.List.{List, [], _∷_}
 use mathlib.Core.Bool.{Bool, true, false, not}
 use lib.ListN.{length, getD}
-use lib.Dec.{eqb}
+use lib.Dec.{eqb, leb}
 use native.Mathlib.Omega.{arith}
-use borrow.Author.Tests.{eqb-true}
+use borrow.Author.Tests.{eqb-true, leb-true}
 use Rattle.wire.specs.Numbers.{if_then_else_}
 use Rattle.wire.specs.Judged.{Judged, thenJudge, row}
 use Rattle.wire.specs.Judged.Judged.{refuse, accept}
+use Rattle.wire.proofs.ListLaws.{and-left, and-right}
+use Rattle.layout.specs.Layout.{Values, size, valuesAt, fits}
 use Rattle.engine_value.specs.Engine.{max2, max4, maxNidc, undefined}
 use Rattle.engine_value.specs.declared.Position.{Position}
-use Rattle.event.specs.Content.{Content, Values, size, valuesAt, fits}
-use Rattle.event.specs.Kinds.{kind, kinds, kindOf}
-use Rattle.event.specs.Events.{eventWith, contentAmong, eventOfKind, eventOf}
+use Rattle.event.specs.Kinds.{Content, kind, kinds, kindOf}
+use Rattle.event.specs.Events.{eventRows, eventWith, contentAmong, eventOfKind, eventOf}
 use Rattle.event.specs.declared.Event.{Event}
-use Rattle.event.specs.declared.Event.the-variants.{PowerOn, Configured, PowerOff, Fault, Reports, Mode, Lever, Press, PositionReport, Length, Load, Skip, Revoke}
-use Rattle.event.proofs.ContentLaws.{Within, within-fits}
+
+-- an event is that of values in the ranges of its layout
+abbrev pub Fits : Event → Type 0
+Fits e = let c = kind e .content in (v : Values (c .fields)) × (fits (c .fields) v ≡ true) × (c .event v ≡ e)
 
 pub record PositionFits (p : Position) : Type 0 where
   pub nidc : p .nidc ≤ maxNidc
@@ -25,41 +28,40 @@ pub record PositionFits (p : Position) : Type 0 where
   pub offset : p .offset ≤ undefined
   pub speed : p .speed ≤ max2
 
-abbrev pub Fits : Event → Type 0
-Fits PowerOn = Unit {0}
-Fits Configured = Unit {0}
-Fits PowerOff = Unit {0}
-Fits Fault = Unit {0}
-Fits (Reports n) = n ≤ 31
-Fits (Mode n) = n ≤ 1
-Fits (Lever n) = n ≤ 2
-Fits Press = Unit {0}
-Fits (PositionReport p) = PositionFits p
-Fits (Length n) = (1 ≤ n) × (n ≤ 100000)
-Fits Load = Unit {0}
-Fits (Skip n) = n ≤ max4
-Fits (Revoke n) = n ≤ max4
+pub position-fits : (p : Position) → Fits (Event.PositionReport p) → PositionFits p
+position-fits p f =
+    let (nidc, (nidsp, (offset, (speed, _)))) = f .0 in
+    let same : p ≡ record { nidc = nidc; nidsp = nidsp; offset = offset; speed = speed } = cc (f .2) in
+    let behind-nidc = and-right (leb nidc maxNidc) _ (f .1) in
+    let behind-nidsp = and-right (leb nidsp max4) _ behind-nidc in
+    rw same
+    (record {
+      nidc = leb-true _ _ (and-left (leb nidc maxNidc) _ (f .1));
+      nidsp = leb-true _ _ (and-left (leb nidsp max4) _ behind-nidc);
+      offset = leb-true _ _ (and-left (leb offset undefined) _ behind-nidsp);
+      speed = leb-true _ _ (and-left (leb speed max2) _ (and-right (leb offset undefined) _ behind-nidsp));
+    })
 
 -- ---- every kind
 
 -- a content gives events of the kind n, with their fields in their ranges
 abbrev Gives : ℕ → Content → Type 0
-Gives n c = (v : Values (c .fields)) → Within (c .fields) v → Fits (c .event v) × (kindOf (c .event v) ≡ n)
+Gives n c = (v : Values (c .fields)) → fits (c .fields) v ≡ true → Fits (c .event v) × (kindOf (c .event v) ≡ n)
 
 gives : (e : Event) → Gives (kind e .number) (kind e .content)
-gives PowerOn v h = (tt, refl)
-gives Configured v h = (tt, refl)
-gives PowerOff v h = (tt, refl)
-gives Fault v h = (tt, refl)
-gives (Reports n) v h = (h .0 .1, refl)
-gives (Mode n) v h = (h .0 .1, refl)
-gives (Lever n) v h = (h .0 .1, refl)
-gives Press v h = (tt, refl)
-gives (PositionReport x) v h = (record { nidc = h .0 .1; nidsp = h .1 .0 .1; offset = h .1 .1 .0 .1; speed = h .1 .1 .1 .0 .1 }, refl)
-gives (Length n) v h = (h .0, refl)
-gives Load v h = (tt, refl)
-gives (Skip t) v h = (h .0 .1, refl)
-gives (Revoke t) v h = (h .0 .1, refl)
+gives Event.PowerOn v h = ((v, h, refl), refl)
+gives Event.Configured v h = ((v, h, refl), refl)
+gives Event.PowerOff v h = ((v, h, refl), refl)
+gives Event.Fault v h = ((v, h, refl), refl)
+gives (Event.Reports n) v h = ((v, h, refl), refl)
+gives (Event.Mode n) v h = ((v, h, refl), refl)
+gives (Event.Lever n) v h = ((v, h, refl), refl)
+gives Event.Press v h = ((v, h, refl), refl)
+gives (Event.PositionReport x) v h = ((v, h, refl), refl)
+gives (Event.Length n) v h = ((v, h, refl), refl)
+gives Event.Load v h = ((v, h, refl), refl)
+gives (Event.Skip t) v h = ((v, h, refl), refl)
+gives (Event.Revoke t) v h = ((v, h, refl), refl)
 
 among-gives : (es : List Event) (n : ℕ) (c : Content) → contentAmong es n ≡ accept c → Gives n c
 unfolding contentAmong
@@ -77,8 +79,8 @@ among-gives (e ∷ es) n c q = go (eqb n (kind e .number)) refl q (among-gives e
 -- ---- the rows
 
 module _ (c : Content) (l : List ℕ) (e : Event) where
-  with-inv : eventWith c l ≡ accept e → Within (c .fields) (valuesAt (c .fields) 1 l) × (c .event (valuesAt (c .fields) 1 l) ≡ e)
-  unfolding eventWith
+  with-inv : eventWith c l ≡ accept e → (fits (c .fields) (valuesAt (c .fields) 1 l) ≡ true) × (c .event (valuesAt (c .fields) 1 l) ≡ e)
+  unfolding eventWith eventRows
   with-inv q = go (eqb (length l) (1 + size (c .fields))) (fits (c .fields) (valuesAt (c .fields) 1 l)) refl q
     where
       same : accept (c .event (valuesAt (c .fields) 1 l)) ≡ accept e → c .event (valuesAt (c .fields) 1 l) ≡ e
@@ -86,8 +88,8 @@ module _ (c : Content) (l : List ℕ) (e : Event) where
 
       go : (a b : Bool) → fits (c .fields) (valuesAt (c .fields) 1 l) ≡ b
           → thenJudge (row 1 (not a)) (λ t. thenJudge (row 2 (not b)) (λ u. accept (c .event (valuesAt (c .fields) 1 l)))) ≡ accept e
-          → Within (c .fields) (valuesAt (c .fields) 1 l) × (c .event (valuesAt (c .fields) 1 l) ≡ e)
-      go true true f q = (within-fits (c .fields) (valuesAt (c .fields) 1 l) f, same q)
+          → (fits (c .fields) (valuesAt (c .fields) 1 l) ≡ true) × (c .event (valuesAt (c .fields) 1 l) ≡ e)
+      go true true f q = (f, same q)
       go true false f q = let z : _≡_ {A = ℕ} 0 1 = cc in absurd (omega arith)
       go false b f q = let z : _≡_ {A = ℕ} 0 1 = cc in absurd (omega arith)
 

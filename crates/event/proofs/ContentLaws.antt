@@ -1,66 +1,60 @@
--- Laws of an event's content: its rows by case, and what an accepted event's fields are.
-use Prim.Native.Nat.{ℕ, _+_, _≤_, _<_}
-use mathlib.Core.Path.{_≡_, refl, sym}
-use mathlib.Core.List.{List, [], _∷_}
-use mathlib.Core.Bool.{Bool, true, false, _&&_, and-false}
-use lib.ListN.{length, getD, drop}
-use lib.Dec.{eqb, leb}
-use native.Mathlib.Omega.{arith}
-use borrow.Author.Tests.{eq-eqb, ne-eqb, le-leb, lt-leb, leb-true}
-use Rattle.wire.specs.Numbers.{number}
-use Rattle.wire.proofs.ListLaws.{and-left, and-right}
-use Rattle.wire.specs.Judged.{Judged}
+-- The rows of an event as code has them: its fields tested one after the other, its kind found by its number.
+use Prim.Native.Nat.{ℕ, _+_}
+use mathlib.Core.Path.{_≡_, refl, sym, ap, _∙_}
+use mathlib.Core.List.{List, [], _∷_, map, reverse}
+use mathlib.Core.Bool.{Bool, true, false, _||_, false≢true}
+use lib.ListN.{length, getD}
+use lib.Dec.{eqb}
+use borrow.Author.Tests.{ne-eqb, eqb-true}
+use Rattle.wire.specs.Lists.{any, every}
 use Rattle.wire.specs.Judged.Judged.{refuse, accept}
-use Rattle.event.specs.Content.{Field, Content, Values, size, valuesAt, fits, one}
-use Rattle.event.specs.Events.{eventWith, eventOfKind, eventOf}
+use Rattle.wire.proofs.ListLaws.{and-left, and-right}
+use Rattle.layout.specs.Layout.{size, valuesAt}
+use Rattle.layout.proofs.LayoutLaws.{tests, tests-fit}
+use Rattle.event.specs.Kinds.{Content, kind, kinds, kindOf}
+use Rattle.event.specs.Events.{eventRows, eventWith, contentAmong, eventOfKind, eventOf}
 use Rattle.event.specs.declared.Event.{Event}
 
--- ---- the ranges
+pub of-tests : (c : Content) (l : List ℕ)
+    → eventRows (1 + size (c .fields)) (tests true (c .fields) (valuesAt (c .fields) 1 l)) (c .event (valuesAt (c .fields) 1 l)) l ≡ eventWith c l
+unfolding eventWith
+of-tests c l = ap (λ (b : Bool). eventRows (1 + size (c .fields)) b (c .event (valuesAt (c .fields) 1 l)) l) (tests-fit true (c .fields) (valuesAt (c .fields) 1 l))
 
-abbrev pub Within : (fs : List Field) → Values fs → Type 0
-Within [] v = Unit {0}
-Within (f ∷ fs) v = ((f .low ≤ v .0) × (v .0 ≤ f .high)) × Within fs (v .1)
+-- a number that is none of some, as a match tells it: the last first
+abbrev pub NoneOf : List ℕ → ℕ → Type 0
+NoneOf [] n = Unit {0}
+NoneOf (k ∷ ks) n = NoneOf ks n × (n ≡ k → ⊥)
 
-pub fits-within : (fs : List Field) (v : Values fs) → Within fs v → fits fs v ≡ true
-fits-within [] v h = refl
-fits-within (f ∷ fs) v h = rw (le-leb (f .low) (v .0) (h .0 .0), le-leb (v .0) (f .high) (h .0 .1)) (fits-within fs (v .1) (h .1))
+none-is : (ks : List ℕ) (n m : ℕ) → NoneOf ks n → any (λ k. eqb k m) ks ≡ true → n ≡ m → ⊥
+none-is [] n m h t q = false≢true t
+none-is (k ∷ ks) n m h t q = go (eqb k m) refl t (λ s. none-is ks n m (h .0) s q)
+  where
+    go : (b : Bool) → eqb k m ≡ b → (b || any (λ k. eqb k m) ks) ≡ true → (any (λ k. eqb k m) ks ≡ true → ⊥) → ⊥
+    go true e t ih = h .1 (q ∙ sym (eqb-true k m e))
+    go false e t ih = ih t
 
-pub within-fits : (fs : List Field) (v : Values fs) → fits fs v ≡ true → Within fs v
-within-fits [] v e = tt
-within-fits (f ∷ fs) v e =
-    let here = and-left (leb (f .low) (v .0) && leb (v .0) (f .high)) _ e in
-    let low = leb-true _ _ (and-left (leb (f .low) (v .0)) _ here) in
-    let high = leb-true _ _ (and-right (leb (f .low) (v .0)) _ here) in
-    ((low, high), within-fits fs (v .1) (and-right (leb (f .low) (v .0) && leb (v .0) (f .high)) _ e))
+unknown-among : (es : List Event) (ks : List ℕ) (n : ℕ) → NoneOf ks n → every (λ e. any (λ k. eqb k (kindOf e)) ks) es ≡ true → contentAmong es n ≡ refuse 1
+unfolding contentAmong
+unknown-among [] ks n d h = refl
+unknown-among (e ∷ es) ks n d h =
+    let t = and-left (any (λ k. eqb k (kindOf e)) ks) _ h in
+    rw (ne-eqb n (kindOf e) (none-is ks n (kindOf e) d t)) (unknown-among es ks n d (and-right (any (λ k. eqb k (kindOf e)) ks) _ h))
 
--- ---- the rows
+-- bytes that begin with the number of a kind
+module _ (l : List ℕ) (some : length l ≡ 0 → ⊥) where
+  pub of-number : (n : ℕ) → getD l 0 0 ≡ n → eventOf l ≡ eventOfKind n l
+  unfolding eventOf
+  of-number n k = rw (ne-eqb (length l) 0 some, k)
 
-module _ (c : Content) (l : List ℕ) where
-  pub wrong-length : (length l ≡ 1 + size (c .fields) → ⊥) → refuse 1 ≡ eventWith c l
-  unfolding eventWith
-  wrong-length h = rw (ne-eqb _ _ h)
+  pub unknown : NoneOf (reverse (map kindOf kinds)) (getD l 0 0) → refuse 1 ≡ eventOf l
+  unfolding eventOfKind
+  unknown d = sym (of-number (getD l 0 0) refl ∙ rw (unknown-among kinds (reverse (map kindOf kinds)) (getD l 0 0) d refl))
 
-  pub out-of-range : length l ≡ 1 + size (c .fields) → fits (c .fields) (valuesAt (c .fields) 1 l) ≡ false → refuse 2 ≡ eventWith c l
-  unfolding eventWith
-  out-of-range h e = rw (eq-eqb _ _ h, e)
+  -- e is any event of that kind
+  module _ (e : Event) (k : getD l 0 0 ≡ kindOf e) (found : contentAmong kinds (kindOf e) ≡ accept (kind e .content)) where
+    pub of-kind : eventWith (kind e .content) l ≡ eventOf l
+    unfolding eventOfKind
+    of-kind = sym (of-number (kindOf e) k ∙ rw found)
 
-  pub in-range : length l ≡ 1 + size (c .fields) → fits (c .fields) (valuesAt (c .fields) 1 l) ≡ true → accept (c .event (valuesAt (c .fields) 1 l)) ≡ eventWith c l
-  unfolding eventWith
-  in-range h e = rw (eq-eqb _ _ h, e)
-
--- one field
-module _ (f : Field) (event : ℕ → Event) (l : List ℕ) (n : ℕ) (at : n ≡ number (f .width) (drop 1 l)) (h : length l ≡ 1 + size (f ∷ [])) where
-  pub too-low : n < f .low → refuse 2 ≡ eventWith (one f event) l
-  too-low k = out-of-range (one f event) l h (rw (← at, lt-leb (f .low) n k))
-
-  pub too-high : f .high < n → refuse 2 ≡ eventWith (one f event) l
-  too-high k = out-of-range (one f event) l h (rw (← at, lt-leb n (f .high) k, and-false))
-
-  pub within : f .low ≤ n → n ≤ f .high → accept (event n) ≡ eventWith (one f event) l
-  within a b = rw at (in-range (one f event) l h (rw (← at, le-leb (f .low) n a, le-leb n (f .high) b)))
-
--- ---- the event of a kind
-
-pub of-kind : (l : List ℕ) (k : ℕ) → (length l ≡ 0 → ⊥) → getD l 0 0 ≡ k → eventOf l ≡ eventOfKind k l
-unfolding eventOf
-of-kind l k h e = rw (ne-eqb (length l) 0 h, e)
+    pub of-fields : eventRows (1 + size (kind e .content .fields)) (tests true (kind e .content .fields) (valuesAt (kind e .content .fields) 1 l)) (kind e .content .event (valuesAt (kind e .content .fields) 1 l)) l ≡ eventOf l
+    of-fields = of-tests (kind e .content) l ∙ of-kind

@@ -5,80 +5,59 @@ use mathlib.Core.Bool.{Bool, true, false}
 use mathlib.Core.Option.{Option, none, some}
 use lib.Dec.{eqb}
 use Rattle.engine_value.specs.declared.Position.{Position}
-use Rattle.event.specs.Kinds.{Role, off, load, report, other, skip, mode, lever, reports, trainLength, Brings, nothing, number, position, Kind, kind, bringing, carried}
+use Rattle.event.specs.Kinds.{Role, off, load, report, other, skip, mode, Kind, kind, bringing, carried}
 use Rattle.event.specs.declared.Event.{Event}
-use Rattle.event.specs.declared.Event.the-variants.{PowerOn, Configured, PowerOff, Fault, Reports, Mode, Lever, Press, PositionReport, Length, Load, Skip, Revoke}
 use Rattle.event.specs.declared.Row.{Row}
 use Rattle.event.specs.declared.Row.the-variants.{SwitchOn, Configure, SwitchOff, Fail, EngagePress, ByState}
 
 abbrev pub OfRow : Row → ℕ → Event → Type 0
-OfRow SwitchOn n e = (e ≡ PowerOn) × (n ≡ 1)
-OfRow Configure n e = (e ≡ Configured) × (n ≡ 2)
-OfRow SwitchOff n e = (e ≡ PowerOff) × (n ≡ 3)
-OfRow Fail n e = (e ≡ Fault) × (n ≡ 4)
-OfRow EngagePress n e = (e ≡ Press) × (n ≡ 8)
+OfRow SwitchOn n e = (e ≡ Event.PowerOn) × (n ≡ 1)
+OfRow Configure n e = (e ≡ Event.Configured) × (n ≡ 2)
+OfRow SwitchOff n e = (e ≡ Event.PowerOff) × (n ≡ 3)
+OfRow Fail n e = (e ≡ Event.Fault) × (n ≡ 4)
+OfRow EngagePress n e = (e ≡ Event.Press) × (n ≡ 8)
 OfRow ByState n e = eqb n 1 ≡ false
 
 abbrev pub OfRole : Role → Event → Type 0
-OfRole off e = e ≡ PowerOff
-OfRole load e = e ≡ Load
-OfRole report e = (x : Position) × (e ≡ PositionReport x)
+OfRole off e = e ≡ Event.PowerOff
+OfRole load e = e ≡ Event.Load
+OfRole report e = (x : Position) × (e ≡ Event.PositionReport x)
 OfRole other e = Unit {0}
-OfRole (skip t true) e = e ≡ Skip t
-OfRole (skip t false) e = e ≡ Revoke t
-
-abbrev pub OfBrings : Brings → Event → Type 0
-OfBrings nothing e = Unit {0}
-OfBrings (number mode n) e = e ≡ Mode n
-OfBrings (number lever n) e = e ≡ Lever n
-OfBrings (number reports n) e = e ≡ Reports n
-OfBrings (number trainLength n) e = e ≡ Length n
-OfBrings (position x) e = e ≡ PositionReport x
-
-pub record Known (k : Kind) (e : Event) : Type 0 where
-  pub row : OfRow (k .row) (k .number) e
-  pub role : OfRole (k .role) e
-  pub brings : OfBrings (k .brings) e
-
-pub known : (e : Event) → Known (kind e) e
-known PowerOn = record { row = (refl, refl); role = tt; brings = tt }
-known Configured = record { row = (refl, refl); role = tt; brings = tt }
-known PowerOff = record { row = (refl, refl); role = refl; brings = tt }
-known Fault = record { row = (refl, refl); role = tt; brings = tt }
-known (Reports n) = record { row = refl; role = tt; brings = refl }
-known (Mode n) = record { row = refl; role = tt; brings = refl }
-known (Lever n) = record { row = refl; role = tt; brings = refl }
-known Press = record { row = (refl, refl); role = tt; brings = tt }
-known (PositionReport x) = record { row = refl; role = (x, refl); brings = refl }
-known (Length n) = record { row = refl; role = tt; brings = refl }
-known Load = record { row = refl; role = refl; brings = tt }
-known (Skip t) = record { row = refl; role = refl; brings = tt }
-known (Revoke t) = record { row = refl; role = refl; brings = tt }
+OfRole (skip t true) e = e ≡ Event.Skip t
+OfRole (skip t false) e = e ≡ Event.Revoke t
 
 -- a mode that an event brings is a mode report's, a position that it brings a position report's
 abbrev pub OfMode : Option ℕ → Event → Type 0
 OfMode none e = Unit {0}
-OfMode (some n) e = e ≡ Mode n
+OfMode (some n) e = e ≡ Event.Mode n
 
 abbrev pub OfPosition : Option Position → Event → Type 0
 OfPosition none e = Unit {0}
-OfPosition (some x) e = e ≡ PositionReport x
+OfPosition (some x) e = e ≡ Event.PositionReport x
+
+pub record Known (k : Kind) (e : Event) : Type 0 where
+  pub row : OfRow (k .row) (k .number) e
+  pub role : OfRole (k .role) e
+  pub mode : OfMode (bringing (k .brings) .number mode) e
+  pub position : OfPosition (bringing (k .brings) .position) e
+
+pub known : (e : Event) → Known (kind e) e
+known Event.PowerOn = record { row = (refl, refl); role = tt; mode = tt; position = tt }
+known Event.Configured = record { row = (refl, refl); role = tt; mode = tt; position = tt }
+known Event.PowerOff = record { row = (refl, refl); role = refl; mode = tt; position = tt }
+known Event.Fault = record { row = (refl, refl); role = tt; mode = tt; position = tt }
+known (Event.Reports n) = record { row = refl; role = tt; mode = tt; position = tt }
+known (Event.Mode n) = record { row = refl; role = tt; mode = refl; position = tt }
+known (Event.Lever n) = record { row = refl; role = tt; mode = tt; position = tt }
+known Event.Press = record { row = (refl, refl); role = tt; mode = tt; position = tt }
+known (Event.PositionReport x) = record { row = refl; role = (x, refl); mode = tt; position = refl }
+known (Event.Length n) = record { row = refl; role = tt; mode = tt; position = tt }
+known Event.Load = record { row = refl; role = refl; mode = tt; position = tt }
+known (Event.Skip t) = record { row = refl; role = refl; mode = tt; position = tt }
+known (Event.Revoke t) = record { row = refl; role = refl; mode = tt; position = tt }
 
 pub mode-of : (e : Event) → OfMode (carried e .number mode) e
-mode-of e = go (kind e .brings) (known e .brings)
-  where
-    go : (b : Brings) → OfBrings b e → OfMode (bringing b .number mode) e
-    go nothing k = tt
-    go (number mode n) k = k
-    go (number lever n) k = tt
-    go (number reports n) k = tt
-    go (number trainLength n) k = tt
-    go (position x) k = tt
+mode-of e = known e .mode
 
 pub position-of : (e : Event) → OfPosition (carried e .position) e
-position-of e = go (kind e .brings) (known e .brings)
-  where
-    go : (b : Brings) → OfBrings b e → OfPosition (bringing b .position) e
-    go nothing k = tt
-    go (number w n) k = tt
-    go (position x) k = k
+position-of e = known e .position

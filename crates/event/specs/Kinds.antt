@@ -6,13 +6,27 @@ use mathlib.Core.List.{List, [], _∷_}
 use mathlib.Core.Option.{Option, none, some}
 use lib.Dec.{eqb}
 use Rattle.wire.specs.Numbers.{if_then_else_}
-use Rattle.engine_value.specs.Engine.{maxNidc, undefined, freshPosition}
+use Rattle.layout.specs.Layout.{Field, Layout, Value as ValueOf, Values, field}
+use Rattle.layout.specs.Layout.Content.{free, upTo, between}
+use Rattle.engine_value.specs.Engine.{max2, max4, maxNidc, undefined, freshPosition}
 use Rattle.engine_value.specs.declared.Position.{Position}
-use Rattle.event.specs.Content.{Content, range, free, bare, one}
 use Rattle.event.specs.declared.Event.{Event}
 use Rattle.event.specs.declared.Event.the-variants.{PowerOn, Configured, PowerOff, Fault, Reports, Mode, Lever, Press, PositionReport, Length, Load, Skip, Revoke}
 use Rattle.event.specs.declared.Row.{Row}
 use Rattle.event.specs.declared.Row.the-variants.{SwitchOn, Configure, SwitchOff, Fail, EngagePress, ByState}
+
+-- what stands behind the kind byte: its layout, and the event of its values
+pub record Content : Type 0 where
+  pub fields : Layout
+  pub event : Values fields → Event
+
+-- no field
+abbrev pub bare : Event → Content
+bare e = record { fields = []; event = λ v. e }
+
+-- one field
+abbrev pub one : (f : Field) → (ValueOf (f .content) → Event) → Content
+one f event = record { fields = f ∷ []; event = λ v. event (v .0) }
 
 -- to the journey and its points: power off, a load, a position report, a driver skip given or revoked, nothing
 pub data Role : Type 0 where
@@ -50,10 +64,11 @@ pub record Kind : Type 0 where
 abbrev pub is : ℕ → Content → Row → Role → Brings → Kind
 is n c w r b = record { number = n; content = c; row = w; role = r; brings = b }
 
--- "NID_C (2, 0-1023), NID_SP (4), offset (4; 16,777,215 undefined, none higher), speed (2)"
+-- "NID_C (2, 0-1023), NID_SP (4), offset (4; 16,777,215 undefined, none higher), speed (2)": NID_SP and speed, which packets
+-- carry on, to the highest number of their bytes
 abbrev pub positionContent : Content
 positionContent = record {
-  fields = range 2 0 maxNidc ∷ free 4 ∷ range 4 0 undefined ∷ free 2 ∷ [];
+  fields = field "NID_C" 2 (upTo maxNidc) ∷ field "NID_SP" 4 (upTo max4) ∷ field "offset" 4 (upTo undefined) ∷ field "speed" 2 (upTo max2) ∷ [];
   event = λ v. let (c, (sp, (o, (s, _)))) = v in PositionReport (record { nidc = c; nidsp = sp; offset = o; speed = s });
 }
 
@@ -67,15 +82,15 @@ kind PowerOn = is 1 (bare PowerOn) SwitchOn other nothing
 kind Configured = is 2 (bare Configured) Configure other nothing
 kind PowerOff = is 3 (bare PowerOff) SwitchOff off nothing
 kind Fault = is 4 (bare Fault) Fail other nothing
-kind (Reports n) = is 5 (one (range 1 0 31) Reports) ByState other (number reports n)
-kind (Mode n) = is 6 (one (range 1 0 1) Mode) ByState other (number mode n)
-kind (Lever n) = is 7 (one (range 1 0 2) Lever) ByState other (number lever n)
+kind (Reports n) = is 5 (one (field "reports" 1 (upTo 31)) Reports) ByState other (number reports n)
+kind (Mode n) = is 6 (one (field "ETCS mode" 1 (upTo 1)) Mode) ByState other (number mode n)
+kind (Lever n) = is 7 (one (field "lever" 1 (upTo 2)) Lever) ByState other (number lever n)
 kind Press = is 8 (bare Press) EngagePress other nothing
 kind (PositionReport x) = is 9 positionContent ByState report (position x)
-kind (Length n) = is 10 (one (range 4 1 100000) Length) ByState other (number trainLength n)
+kind (Length n) = is 10 (one (field "train length" 4 (between 1 100000)) Length) ByState other (number trainLength n)
 kind Load = is 11 (bare Load) ByState load nothing
-kind (Skip t) = is 12 (one (free 4) Skip) ByState (skip t true) nothing
-kind (Revoke t) = is 13 (one (free 4) Revoke) ByState (skip t false) nothing
+kind (Skip t) = is 12 (one (field "NID_TP" 4 free) Skip) ByState (skip t true) nothing
+kind (Revoke t) = is 13 (one (field "NID_TP" 4 free) Revoke) ByState (skip t false) nothing
 
 -- each kind once, at some value: its number and its content do not depend on that
 abbrev pub kinds : List Event

@@ -1,4 +1,3 @@
-pub mod Content
 pub mod Kinds
 pub mod Events
 pub mod View

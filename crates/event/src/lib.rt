@@ -6,9 +6,10 @@ use wire::be8;
 use wire::be16;
 use wire::be32;
 ghost use mathlib.Core.Path.{_≡_};
-ghost use Rattle.event.specs.Content.{bare};
-ghost use Rattle.event.specs.Kinds.{kindOf, rowOf};
-ghost use Rattle.event.specs.Events.{eventWith, eventOfKind, eventOf};
+ghost use mathlib.Core.Bool.{_&&_};
+ghost use lib.Dec.{leb};
+ghost use Rattle.event.specs.Kinds.{kindOf, rowOf, positionContent};
+ghost use Rattle.event.specs.Events.{eventRows, eventWith, eventOf};
 ghost use Rattle.event.specs.View.{eventView};
 
 // The kinds of events by their numbers.
@@ -70,114 +71,45 @@ pub enum EventRead {
     Refused(u8),
 }
 
-// An event that carries nothing.
-fn read_plain(s: &[u8], e: Event) -> EventRead
-    ensures { λ r. ⌜ eventView r ≡ eventWith (bare e) (now (s .entry)) ⌝ }
+// Rows 1 and 2: the event, where there are as many bytes and its fields are in their ranges.
+fn event_rows(s: &[u8], size: usize, fit: bool, e: Event) -> EventRead
+    ensures { λ r. ⌜ eventView r ≡ eventRows size fit e (now (s .entry)) ⌝ }
 {
-    if s.len() == 1 {
+    if s.len() != size {
+        EventRead::Refused(1)
+    } else if fit {
         EventRead::Event(e)
     } else {
-        EventRead::Refused(1)
+        EventRead::Refused(2)
     }
 }
 
-fn read_reports(s: &[u8]) -> EventRead
-    ensures { λ r. ⌜ eventView r ≡ eventOfKind 5 (now (s .entry)) ⌝ }
+fn within(n: u32, low: u32, high: u32) -> bool
+    ensures { λ r. ⌜ r ≡ (leb low n && leb n high) ⌝ }
 {
-    if s.len() != 2 {
-        return EventRead::Refused(1);
+    if n < low {
+        return false;
     }
-    let n = be8(s, 1);
-    if 31 < n {
-        return EventRead::Refused(2);
-    }
-    EventRead::Event(Event::Reports(n))
+    n <= high
 }
 
-fn read_mode(s: &[u8]) -> EventRead
-    ensures { λ r. ⌜ eventView r ≡ eventOfKind 6 (now (s .entry)) ⌝ }
+fn read_position(s: &[u8]) -> EventRead
+    ensures { λ r. ⌜ eventView r ≡ eventWith positionContent (now (s .entry)) ⌝ }
 {
-    if s.len() != 2 {
-        return EventRead::Refused(1);
-    }
-    let n = be8(s, 1);
-    if 1 < n {
-        return EventRead::Refused(2);
-    }
-    EventRead::Event(Event::Mode(n))
-}
-
-fn read_lever(s: &[u8]) -> EventRead
-    ensures { λ r. ⌜ eventView r ≡ eventOfKind 7 (now (s .entry)) ⌝ }
-{
-    if s.len() != 2 {
-        return EventRead::Refused(1);
-    }
-    let n = be8(s, 1);
-    if 2 < n {
-        return EventRead::Refused(2);
-    }
-    EventRead::Event(Event::Lever(n))
-}
-
-fn read_length(s: &[u8]) -> EventRead
-    ensures { λ r. ⌜ eventView r ≡ eventOfKind 10 (now (s .entry)) ⌝ }
-{
-    if s.len() != 5 {
-        return EventRead::Refused(1);
-    }
-    let n = be32(s, 1);
-    if n < 1 {
-        return EventRead::Refused(2);
-    }
-    if 100000 < n {
-        return EventRead::Refused(2);
-    }
-    EventRead::Event(Event::Length(n))
-}
-
-fn read_skip(s: &[u8]) -> EventRead
-    ensures { λ r. ⌜ eventView r ≡ eventOfKind 12 (now (s .entry)) ⌝ }
-{
-    if s.len() != 5 {
-        return EventRead::Refused(1);
-    }
-    let n = be32(s, 1);
-    EventRead::Event(Event::Skip(n))
-}
-
-fn read_revoke(s: &[u8]) -> EventRead
-    ensures { λ r. ⌜ eventView r ≡ eventOfKind 13 (now (s .entry)) ⌝ }
-{
-    if s.len() != 5 {
-        return EventRead::Refused(1);
-    }
-    let n = be32(s, 1);
-    EventRead::Event(Event::Revoke(n))
-}
-
-fn read_report(s: &[u8]) -> EventRead
-    ensures { λ r. ⌜ eventView r ≡ eventOfKind 9 (now (s .entry)) ⌝ }
-{
-    if s.len() != 13 {
-        return EventRead::Refused(1);
-    }
     let nidc = be16(s, 1);
     let nidsp = be32(s, 3);
     let offset = be32(s, 7);
     let speed = be16(s, 11);
-    if MAX_NIDC < nidc as u32 {
-        return EventRead::Refused(2);
-    }
-    if UNDEFINED < offset {
-        return EventRead::Refused(2);
-    }
-    EventRead::Event(Event::PositionReport(Position {
+    let x = Position {
         nidc: nidc,
         nidsp: nidsp,
         offset: offset,
         speed: speed,
-    }))
+    };
+    if MAX_NIDC < nidc as u32 {
+        return event_rows(s, 13, false, Event::PositionReport(x));
+    }
+    event_rows(s, 13, offset <= UNDEFINED, Event::PositionReport(x))
 }
 
 // The event of the bytes: the kind byte, then exactly what that kind carries.
@@ -187,21 +119,23 @@ pub fn read_event(s: &[u8]) -> EventRead
     if s.len() == 0 {
         return EventRead::Refused(1);
     }
+    let byte = be8(s, 1);
+    let number = be32(s, 1);
     let kind = s[0];
     match kind {
-        1 => read_plain(s, Event::PowerOn),
-        2 => read_plain(s, Event::Configured),
-        3 => read_plain(s, Event::PowerOff),
-        4 => read_plain(s, Event::Fault),
-        5 => read_reports(s),
-        6 => read_mode(s),
-        7 => read_lever(s),
-        8 => read_plain(s, Event::Press),
-        9 => read_report(s),
-        10 => read_length(s),
-        11 => read_plain(s, Event::Load),
-        12 => read_skip(s),
-        13 => read_revoke(s),
+        1 => event_rows(s, 1, true, Event::PowerOn),
+        2 => event_rows(s, 1, true, Event::Configured),
+        3 => event_rows(s, 1, true, Event::PowerOff),
+        4 => event_rows(s, 1, true, Event::Fault),
+        5 => event_rows(s, 2, byte <= 31, Event::Reports(byte)),
+        6 => event_rows(s, 2, byte <= 1, Event::Mode(byte)),
+        7 => event_rows(s, 2, byte <= 2, Event::Lever(byte)),
+        8 => event_rows(s, 1, true, Event::Press),
+        9 => read_position(s),
+        10 => event_rows(s, 5, within(number, 1, 100000), Event::Length(number)),
+        11 => event_rows(s, 1, true, Event::Load),
+        12 => event_rows(s, 5, true, Event::Skip(number)),
+        13 => event_rows(s, 5, true, Event::Revoke(number)),
         0 | 14..=255 => EventRead::Refused(1),
     }
 }

@@ -13,7 +13,7 @@ use Rattle.wire.specs.Numbers.{number, bytesOf, Bytes}
 use Rattle.wire.proofs.NumberLaws.{length-bytesOf, number-bytesOf, number-bound, reread}
 use Rattle.wire.proofs.ListLaws.{and-left, and-right}
 use Rattle.layout.specs.Layout.{Content, Field, Layout, Value, Values, packed, unpacked, bytes, size, valuesAt, contentFits, fits}
-use Rattle.layout.specs.Layout.Content.{free, upTo, part}
+use Rattle.layout.specs.Layout.Content.{free, upTo, between, part}
 
 -- ---- size
 
@@ -29,6 +29,7 @@ length-bytes (f ∷ fs) v =
 abbrev pub contentTests : Bool → (c : Content) → Value c → Bool
 contentTests before free v = before
 contentTests before (upTo high) v = before && leb v high
+contentTests before (between low high) v = (before && leb low v) && leb v high
 contentTests before (part base high rest) v = contentTests (before && leb (v .0) high) rest (v .1)
 
 abbrev pub tests : Bool → (l : Layout) → Values l → Bool
@@ -38,6 +39,7 @@ tests before (f ∷ fs) v = tests (contentTests before (f .content) (v .0)) fs (
 content-tests : (before : Bool) (c : Content) (v : Value c) → contentTests before c v ≡ (before && contentFits c v)
 content-tests before free v = sym (and-true before)
 content-tests before (upTo high) v = refl
+content-tests before (between low high) v = and-assoc before (leb low v) (leb v high)
 content-tests before (part base high rest) v = content-tests (before && leb (v .0) high) rest (v .1) ∙ and-assoc before (leb (v .0) high) (contentFits rest (v .1))
 
 pub tests-fit : (before : Bool) (l : Layout) (v : Values l) → tests before l v ≡ (before && fits l v)
@@ -53,16 +55,19 @@ tests-fit before (f ∷ fs) v =
 abbrev pub apart : Content → Bool
 apart free = false
 apart (upTo high) = true
+apart (between low high) = true
 apart (part base high rest) = ltb high base && apart rest
 
 abbrev pub most : Content → ℕ
 most free = 0
 most (upTo high) = high
+most (between low high) = high
 most (part base high rest) = high + base * most rest
 
 abbrev pub roomy : ℕ → Content → Bool
 roomy w free = true
 roomy w (upTo high) = ltb high (256 ^ w)
+roomy w (between low high) = ltb high (256 ^ w)
 roomy w (part base high rest) = apart (part base high rest) && ltb (most (part base high rest)) (256 ^ w)
 
 abbrev pub sound : Layout → Bool
@@ -73,6 +78,7 @@ sound (f ∷ fs) = roomy (f .width) (f .content) && sound fs
 abbrev pub Held : ℕ → (c : Content) → Value c → Type 0
 Held w free v = v < 256 ^ w
 Held w (upTo high) v = Unit {0}
+Held w (between low high) v = Unit {0}
 Held w (part base high rest) v = Unit {0}
 
 abbrev pub Typed : (l : Layout) → Values l → Type 0
@@ -84,11 +90,13 @@ Typed (f ∷ fs) v = Held (f .width) (f .content) (v .0) × Typed fs (v .1)
 packed-unpacked : (c : Content) (n : ℕ) → packed c (unpacked c n) ≡ n
 packed-unpacked free n = refl
 packed-unpacked (upTo high) n = refl
+packed-unpacked (between low high) n = refl
 packed-unpacked (part base high rest) n = ap (λ (k : ℕ). n % base + base * k) (packed-unpacked rest (n / base)) ∙ mod-add-div n base
 
 unpacked-packed : (c : Content) (v : Value c) → apart c ≡ true → contentFits c v ≡ true → unpacked c (packed c v) ≡ v
 unpacked-packed free v a e = refl
 unpacked-packed (upTo high) v a e = refl
+unpacked-packed (between low high) v a e = refl
 unpacked-packed (part base high rest) v a e =
     let h : v .0 ≤ high = leb-true _ _ (and-left (leb (v .0) high) _ e) in
     let b : high < base = ltb-true _ _ (and-left (ltb high base) _ a) in
@@ -102,6 +110,7 @@ unpacked-packed (part base high rest) v a e =
 packed-most : (c : Content) (v : Value c) → apart c ≡ true → contentFits c v ≡ true → packed c v ≤ most c
 packed-most free v a e = let z : _≡_ {A = ℕ} 0 1 = cc in absurd (omega arith)
 packed-most (upTo high) v a e = leb-true _ _ e
+packed-most (between low high) v a e = leb-true _ _ (and-right (leb low v) _ e)
 packed-most (part base high rest) v a e =
     let h : v .0 ≤ high = leb-true _ _ (and-left (leb (v .0) high) _ e) in
     let k : packed rest (v .1) ≤ most rest = packed-most rest (v .1) (and-right (ltb high base) _ a) (and-right (leb (v .0) high) _ e) in
@@ -112,6 +121,7 @@ packed-most (part base high rest) v a e =
 packed-held : (w : ℕ) (c : Content) (v : Value c) → roomy w c ≡ true → contentFits c v ≡ true → Held w c v → (packed c v < 256 ^ w) × (unpacked c (packed c v) ≡ v)
 packed-held w free v r e h = (h, refl)
 packed-held w (upTo high) v r e h = let a : v ≤ high = leb-true _ _ e in let b : high < 256 ^ w = ltb-true _ _ r in (omega arith, refl)
+packed-held w (between low high) v r e h = let a : v ≤ high = leb-true _ _ (and-right (leb low v) _ e) in let b : high < 256 ^ w = ltb-true _ _ r in (omega arith, refl)
 packed-held w (part base high rest) v r e h =
     let p = and-left (apart (part base high rest)) _ r in
     let a : packed (part base high rest) v ≤ most (part base high rest) = packed-most (part base high rest) v p e in
@@ -150,6 +160,7 @@ written-read (f ∷ fs) k s b h =
 held : (w : ℕ) (c : Content) (l : List ℕ) → Bytes l → Held w c (unpacked c (number w l))
 held w free l b = number-bound w l b
 held w (upTo high) l b = tt
+held w (between low high) l b = tt
 held w (part base high rest) l b = tt
 
 pub read-typed : (l : Layout) (k : ℕ) (s : List ℕ) → Bytes s → Typed l (valuesAt l k s)

@@ -12,7 +12,7 @@ use Rattle.wire.specs.Judged.Judged.{refuse, accept}
 use Rattle.engine_value.specs.Engine.{Route, noRoute, freshPosition, blankPoint, max4}
 use Rattle.engine_value.specs.declared.Position.{Position}
 use Rattle.event.specs.Events.{eventOf}
-use Rattle.event.proofs.Accepted.{PositionFits, Fits, event-fits}
+use Rattle.event.proofs.Accepted.{PositionFits, Fits, position-fits, event-fits}
 use Rattle.event.specs.declared.Event.{Event}
 use Rattle.event.specs.declared.Event.the-variants.{PowerOn}
 use Rattle.event.proofs.Known.{OfPosition, position-of}
@@ -31,7 +31,7 @@ unfolding eventOfCall
 event-in c = go (eventOf (c .event)) refl
   where
     go : (j : Judged Event) → eventOf (c .event) ≡ j → Fits (elim j [ refuse n ↦ PowerOn | accept e ↦ e ])
-    go (refuse n) q = tt
+    go (refuse n) q = (tt, refl, refl)
     go (accept e) q = event-fits (c .event) e q
 
 -- the latest of the values that events carry
@@ -40,7 +40,7 @@ carried-in e x h k = go (carried e .position) (position-of e)
   where
     go : (o : Option Position) → OfPosition o e → PositionFits (newer o x)
     go none q = k
-    go (some y) q = rw q at h
+    go (some y) q = position-fits y (rw q at h)
 
 fresh-in : PositionFits freshPosition
 fresh-in = record { nidc = omega arith; nidsp = omega arith; offset = omega arith; speed = omega arith }
