@@ -8,13 +8,13 @@ use Rattle.journey.specs.Journey.{nameRecord, pointRecord, headRecord, journeyR
 use Rattle.route.specs.Placing.{placedAt, startAt, segmentOf, pointOf}
 use Rattle.route.specs.Table.{checked, journeyOf}
 use Rattle.route.specs.Route.{routeOf, loadOf}
-use Rattle.position.specs.Position.{segmentFrom, front}
+use Rattle.position.specs.Position.{front}
 use Rattle.timing.specs.Distance.{beyond, atStop}
 use Rattle.timing.specs.Load.{targetFrom, target}
 use Rattle.timing.specs.Report.{looked, reported}
 use Rattle.timing.specs.Changes.{passings, reportChanges}
 use Rattle.position.specs.Skips.{stopFrom}
-use Rattle.conditions.specs.Conditions.{firstAhead, inZones, conditions}
+use Rattle.conditions.specs.Conditions.{firstAhead, conditions}
 use Rattle.states.specs.Numbers.{powerRows, stateRow}
 use Rattle.states.specs.States.{machineAfter}
 use Rattle.states.specs.ControlGroup.{controlAfter}
@@ -26,5 +26,5 @@ use Rattle.call.specs.Effect.{offsetBeyond, positionEffect, loadEffect, 
 use Rattle.call.specs.Call.{Call, Outcome, conditionsIn, judged, outcomeOf, stepOf}
 
 unfoldable pub computed : Engine → Call → Outcome
-unfolding number bytesOf field bitMap optional many counted listed valuesAt eventRows eventWith contentAmong eventOfKind eventOf bookPoint zoneRecord segmentRecord records bookOf nameRecord pointRecord headRecord journeyRecord placedAt startAt segmentOf pointOf checked journeyOf routeOf loadOf segmentFrom front beyond atStop targetFrom target looked reported passings reportChanges stopFrom firstAhead inZones conditions powerRows stateRow machineAfter controlAfter bytes valueBytes timingPoint jpReceived atoStatus statusDue packetsOf offsetBeyond positionEffect loadEffect skipEffect effect conditionsIn judged outcomeOf stepOf
+unfolding number bytesOf field bitMap optional many counted listed valuesAt eventRows eventWith contentAmong eventOfKind eventOf bookPoint zoneRecord segmentRecord records bookOf nameRecord pointRecord headRecord journeyRecord placedAt startAt segmentOf pointOf checked journeyOf routeOf loadOf front beyond atStop targetFrom target looked reported passings reportChanges stopFrom firstAhead conditions powerRows stateRow machineAfter controlAfter bytes valueBytes timingPoint jpReceived atoStatus statusDue packetsOf offsetBeyond positionEffect loadEffect skipEffect effect conditionsIn judged outcomeOf stepOf
 computed e c = stepOf e c

@@ -1,5 +1,5 @@
 -- What an engine shows, as the struct that the code answers.
-use Rattle.engine_value.specs.Engine.{routeIn}
+use Rattle.engine_value.specs.Engine.{routeIn, maxPoints}
 use Rattle.engine_value.specs.declared.Engine.{Engine}
 use Rattle.position.specs.Position.{pointCount}
 use Rattle.call.specs.Call.{conditionsIn}
@@ -13,5 +13,5 @@ shownView e =
       request = requestIn e;
       conditions = conditionsIn e;
       «point_count» = pointCount (routeIn e);
-      standings = standingsIn e 64;
+      standings = standingsIn e maxPoints;
     }

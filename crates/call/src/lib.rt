@@ -1,9 +1,10 @@
 // The meaning of a call stands in specs/; here are its answer as a type, and what an engine shows.
 use engine_value::Engine;
+use engine_value::MAX_POINTS;
 ghost use mathlib.Core.Path.{_≡_};
 ghost use Prim.Native.Nat.{_≤_};
-ghost use Rattle.engine_value.specs.Engine.{routeIn};
-ghost use Rattle.position.specs.Position.{pointCount};
+ghost use Rattle.engine_value.specs.Engine.{maxPoints};
+ghost use Rattle.conditions.specs.Conditions.{allConditions};
 ghost use Rattle.call.specs.Shown.{standingIn, standingsIn};
 ghost use Rattle.call.specs.View.{shownView};
 
@@ -25,21 +26,14 @@ pub struct Shown {
     pub request: bool,
     pub conditions: u16,
     pub point_count: u8,
-    pub standings: [u8; 64],
-}
-
-fn point_count(e: Engine) -> u8
-    ensures { λ r. ⌜ r ≡ pointCount (routeIn e) ⌝ }
-{
-    let n = e.load.point_count;
-    if n < 64 { n } else { 64 }
+    pub standings: [u8; MAX_POINTS],
 }
 
 // Where point k stands.
 fn standing(e: Engine, k: u8) -> u8
     ensures { λ r. ⌜ r ≡ standingIn e k ⌝ }
 {
-    let n = point_count(e);
+    let n = position::points_loaded(e.load);
     if k < n {
         let s = position::standing_of(e.progress, k);
         return position::standing_code(s);
@@ -48,24 +42,24 @@ fn standing(e: Engine, k: u8) -> u8
 }
 
 // Where each point stands.
-fn standings(e: Engine) -> [u8; 64]
-    ensures { λ r. ⌜ r ≡ standingsIn e 64 ⌝ }
+fn standings(e: Engine) -> [u8; MAX_POINTS]
+    ensures { λ r. ⌜ r ≡ standingsIn e maxPoints ⌝ }
 {
-    let mut codes = [0; 64];
-    let mut k: u8 = 0;
-    while k < 64 {
-        let code = standing(e, k);
-        codes[k as usize] = code;
+    let mut codes = [0; MAX_POINTS];
+    let mut k: usize = 0;
+    while k < MAX_POINTS {
+        let code = standing(e, k as u8);
+        codes[k] = code;
         k += 1;
     }
     codes
 }
 
 pub fn show(e: Engine) -> Shown
-    ensures { λ r. ⌜ (r ≡ shownView e) × (r .conditions ≤ 511) ⌝ }
+    ensures { λ r. ⌜ (r ≡ shownView e) × (r .conditions ≤ allConditions) ⌝ }
 {
     let conditions = conditions::conditions(e);
-    let points = point_count(e);
+    let points = position::points_loaded(e.load);
     let standings = standings(e);
     Shown {
         state: e.control.state,

@@ -4,12 +4,13 @@ use mathlib.Core.List.{List}
 use mathlib.Core.Bool.{Bool, true, false, not, _&&_, _||_}
 use Prim.Native.Nat.{ℕ, zero, suc, _+_, _-_, _*_, min, _≤_, _<_}
 use native.Mathlib.Omega.{arith}
-use native.Mathlib.Numerals.{add-one}
-use lib.ListN.{getD}
+use lib.ListN.{length, getD, take, drop}
 use lib.Dec.{eqb, ltb, leb}
 use borrow.Author.Tests.{lt-ltb, le-ltb, le-leb, lt-leb, eq-eqb, ne-eqb, ltb-true, ltb-false, leb-true, leb-false}
+use Rattle.wire.specs.Lists.{any}
+use Rattle.wire.proofs.ListLaws.{left-none, left-more}
 use Rattle.wire.specs.Numbers.{flag, if_then_else_}
-use Rattle.engine_value.specs.Engine.{Route, undefined, maxZones, blankZone}
+use Rattle.engine_value.specs.Engine.{Route, undefined}
 use Rattle.engine_value.specs.declared.Load.{Load}
 use Rattle.engine_value.specs.declared.Zone.{Zone}
 use Rattle.engine_value.specs.declared.Position.{Position}
@@ -18,7 +19,7 @@ use Rattle.position.specs.Position.{pointsLoaded, pointCount, placed}
 use Rattle.position.specs.Standing.{standing, isPassed, behind}
 use Rattle.position.specs.declared.Named.{Named}
 use Rattle.position.specs.declared.Standing.the-variants.{Targeted, Reached}
-use Rattle.conditions.specs.Conditions.{etcsFulfilled, noEmergencyBrake, noInconsistency, dataValid, endAhead, lastAhead, firstAhead, profilesThere, tooFar, located, inZones, lookUp, nine, wordOf}
+use Rattle.conditions.specs.Conditions.{etcsFulfilled, noEmergencyBrake, noInconsistency, dataValid, endAhead, lastAhead, firstAhead, profilesThere, tooFar, located, inZone, zonesOf, lookUp, nine, wordOf}
 use Rattle.conditions.specs.declared.LookedUp.{LookedUp}
 
 -- ---- where a point stands, by the first point not passed
@@ -115,15 +116,22 @@ module _ (s : Named) (x : Position) where
       → record { profiles = profiles; located = false; outside = true } ≡ lookUp s x profiles
   not-located profiles e = rw e
 
-  pub is-located : (profiles b : Bool) → located s x ≡ true → b ≡ inZones (s .segment .zones) (min (s .segment .«zone_count») maxZones) (x .offset)
+  pub is-located : (profiles b : Bool) → located s x ≡ true → b ≡ any (inZone (x .offset)) (zonesOf (s .segment))
       → record { profiles = profiles; located = true; outside = not b } ≡ lookUp s x profiles
   is-located profiles b e i = rw (e, i)
 
--- ---- the zones
+-- ---- the zones: the first n, from index i on
 
-pub zones-more : (l : List Zone) (i o : ℕ) → inZones l (i + 1) o ≡ (inZones l i o || (leb (getD l i blankZone .start) o && leb o (getD l i blankZone .end)))
-unfolding inZones
-zones-more l i o = rw add-one
+module _ (d : Zone) (l : List Zone) (n i o : ℕ) where
+  pub zones-none : n ≤ i → any (inZone o) (drop i (take n l)) ≡ false
+  zones-none h = rw (left-none d n i l h)
+
+  module _ (h : i < n) (k : n ≤ length l) where
+    pub zones-hit : inZone o (getD l i d) ≡ true → any (inZone o) (drop i (take n l)) ≡ true
+    zones-hit t = rw (left-more d n i l h k, t)
+
+    pub zones-miss : inZone o (getD l i d) ≡ false → any (inZone o) (drop i (take n l)) ≡ any (inZone o) (drop (i + 1) (take n l))
+    zones-miss t = rw (left-more d n i l h k, t)
 
 -- ---- the nine as a number
 

@@ -1,11 +1,12 @@
 -- The nine conditions (001 §6.4.9): functions of the journey in force, the reports, the position, and where each point stands.
-use Prim.Native.Nat.{ℕ, zero, suc, _+_, _-_, _*_, min}
+use Prim.Native.Nat.{ℕ, zero, suc, _+_, _-_, _*_}
 use mathlib.Core.List.{List, [], _∷_}
 use mathlib.Core.Bool.{Bool, true, false, not, _&&_, _||_}
-use lib.ListN.{getD}
+use lib.ListN.{take}
 use lib.Dec.{ltb, leb}
+use Rattle.wire.specs.Lists.{any}
 use Rattle.wire.specs.Numbers.{bit, flag, if_then_else_}
-use Rattle.engine_value.specs.Engine.{Route, blankZone, maxZones}
+use Rattle.engine_value.specs.Engine.{Route}
 use Rattle.engine_value.specs.declared.Zone.{Zone}
 use Rattle.engine_value.specs.declared.Load.{Load}
 use Rattle.engine_value.specs.declared.Segment.{Segment}
@@ -56,14 +57,16 @@ tooFar x s = s .booked && ltb (s .length) (x .offset)
 abbrev pub located : Named → Position → Bool
 located s x = offsetDefined x && (s .found && not (tooFar x (s .segment)))
 
--- within one of the first n zones, "both ends inside"
-unfoldable pub inZones : List Zone → ℕ → ℕ → Bool
-inZones l zero o = false
-inZones l (suc n) o = inZones l n o || (leb (getD l n blankZone .start) o && leb o (getD l n blankZone .end))
+-- "both ends inside"
+abbrev pub inZone : ℕ → Zone → Bool
+inZone offset z = leb (z .start) offset && leb offset (z .end)
+
+abbrev pub zonesOf : Segment → List Zone
+zonesOf s = take (s .«zone_count») (s .zones)
 
 -- "7: not within a zone of a journey segment in the book, both ends inside." A segment that is not in the book has no zones
 abbrev pub outsideZones : Named → Position → Bool
-outsideZones s x = not (located s x && inZones (s .segment .zones) (min (s .segment .«zone_count») maxZones) (x .offset))
+outsideZones s x = not (located s x && any (inZone (x .offset)) (zonesOf (s .segment)))
 
 -- 4, 6 and 7: those that look up the journey's points and segments
 abbrev pub lookUp : Named → Position → Bool → LookedUp

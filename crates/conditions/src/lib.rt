@@ -1,15 +1,15 @@
 // The nine conditions (001 §6.4.9).
 ghost use mathlib.Core.Path.{_≡_};
-ghost use mathlib.Core.Bool.{_&&_, _||_};
-ghost use Prim.Native.Nat.{_-_, _≤_, min};
-ghost use lib.Dec.{leb};
+ghost use Prim.Native.Nat.{_-_, _≤_};
+ghost use Rattle.wire.specs.Lists.{any};
 ghost use Rattle.wire.specs.Numbers.{flag};
 ghost use Rattle.engine_value.specs.Engine.{routeIn};
 ghost use Rattle.position.specs.Standing.{standing};
 ghost use Rattle.conditions.specs.Conditions.{etcsFulfilled, noEmergencyBrake, noInconsistency, dataValid};
-ghost use Rattle.conditions.specs.Conditions.{endAhead, lastAhead, profilesThere, tooFar, located, inZones, lookUp, lookedUp, nine, wordOf, conditions, allConditions};
+ghost use Rattle.conditions.specs.Conditions.{endAhead, lastAhead, profilesThere, tooFar, located, inZone, zonesOf, lookUp, lookedUp, nine, wordOf, conditions, allConditions};
 use engine_value::Engine;
 use engine_value::Load;
+use engine_value::MAX_ZONES;
 use engine_value::Position;
 use engine_value::Progress;
 use engine_value::Segment;
@@ -78,7 +78,7 @@ fn last_ahead(l: Load, p: Progress) -> bool
     if !l.valid {
         return false;
     }
-    let last = one_less(position::at_most(l.point_count, 64));
+    let last = one_less(position::points_loaded(l));
     !(last < p.next)
 }
 
@@ -89,7 +89,7 @@ pub fn profiles_there(e: Engine, p: Progress) -> bool
     if !e.load.valid {
         return false;
     }
-    if position::at_most(e.load.point_count, 64) <= p.next {
+    if position::points_loaded(e.load) <= p.next {
         return true;
     }
     let k = p.next as usize;
@@ -105,7 +105,7 @@ fn too_far(x: Position, s: Segment) -> bool
 }
 
 fn in_zone(z: Zone, offset: u32) -> bool
-    ensures { λ r. ⌜ r ≡ (leb (z .start) offset && leb offset (z .end)) ⌝ }
+    ensures { λ r. ⌜ r ≡ inZone offset z ⌝ }
 {
     if z.start <= offset {
         offset <= z.end
@@ -114,25 +114,19 @@ fn in_zone(z: Zone, offset: u32) -> bool
     }
 }
 
-fn or_in_zone(before: bool, z: Zone, offset: u32) -> bool
-    ensures { λ r. ⌜ r ≡ (before || (leb (z .start) offset && leb offset (z .end))) ⌝ }
-{
-    if before { true } else { in_zone(z, offset) }
-}
-
 fn in_zones(s: Segment, offset: u32) -> bool
-    ensures { λ r. ⌜ r ≡ inZones (s .zones) (min (s .«zone_count») 4) offset ⌝ }
+    ensures { λ r. ⌜ r ≡ any (inZone offset) (zonesOf s) ⌝ }
 {
-    let n = position::at_most(s.zone_count, 4);
-    let mut i: u8 = 0;
-    let mut inside = false;
+    let n = position::at_most(s.zone_count, MAX_ZONES);
+    let mut i: usize = 0;
     while i < n {
-        let k = i as usize;
-        let z = s.zones[k];
-        inside = or_in_zone(inside, z, offset);
+        let z = s.zones[i];
+        if in_zone(z, offset) {
+            return true;
+        }
         i += 1;
     }
-    inside
+    false
 }
 
 // The offset is defined and counts in the segment that the position names.

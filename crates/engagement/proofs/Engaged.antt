@@ -19,7 +19,7 @@ use Rattle.states.specs.declared.Values.{Values}
 use Rattle.states.specs.declared.Machine.{Machine}
 use Rattle.states.specs.Numbers.{powerRows, stateRow}
 use Rattle.engagement.specs.Engagement.{Waiting, Ready, Driving, Engagement}
-use Rattle.engagement.specs.Run.{Run}
+use Rattle.engagement.proofs.Run.{Run}
 use Rattle.states.proofs.CodeLaws.{same-state}
 use Rattle.states.specs.declared.State.{State}
 use Rattle.states.specs.declared.State.the-variants.{NP, CO, NA, AV, RE, EG, DE, FA}

@@ -14,7 +14,7 @@ use Rattle.states.specs.States.{machine, U, fromRE, fromEG, fromDE, byState, by
 use Rattle.states.specs.declared.Values.{Values}
 use Rattle.states.specs.declared.Machine.{Machine}
 use Rattle.engagement.specs.Engagement.{Waiting}
-use Rattle.engagement.specs.Run.{Run, Requested, Holds}
+use Rattle.engagement.proofs.Run.{Run, Requested, Holds}
 use Rattle.states.specs.declared.State.{State}
 use Rattle.states.specs.declared.State.the-variants.{NP, CO, NA, AV, RE, EG, DE, FA}
 use Rattle.states.specs.declared.EtcsMode.{EtcsMode}

@@ -1,2 +1,1 @@
 pub mod Engagement
-pub mod Run

@@ -1,13 +1,16 @@
 -- The definitions of specs/, one step at a time, as the loops take them.
-use Prim.Native.Nat.{ℕ, zero, suc, _+_, _-_, _<_, _≤_}
-use mathlib.Core.Path.{_≡_, refl, ap₂, _∙_}
+use Prim.Native.Nat.{ℕ, zero, suc, _+_, _-_, _<_, _≤_, min}
+use mathlib.Core.Path.{_≡_, refl, sym, ap}
 use mathlib.Core.List.{List, [], _∷_}
 use mathlib.Core.Bool.{Bool, true, false, _&&_}
 use native.Mathlib.Omega.{arith}
-use lib.ListN.{length, getD}
+use lib.ListN.{length, getD, take, drop}
 use lib.Dec.{eqb, ltb}
 use borrow.Author.Tests.{eq-eqb, ne-eqb, lt-ltb, le-ltb, le-leb, lt-leb, eqb-true}
-use Rattle.engine_value.specs.Engine.{undefined, blankSegment, blankPoint, progress}
+use native.Mathlib.Nat.{zero-min, min-zero, suc-min-suc}
+use Rattle.wire.specs.Lists.{those}
+use Rattle.wire.proofs.ListLaws as lists
+use Rattle.engine_value.specs.Engine.{undefined, blankPoint, progress}
 use Rattle.engine_value.specs.declared.Segment.{Segment}
 use Rattle.engine_value.specs.declared.Point.{Point}
 use Rattle.engine_value.specs.declared.Position.{Position}
@@ -16,7 +19,7 @@ use Rattle.position.specs.declared.Named.{Named}
 use Rattle.position.specs.declared.Found.the-variants.{At, Nothing}
 use Rattle.position.specs.declared.Front.the-variants.{Known, Unknown}
 use Rattle.position.specs.declared.Standing.the-variants.{Unused, Targeted, Reached, Passed}
-use Rattle.position.specs.Position.{noSegment, segmentFrom, front}
+use Rattle.position.specs.Position.{bears, first, front}
 use Rattle.position.specs.Standing.{standing}
 use Rattle.position.specs.Skips.{stopFrom}
 
@@ -30,39 +33,35 @@ left-more n i h = omega arith
 pub left-all : (n : ℕ) → n - 0 ≡ n
 left-all n = omega arith
 
--- a field of an element does not depend on what stands in for an element past the end, if that field agrees there
-pub getD-field : {A B : Type 0} (f : A → B) (l : List A) (i : ℕ) (d e : A) → f d ≡ f e → f (getD l i d) ≡ f (getD l i e)
-getD-field f [] i d e h = h
-getD-field f (x ∷ l) zero d e h = refl
-getD-field f (x ∷ l) (suc i) d e h = getD-field f l i d e h
-
--- what the machine's read of a segment has there
-abbrev pub zoneless : Segment
-zoneless = record { nidc = 0; nidsp = 0; booked = false; placed = false; start = 0; length = 0; «zone_count» = 0; zones = [] }
-
 pub and-first : {a : Bool} → a ≡ false → (b : Bool) → a && b ≡ false
 and-first e b = rw e
 
+-- an array has no more than its length
+pub take-most : {A : Type 0} (n : ℕ) (l : List A) → take (min n (length l)) l ≡ take n l
+take-most {A} n [] = rw min-zero (sym (none n))
+  where
+    none : (n : ℕ) → _≡_ {A = List A} (take n []) []
+    none zero = refl
+    none (suc n) = refl
+take-most zero (x ∷ l) = rw zero-min
+take-most {A} (suc n) (x ∷ l) = rw suc-min-suc (ap (λ (m : List A). x ∷ m) (take-most n l))
+
 -- ---- the two searches
 
-module _ (l : List Segment) (n i c s : ℕ) where
-  abbrev Bears : Bool
-  Bears = eqb (getD l i zoneless .nidc) c && eqb (getD l i zoneless .nidsp) s
+module _ (d : Segment) (l : List Segment) (n i c s : ℕ) where
+  -- of the first n segments, from index i on
+  abbrev pub firstFrom : Named
+  firstFrom = first (those (bears c s) (drop i (take n l)))
 
-  named-is : eqb (getD l i blankSegment .nidc) c && eqb (getD l i blankSegment .nidsp) s ≡ Bears
-  named-is = ap₂ (λ x y. eqb x c && eqb y s) (getD-field (λ x. x .nidc) l i blankSegment zoneless refl) (getD-field (λ x. x .nidsp) l i blankSegment zoneless refl)
+  pub segment-none : n ≤ i → firstFrom ≡ first []
+  segment-none h = rw (lists.left-none d n i l h)
 
-  pub segment-none : n ≤ i → segmentFrom l (n - i) i c s ≡ noSegment
-  unfolding segmentFrom
-  segment-none h = rw (left-none n i h)
+  module _ (h : i < n) (k : n ≤ length l) where
+    pub segment-hit : bears c s (getD l i d) ≡ true → firstFrom ≡ record { found = true; segment = getD l i d }
+    segment-hit t = rw (lists.left-more d n i l h k, t)
 
-  pub segment-hit : i < n → Bears ≡ true → segmentFrom l (n - i) i c s ≡ record { found = true; segment = getD l i blankSegment }
-  unfolding segmentFrom
-  segment-hit h t = rw (left-more n i h, named-is ∙ t)
-
-  pub segment-miss : i < n → Bears ≡ false → segmentFrom l (n - i) i c s ≡ segmentFrom l (n - (i + 1)) (i + 1) c s
-  unfolding segmentFrom
-  segment-miss h t = rw (left-more n i h, named-is ∙ t)
+    pub segment-miss : bears c s (getD l i d) ≡ false → firstFrom ≡ first (those (bears c s) (drop (i + 1) (take n l)))
+    segment-miss t = rw (lists.left-more d n i l h k, t)
 
 module _ (l : List Point) (n i t : ℕ) where
   abbrev StopNamed : Bool
@@ -79,12 +78,6 @@ module _ (l : List Point) (n i t : ℕ) where
   pub stop-miss : i < n → StopNamed ≡ false → stopFrom l (n - i) i t ≡ stopFrom l (n - (i + 1)) (i + 1) t
   unfolding stopFrom
   stop-miss h e = rw (left-more n i h, e)
-
--- an element that is there is the same whatever stands for one that is not
-pub getD-there : {A : Type 0} (l : List A) (k : ℕ) (d e : A) → k < length l → getD l k d ≡ getD l k e
-getD-there [] k d e h = absurd (omega arith)
-getD-there (x ∷ xs) zero d e h = refl
-getD-there (x ∷ xs) (suc k) d e h = getD-there xs k d e (omega arith)
 
 -- ---- the front, by the segment that the position names
 

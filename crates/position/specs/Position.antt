@@ -1,11 +1,12 @@
 -- The journey's segments and points, and the known position.
-use Prim.Native.Nat.{ℕ, zero, suc, _+_, min}
-use mathlib.Core.List.{List}
+use Prim.Native.Nat.{ℕ, _+_, min}
+use mathlib.Core.List.{List, [], _∷_}
 use mathlib.Core.Bool.{Bool, true, false, not, _&&_}
-use lib.ListN.{getD}
+use lib.ListN.{getD, take}
 use lib.Dec.{eqb, leb}
+use Rattle.wire.specs.Lists.{those}
 use Rattle.wire.specs.Numbers.{if_then_else_}
-use Rattle.engine_value.specs.Engine.{Route, blankSegment, blankPoint, undefined, maxSegments, maxPoints}
+use Rattle.engine_value.specs.Engine.{Route, blankSegment, blankPoint, undefined, maxPoints}
 use Rattle.engine_value.specs.declared.Load.{Load}
 use Rattle.engine_value.specs.declared.Segment.{Segment}
 use Rattle.engine_value.specs.declared.Point.{Point}
@@ -14,15 +15,12 @@ use Rattle.position.specs.declared.Named.{Named}
 use Rattle.position.specs.declared.Front.{Front}
 use Rattle.position.specs.declared.Front.the-variants.{Known, Unknown}
 
--- how many points and segments there are; the arrays hold 64 and 40
+-- how many points there are; the array holds 64
 abbrev pub pointsLoaded : Load → ℕ
 pointsLoaded l = min (l .«point_count») maxPoints
 
 abbrev pub pointCount : Route → ℕ
 pointCount j = pointsLoaded (j .load)
-
-abbrev pub segmentCount : Route → ℕ
-segmentCount j = min (j .load .«segment_count») maxSegments
 
 abbrev pub point : Route → ℕ → Point
 point j k = getD (j .points) k blankPoint
@@ -33,18 +31,22 @@ placed j k = point j k .placed
 
 -- ---- the journey segment that a position names
 
-abbrev pub noSegment : Named
-noSegment = record { found = false; segment = blankSegment }
+-- the journey's segments, in its order
+abbrev pub listed : Route → List Segment
+listed j = take (j .load .«segment_count») (j .segments)
 
--- the first of n segments from index k on that bears the name
-unfoldable pub segmentFrom : List Segment → ℕ → ℕ → ℕ → ℕ → Named
-segmentFrom l zero k c sp = noSegment
-segmentFrom l (suc n) k c sp =
-    if eqb (getD l k blankSegment .nidc) c && eqb (getD l k blankSegment .nidsp) sp then record { found = true; segment = getD l k blankSegment } else segmentFrom l n (k + 1) c sp
+abbrev pub bears : ℕ → ℕ → Segment → Bool
+bears c sp s = eqb (s .nidc) c && eqb (s .nidsp) sp
 
--- what the position, the conditions and row 13 look up in the journey, whether or not the offset is defined
+-- the first of some segments, if there is one
+abbrev pub first : List Segment → Named
+first [] = record { found = false; segment = blankSegment }
+first (s ∷ l) = record { found = true; segment = s }
+
+-- "its segment", of the offset: the first of the journey's that bears the name. The position, the conditions and row 13 look it up, whether or
+-- not the offset is defined
 abbrev pub segmentNamed : Route → Position → Named
-segmentNamed j x = segmentFrom (j .segments) (segmentCount j) 0 (x .nidc) (x .nidsp)
+segmentNamed j x = first (those (bears (x .nidc) (x .nidsp)) (listed j))
 
 -- ---- the known position
 

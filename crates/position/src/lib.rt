@@ -1,12 +1,16 @@
 // Where the train's front is, and where each timing point stands.
 use engine_value::Engine;
+use engine_value::Load;
+use engine_value::MAX_POINTS;
+use engine_value::MAX_SEGMENTS;
 use engine_value::Position;
 use engine_value::Progress;
 use engine_value::Segment;
+use engine_value::UNDEFINED;
 ghost use mathlib.Core.Path.{_≡_};
 ghost use Prim.Native.Nat.{_<_, _^_, min};
-ghost use Rattle.engine_value.specs.Engine.{routeIn};
-ghost use Rattle.position.specs.Position.{segmentNamed, front, frontAt};
+ghost use Rattle.engine_value.specs.Engine.{routeIn, maxPoints};
+ghost use Rattle.position.specs.Position.{pointsLoaded, segmentNamed, front, frontAt};
 ghost use Rattle.position.specs.Standing.{standing, standingCode};
 ghost use Rattle.position.specs.Skips.{stopNamed};
 ghost use Rattle.position.specs.View.{IndexBelow, FrontBelow};
@@ -40,10 +44,18 @@ pub enum Standing {
 // ---- where the train is
 
 // A count, within what an array holds.
-pub fn at_most(n: u8, most: u8) -> u8
+pub fn at_most(n: u8, most: usize) -> usize
     ensures { λ r. ⌜ r ≡ min n most ⌝ }
 {
+    let n = n as usize;
     if n < most { n } else { most }
+}
+
+// How many points the journey has.
+pub fn points_loaded(l: Load) -> u8
+    ensures { λ r. ⌜ r ≡ pointsLoaded l ⌝ }
+{
+    at_most(l.point_count, MAX_POINTS) as u8
 }
 
 // The journey segment that the train's position names.
@@ -53,7 +65,7 @@ pub fn segment_named(e: Engine) -> Named
     let nidc = e.train.position.nidc;
     let nidsp = e.train.position.nidsp;
     let segments = e.segments;
-    let n = at_most(e.load.segment_count, 40) as usize;
+    let n = at_most(e.load.segment_count, MAX_SEGMENTS);
     let mut i: usize = 0;
     while i < n {
         let s = segments[i];
@@ -76,7 +88,7 @@ pub fn segment_named(e: Engine) -> Named
 pub fn front_in(s: Named, x: Position) -> Front
     ensures { λ r. ⌜ (r ≡ front s x) × FrontBelow (2 ^ 33) r ⌝ }
 {
-    if x.offset == 16777215 {
+    if x.offset == UNDEFINED {
         return Front::Unknown;
     }
     if !s.found {
@@ -103,9 +115,9 @@ pub fn front_position(e: Engine) -> Front
 
 // The stop of that name.
 pub fn find_stop(e: Engine, nidtp: u32) -> Found
-    ensures { λ r. ⌜ (r ≡ stopNamed (routeIn e) nidtp) × IndexBelow 64 r ⌝ }
+    ensures { λ r. ⌜ (r ≡ stopNamed (routeIn e) nidtp) × IndexBelow maxPoints r ⌝ }
 {
-    let n = at_most(e.load.point_count, 64) as usize;
+    let n = points_loaded(e.load) as usize;
     let mut i: usize = 0;
     while i < n {
         let p = e.points[i];

@@ -1,5 +1,6 @@
 // Timing points: d and margin, the load's target, the steps of a position report.
 use engine_value::Engine;
+use engine_value::MAX_POINTS;
 use engine_value::Point;
 use engine_value::Progress;
 use position::Front;
@@ -86,7 +87,7 @@ fn first_ahead(e: Engine, at: u64) -> u8
     ensures { λ r. ⌜ r ≡ target (routeIn e) (e .train .position) (e .train .length) ⌝ }
 {
     let length = e.train.length;
-    let n = position::at_most(e.load.point_count, 64);
+    let n = position::points_loaded(e.load);
     let mut i: u8 = 0;
     'points: while i < n {
         let k = i as usize;
@@ -121,7 +122,7 @@ fn look(e: Engine, at: u64, from: u8) -> Progress
 {
     let points = e.points;
     let skips = e.skips;
-    let count = position::at_most(e.load.point_count, 64);
+    let count = position::points_loaded(e.load);
     let mut next = from;
     let mut reached = false;
     'points: while next < count {
@@ -161,7 +162,8 @@ fn look_from(e: Engine, f: Front, from: u8) -> Progress
 fn following(k: u8) -> u8
     ensures { λ r. ⌜ r ≡ following k ⌝ }
 {
-    if k < 64 { k + 1 } else { 64 }
+    let most = MAX_POINTS as u8;
+    if k < most { k + 1 } else { most }
 }
 
 // The position report that the engine holds: (a), then (b).

@@ -28,7 +28,7 @@ use Rattle.states.specs.Numbers.{powerRows, stateRow}
 use Rattle.states.specs.States.{machineAfter, given}
 use Rattle.states.specs.declared.Values.{Values}
 use Rattle.states.specs.declared.Machine.{Machine}
-use Rattle.engagement.specs.Run as run
+use Rattle.engagement.proofs.Run as run
 use Rattle.states.specs.declared.State.the-variants.{EG}
 use Rattle.states.specs.declared.EtcsMode.the-variants.{Other, AD}
 use Rattle.engagement.proofs.Requests.{run-holds}

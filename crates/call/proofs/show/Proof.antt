@@ -8,15 +8,15 @@ use Rattle.call.proofs.show.Tie as tie
 conditions-requires : tie.Need-conditions-requires
 conditions-requires c κs = search needs
 
-point-count-requires : tie.Need-point-count-requires
-point-count-requires c κs = search needs
+points-loaded-requires : tie.Need-points-loaded-requires
+points-loaded-requires c κs = search needs
 
 standings-requires : tie.Need-standings-requires
 standings-requires c κs = search needs
 
 returns : tie.Need-returns
 unfolding conditionsIn
-returns c = (rw (c .before .before .conditions .ensures .0, c .before .point-count .ensures, c .standings .ensures), c .before .before .conditions .ensures .1)
+returns c = (rw (c .before .before .conditions .ensures .0, c .before .points-loaded .ensures, c .standings .ensures), c .before .before .conditions .ensures .1)
 
 pub show-spec : {M : Type 1} → statement M
-show-spec = tie.close (tie.spec conditions-requires point-count-requires standings-requires returns)
+show-spec = tie.close (tie.spec conditions-requires points-loaded-requires standings-requires returns)

@@ -19,11 +19,11 @@ loop-holds : tie.Need-loop-holds Inv-loop μ-loop
 unfolding standingsIn
 loop-holds c = (omega arith, refl, refl)
 
+cast-standing : tie.Need-cast-standing Inv-loop μ-loop
+cast-standing c = omega arith
+
 standing-requires : tie.Need-standing-requires Inv-loop μ-loop
 standing-requires c κs = search needs
-
-cast-codes : tie.Need-cast-codes Inv-loop μ-loop
-cast-codes c = search needs
 
 array-write-codes : tie.Need-array-write-codes Inv-loop μ-loop
 array-write-codes c = omega arith
@@ -56,8 +56,8 @@ standings-spec =
     Inv-loop
     μ-loop
     loop-holds
+    cast-standing
     standing-requires
-    cast-codes
     array-write-codes
     add-k
     loop-less

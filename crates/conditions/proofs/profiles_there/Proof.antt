@@ -10,25 +10,25 @@ use Rattle.conditions.proofs.profiles_there.Tie as tie
 returns : tie.Need-returns
 returns c = rw (not-true (c .before .args .t1 .load .valid) (c .if1 .taken))
 
-at-most-requires : tie.Need-at-most-requires
-at-most-requires c κs = search needs
+points-loaded-requires : tie.Need-points-loaded-requires
+points-loaded-requires c κs = search needs
 
 returns-2 : tie.Need-returns-2
-returns-2 c = let a = c .before .before .before .before .args in
-    none-left (routeIn (a .t1)) (a .p) (not-false _ (c .before .before .before .if1 .left)) _ (c .before .before .at-most .ensures) (c .if2 .taken)
+returns-2 c = let a = c .before .before .before .before .before .args in
+    none-left (routeIn (a .t1)) (a .p) (not-false _ (c .before .before .before .before .if1 .left)) _ (c .before .before .points-loaded .ensures) (c .if2 .taken)
 
 cast-k : tie.Need-cast-k
 cast-k c = search needs
 
 mul-point : tie.Need-mul-point
-mul-point c = omega (arith, c .before .before .before .at-most .ensures)
+mul-point c = omega (arith, c .before .before .before .points-loaded .ensures)
 
 element-copy-out-point : tie.Need-element-copy-out-point
-element-copy-out-point c = omega (arith, c .before .before .before .at-most .ensures)
+element-copy-out-point c = omega (arith, c .before .before .before .points-loaded .ensures)
 
 returns-3 : tie.Need-returns-3
-returns-3 c = let s = c .before .before .before in let a = s .before .before .before .args in
-    one-left (routeIn (a .t1)) (a .p) (not-false _ (s .before .before .if1 .left)) _ (s .before .at-most .ensures) (c .before .before .if2 .left)
+returns-3 c = let s = c .before .before .before in let a = s .before .before .before .before .args in
+    one-left (routeIn (a .t1)) (a .p) (not-false _ (s .before .before .before .if1 .left)) _ (s .before .points-loaded .ensures) (c .before .before .if2 .left)
 
 pub profiles-there-spec : {M : Type 1} → statement M
-profiles-there-spec = tie.close (tie.spec returns at-most-requires returns-2 cast-k mul-point element-copy-out-point returns-3)
+profiles-there-spec = tie.close (tie.spec returns points-loaded-requires returns-2 cast-k mul-point element-copy-out-point returns-3)

@@ -1,10 +1,8 @@
 use mathlib.Core.Path.{refl}
-use Rattle.position.specs.Position.{segmentFrom}
 use Rattle.effects.proofs.fresh_looked_up.Statement.{statement}
 use Rattle.effects.proofs.fresh_looked_up.Tie as tie
 
 returns : tie.Need-returns
-unfolding segmentFrom
 returns c = refl
 
 pub fresh-looked-up-spec : {M : Type 1} → statement M

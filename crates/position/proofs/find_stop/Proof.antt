@@ -16,14 +16,14 @@ Inv-loop nidtp e n i₀ i = stopFrom (e .points) (n - i) i nidtp ≡ stopNamed (
 abbrev μ-loop : tie.MeasureT-loop
 μ-loop nidtp e n i₀ i = n - i
 
-at-most-requires : tie.Need-at-most-requires Inv-loop μ-loop
-at-most-requires c κs = search needs
+points-loaded-requires : tie.Need-points-loaded-requires Inv-loop μ-loop
+points-loaded-requires c κs = search needs
 
 cast-n : tie.Need-cast-n Inv-loop μ-loop
 cast-n c = search needs
 
 loop-holds : tie.Need-loop-holds Inv-loop μ-loop
-loop-holds c = rw (left-all, c .at-most .ensures)
+loop-holds c = rw (left-all, c .points-loaded .ensures)
 
 mul-p : tie.Need-mul-p Inv-loop μ-loop
 mul-p c = omega arith
@@ -56,7 +56,7 @@ find-stop-spec =
     (tie.spec
     Inv-loop
     μ-loop
-    at-most-requires
+    points-loaded-requires
     cast-n
     loop-holds
     mul-p

@@ -18,13 +18,13 @@ Inv-points at e length n i₀ i =
 abbrev μ-points : tie.MeasureT-points
 μ-points at e length n i₀ i = n - i
 
-at-most-requires : tie.Need-at-most-requires Inv-points μ-points
-at-most-requires c κs = search needs
+points-loaded-requires : tie.Need-points-loaded-requires Inv-points μ-points
+points-loaded-requires c κs = search needs
 
 points-holds : tie.Need-points-holds Inv-points μ-points
 unfolding target
-points-holds c = let a = c .before .args .t1 in
-    rw left-all (ap (λ m. targetFrom (routeIn a) (unskippedReport (a .train .position) (a .train .length)) m 0) (c .at-most .ensures))
+points-holds c = let a = c .before .before .args .t1 in
+    rw left-all (ap (λ m. targetFrom (routeIn a) (unskippedReport (a .train .position) (a .train .length)) m 0) (c .points-loaded .ensures))
 
 cast-k : tie.Need-cast-k Inv-points μ-points
 cast-k c = search needs
@@ -46,7 +46,7 @@ points-less c = omega arith
 
 points-again : tie.Need-points-again Inv-points μ-points
 points-again c = let s = c .before .before .before .before .before .before in
-    let a = s .before .before in
+    let a = s .before .before .before in
     sym (target-more _ _ (a .args .at) (a .pre .0) _ _ (c .before .before .before .before .before .points-test .taken) (not-false _ (c .before .before .if1 .left)) (sym (c .before .exceeds .ensures) ∙ not-false _ (c .if2 .left))) ∙ s .points .inv
 
 returns : tie.Need-returns Inv-points μ-points
@@ -54,12 +54,12 @@ returns c = sym (target-none _ _ _ _ (c .points-test .left)) ∙ c .before .poin
 
 returns-2 : tie.Need-returns-2 Inv-points μ-points
 returns-2 c = let s = c .before .before .before .before in
-    let a = s .before .before in
+    let a = s .before .before .before in
     sym (target-unplaced _ _ (a .args .at) (a .pre .0) _ _ (c .before .before .before .points-test .taken) (not-true _ (c .if1 .taken))) ∙ s .points .inv
 
 returns-3 : tie.Need-returns-3 Inv-points μ-points
 returns-3 c = let s = c .before .before .before .before .before .before in
-    let a = s .before .before in
+    let a = s .before .before .before in
     sym (target-ahead _ _ (a .args .at) (a .pre .0) _ _ (c .before .before .before .before .before .points-test .taken) (not-false _ (c .before .before .if1 .left)) (sym (c .before .exceeds .ensures) ∙ not-true _ (c .if2 .taken))) ∙ s .points .inv
 
 pub first-ahead-spec : {M : Type 1} → statement M
@@ -68,7 +68,7 @@ first-ahead-spec =
     (tie.spec
     Inv-points
     μ-points
-    at-most-requires
+    points-loaded-requires
     points-holds
     cast-k
     mul-p

@@ -19,11 +19,11 @@ Inv-points e at from points skips count next₀ reached₀ next reached =
 abbrev μ-points : tie.MeasureT-points
 μ-points e at from points skips count next₀ reached₀ next reached = count - next
 
-at-most-requires : tie.Need-at-most-requires Inv-points μ-points
-at-most-requires c κs = search needs
+points-loaded-requires : tie.Need-points-loaded-requires Inv-points μ-points
+points-loaded-requires c κs = search needs
 
 points-holds : tie.Need-points-holds Inv-points μ-points
-points-holds c = (refl, ap (λ m. looked (routeIn (c .before .before .before .args .e)) (reportIn (c .before .before .before .args .e)) (m - c .before .before .before .args .from) (c .before .before .before .args .from)) (c .at-most .ensures))
+points-holds c = (refl, ap (λ m. looked (routeIn (c .before .before .before .args .e)) (reportIn (c .before .before .before .args .e)) (m - c .before .before .before .args .from) (c .before .before .before .args .from)) (c .points-loaded .ensures))
 
 cast-k : tie.Need-cast-k Inv-points μ-points
 cast-k c = search needs
@@ -52,7 +52,7 @@ points-less c = omega arith
 points-again : tie.Need-points-again Inv-points μ-points
 points-again c = let s = c .before .before .before .before .before .before in
     let a = s .before .before .before .before in
-    (s .points .inv .0, sym (look-more _ _ (a .args .at) (a .pre .0) (s .before .at-most .result) (s .points .next) (c .before .before .before .before .before .points-test .taken) (not-false _ (c .before .before .if1 .left)) (sym (c .before .exceeds .ensures) ∙ not-false _ (c .if2 .left))) ∙ s .points .inv .1)
+    (s .points .inv .0, sym (look-more _ _ (a .args .at) (a .pre .0) (s .before .points-loaded .result) (s .points .next) (c .before .before .before .before .before .points-test .taken) (not-false _ (c .before .before .if1 .left)) (sym (c .before .exceeds .ensures) ∙ not-false _ (c .if2 .left))) ∙ s .points .inv .1)
 
 returns : tie.Need-returns Inv-points μ-points
 returns c = let s = c .before in
@@ -74,7 +74,7 @@ look-spec =
     (tie.spec
     Inv-points
     μ-points
-    at-most-requires
+    points-loaded-requires
     points-holds
     cast-k
     mul-point
