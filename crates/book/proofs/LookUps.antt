@@ -9,8 +9,9 @@ use lib.Seq.{getD-take}
 use native.Mathlib.Nat.{add-zero}
 use native.Mathlib.Omega.{arith}
 use Rattle.book.specs.Book.{lookup}
-use Rattle.book.specs.View.{entryView, entriesView, segmentsView, blankEntry, isNamed, indexFrom, foundView}
-use Rattle.book.specs.declared.Entry.{Entry}
+use Rattle.segment_record.specs.View.{entryView, blankEntry}
+use Rattle.book.specs.View.{entriesView, segmentsView, isNamed, indexFrom, foundView}
+use Rattle.segment_record.specs.declared.Entry.{Entry}
 use Rattle.book.specs.declared.Book.{Book}
 use Rattle.book.specs.declared.Found.{Found}
 

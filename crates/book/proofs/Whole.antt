@@ -15,13 +15,16 @@ use Rattle.wire.specs.Lists.{All, any, twice}
 use Rattle.wire.specs.declared.Verdict.{Verdict}
 use Rattle.fields.proofs.Sure.{sure-of}
 use Rattle.engine_value.specs.Engine.{maxSegments}
-use Rattle.book.specs.Book.{BookSegment, segmentRecord, records}
+use Rattle.segment_record.specs.Record.{BookSegment, segmentRecord}
+use Rattle.book.specs.Book.{records}
 use Rattle.book.specs.Table.{sameSegment, nidtpTwice, bookOf}
-use Rattle.book.specs.View.{entryView, segmentsView, bookView, blankEntry, BookRead, allRecords, Listed, refusedBook}
-use Rattle.book.proofs.Accepted.{SegmentFits, records-fit}
-use Rattle.book.specs.declared.Entry.{Entry}
+use Rattle.segment_record.specs.View.{entryView, blankEntry}
+use Rattle.book.specs.View.{segmentsView, bookView, BookRead, allRecords, Listed, refusedBook}
+use Rattle.segment_record.proofs.Accepted.{SegmentFits}
+use Rattle.book.proofs.Accepted.{records-fit}
+use Rattle.segment_record.specs.declared.Entry.{Entry}
 use Rattle.book.specs.declared.Book.{Book}
-use Rattle.book.proofs.Reading.{segment-takes}
+use Rattle.segment_record.proofs.Reading.{segment-takes}
 
 -- gs before the records that follow
 abbrev pub before : List BookSegment → Parse (List BookSegment) → Parse (List BookSegment)

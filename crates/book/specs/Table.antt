@@ -9,7 +9,8 @@ use Rattle.wire.specs.Judged.{Judged, thenJudge, row, _>>=_, _>>_}
 use Rattle.fields.specs.Parse.{read}
 use Rattle.wire.specs.Judged.Judged.{accept}
 use Rattle.engine_value.specs.Engine.{maxSegments}
-use Rattle.book.specs.Book.{BookPoint, BookSegment, records}
+use Rattle.segment_record.specs.Record.{BookPoint, BookSegment}
+use Rattle.book.specs.Book.{records}
 
 -- "8 a segment .. twice": NID_C and NID_SP together
 abbrev pub sameSegment : BookSegment → BookSegment → Bool

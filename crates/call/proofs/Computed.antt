@@ -2,7 +2,8 @@
 use Rattle.wire.specs.Numbers.{number, bytesOf}
 use Rattle.fields.specs.Parse.{field, bitMap, optional, many, counted, listed}
 use Rattle.event.specs.Events.{eventRows, eventWith, contentAmong, eventOfKind, eventOf}
-use Rattle.book.specs.Book.{bookPoint, zoneRecord, segmentRecord, records}
+use Rattle.segment_record.specs.Record.{bookPoint, zoneRecord, segmentRecord}
+use Rattle.book.specs.Book.{records}
 use Rattle.book.specs.Table.{bookOf}
 use Rattle.journey.specs.Journey.{nameRecord, pointRecord, headRecord, journeyRecord}
 use Rattle.route.specs.Placing.{placedAt, startAt, segmentOf, pointOf}

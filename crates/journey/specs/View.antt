@@ -20,7 +20,7 @@ use Rattle.journey.specs.declared.HeadRead.{HeadRead}
 use Rattle.journey.specs.declared.Listed.{Listed}
 use Rattle.journey.specs.declared.Names.{Names}
 use Rattle.journey.specs.declared.Points.{Points}
-use Rattle.engine_value.specs.Engine.{filled}
+use Rattle.engine_value.specs.Engine.{maxSegments, maxPoints, filled}
 
 abbrev pub nameView : List ℕ → NameRead → Parse Name
 nameView s (NameRead.Read n next) = good n (drop next s)
@@ -48,19 +48,19 @@ pub record ListRead {A : Type 0} (p : Reader A) (blank : A) (high : ℕ) (s l : 
   pub array : Fills blank high xs r
 
 abbrev pub NamesRead : List ℕ → ℕ → Names → Type 0
-NamesRead s at r = ListRead nameRecord blankName 40 s (drop at s) (r .names) (r .listed)
+NamesRead s at r = ListRead nameRecord blankName maxSegments s (drop at s) (r .names) (r .listed)
 
 abbrev pub PointsRead : List ℕ → ℕ → Points → Type 0
-PointsRead s at r = ListRead pointRecord blankJourneyPoint 64 s (drop at s) (r .points) (r .listed)
+PointsRead s at r = ListRead pointRecord blankJourneyPoint maxPoints s (drop at s) (r .points) (r .listed)
 
 -- ---- the whole journey
 
 -- the names and the points that the answer lists; safe for every value of the struct
 abbrev pub namesView : Journey → List Name
-namesView j = take (min (j .«name_count») 40) (j .names)
+namesView j = take (min (j .«name_count») maxSegments) (j .names)
 
 abbrev pub pointsView : Journey → List JourneyPoint
-pointsView j = take (min (j .«point_count») 64) (j .points)
+pointsView j = take (min (j .«point_count») maxPoints) (j .points)
 
 abbrev pub valueView : Journey → JourneyValue
 valueView j = record { head = j .head; names = namesView j; points = pointsView j }
@@ -71,13 +71,13 @@ journeyView j = thenJudge (verdictView (j .verdict)) (λ u. accept (valueView j)
 -- "Every refusal returns the number only"
 abbrev pub refusedJourney : ℕ → Journey
 refusedJourney n =
-    record { verdict = Verdict.Refused n; head = blankHead; «name_count» = 0; names = replicate 40 blankName; «point_count» = 0; points = replicate 64 blankJourneyPoint }
+    record { verdict = Verdict.Refused n; head = blankHead; «name_count» = 0; names = replicate maxSegments blankName; «point_count» = 0; points = replicate maxPoints blankJourneyPoint }
 
 -- the one answer for each outcome: nothing stands beside the values, or beside the number
 abbrev pub journeyHeld : Judged JourneyValue → Journey
 journeyHeld (refuse n) = refusedJourney n
 journeyHeld (accept v) =
-    record { verdict = Verdict.Accepted; head = v .head; «name_count» = length (v .names); names = filled 40 blankName (v .names); «point_count» = length (v .points); points = filled 64 blankJourneyPoint (v .points) }
+    record { verdict = Verdict.Accepted; head = v .head; «name_count» = length (v .names); names = filled maxSegments blankName (v .names); «point_count» = length (v .points); points = filled maxPoints blankJourneyPoint (v .points) }
 
 pub record JourneyRead (s : List ℕ) (r : Journey) : Type 0 where
   pub seen : journeyView r ≡ journeyValue s

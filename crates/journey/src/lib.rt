@@ -1,4 +1,9 @@
 // Journeys: read whole (9).
+use engine_value::MAX_NIDC;
+use engine_value::MAX_NIDTP;
+use engine_value::MAX_POINTS;
+use engine_value::MAX_SEGMENTS;
+use engine_value::NO_OPERATIONAL;
 use fields::Field;
 use fields::Width;
 use fields::read_field;
@@ -12,6 +17,22 @@ ghost use Rattle.wire.specs.Numbers.{bit};
 ghost use Rattle.fields.specs.Parse.{mapFits};
 ghost use Rattle.journey.specs.Journey.{nameRecord, pointRecord, headRecord};
 ghost use Rattle.journey.specs.View.{nameView, pointView, headView, NamesRead, PointsRead, refusedJourney, JourneyRead};
+
+// "date (2, 0-32,767)"
+const MAX_DATE: u32 = 32767;
+
+// "NID_ATOTS (2, 0-16,383; absent means 16,384)"
+const MAX_ATOTS: u32 = 16383;
+
+const NO_ATOTS: u32 = 16384;
+
+// "alignment (1: 0 front, 1 middle, 2 rear; absent means 0)"
+const FRONT: u32 = 0;
+
+const MAX_ALIGNMENT: u32 = 2;
+
+// "stopping data (1, 0-127; absent means 0)"
+const MAX_STOPPING: u32 = 127;
 
 // The name of a segment.
 pub struct Name {
@@ -44,9 +65,9 @@ pub struct Journey {
     pub verdict: Verdict,
     pub head: Head,
     pub name_count: u8,
-    pub names: [Name; 40],
+    pub names: [Name; MAX_SEGMENTS],
     pub point_count: u8,
-    pub points: [JourneyPoint; 64],
+    pub points: [JourneyPoint; MAX_POINTS],
 }
 
 // A value that was read and the position behind it.
@@ -73,18 +94,18 @@ enum Listed {
 
 struct Names {
     listed: Listed,
-    names: [Name; 40],
+    names: [Name; MAX_SEGMENTS],
 }
 
 struct Points {
     listed: Listed,
-    points: [JourneyPoint; 64],
+    points: [JourneyPoint; MAX_POINTS],
 }
 
 fn read_name(s: &[u8], at: usize) -> NameRead
     ensures { λ r. ⌜ nameView (now (s .entry)) r ≡ nameRecord (drop at (now (s .entry))) ⌝ }
 {
-    let Field::Value(c, a) = read_field(s, at, Width::Two, 0, 1023) else {
+    let Field::Value(c, a) = read_field(s, at, Width::Two, 0, MAX_NIDC) else {
         return NameRead::Bad;
     };
     let Field::Value(sp, next) = read_field(s, a, Width::Four, 0, 4294967295) else {
@@ -124,14 +145,21 @@ fn read_point(s: &[u8], at: usize) -> PointRead
         return PointRead::Bad;
     };
     if point_map(map) {
-        let Field::Value(tp, b) = read_field(s, a, Width::Four, 0, 4294967294) else {
+        let Field::Value(tp, b) = read_field(s, a, Width::Four, 0, MAX_NIDTP) else {
             return PointRead::Bad;
         };
         let Field::Value(index, d) = read_field(s, b, Width::One, 0, 255) else {
             return PointRead::Bad;
         };
-        let Field::Value(alignment, e) = read_optional(s, d, map / 4 % 2 == 1, 0, Width::One, 0, 2)
-        else {
+        let Field::Value(alignment, e) = read_optional(
+            s,
+            d,
+            map / 4 % 2 == 1,
+            FRONT,
+            Width::One,
+            0,
+            MAX_ALIGNMENT,
+        ) else {
             return PointRead::Bad;
         };
         let Field::Value(stopping, next) = read_optional(
@@ -141,7 +169,7 @@ fn read_point(s: &[u8], at: usize) -> PointRead
             0,
             Width::One,
             0,
-            127,
+            MAX_STOPPING,
         ) else {
             return PointRead::Bad;
         };
@@ -188,14 +216,14 @@ fn read_head(s: &[u8]) -> HeadRead
             s,
             a,
             map / 1 % 2 == 1,
-            4294967295,
+            NO_OPERATIONAL,
             Width::Four,
             0,
             4294967295,
         ) else {
             return HeadRead::Bad;
         };
-        let Field::Value(date, d) = read_field(s, b, Width::Two, 0, 32767) else {
+        let Field::Value(date, d) = read_field(s, b, Width::Two, 0, MAX_DATE) else {
             return HeadRead::Bad;
         };
         let Field::Value(seconds, e) = read_field(s, d, Width::Four, 0, 4294967295) else {
@@ -208,10 +236,10 @@ fn read_head(s: &[u8]) -> HeadRead
             s,
             f,
             map / 4 % 2 == 1,
-            16384,
+            NO_ATOTS,
             Width::Two,
             0,
-            16383,
+            MAX_ATOTS,
         ) else {
             return HeadRead::Bad;
         };
@@ -233,8 +261,8 @@ fn read_names(s: &[u8], at: usize) -> Names
     ensures { λ r. ⌜ NamesRead (now (s .entry)) at r ⌝ }
 {
     let blank = Name { nidc: 0, nidsp: 0 };
-    let mut names = [blank; 40];
-    let Field::Value(n, start) = read_field(s, at, Width::One, 1, 40) else {
+    let mut names = [blank; MAX_SEGMENTS];
+    let Field::Value(n, start) = read_field(s, at, Width::One, 1, MAX_SEGMENTS as u32) else {
         return Names {
             listed: Listed::Bad,
             names: names,
@@ -253,8 +281,9 @@ fn read_names(s: &[u8], at: usize) -> Names
         p = next;
         i += 1;
     }
+    let count = n as u8;
     Names {
-        listed: Listed::Read(n as u8, p),
+        listed: Listed::Read(count, p),
         names: names,
     }
 }
@@ -272,8 +301,8 @@ fn read_points(s: &[u8], at: usize) -> Points
         trackside: false,
         end: false,
     };
-    let mut points = [blank; 64];
-    let Field::Value(n, start) = read_field(s, at, Width::One, 1, 64) else {
+    let mut points = [blank; MAX_POINTS];
+    let Field::Value(n, start) = read_field(s, at, Width::One, 1, MAX_POINTS as u32) else {
         return Points {
             listed: Listed::Bad,
             points: points,
@@ -292,8 +321,9 @@ fn read_points(s: &[u8], at: usize) -> Points
         p = next;
         i += 1;
     }
+    let count = n as u8;
     Points {
-        listed: Listed::Read(n as u8, p),
+        listed: Listed::Read(count, p),
         points: points,
     }
 }
@@ -319,8 +349,8 @@ fn refused(number: u8) -> Journey
         counter: 0,
         atots: 0,
     };
-    let names = [name; 40];
-    let points = [point; 64];
+    let names = [name; MAX_SEGMENTS];
+    let points = [point; MAX_POINTS];
     Journey {
         verdict: Verdict::Refused(number),
         head: head,

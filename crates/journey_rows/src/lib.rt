@@ -1,4 +1,6 @@
 // What the rows 10 to 12 look at in a journey alone: names, indices, NID_TPs, End of Journey.
+use engine_value::MAX_POINTS;
+use engine_value::MAX_SEGMENTS;
 use journey::Journey;
 use journey::Name;
 ghost use mathlib.Core.Path.{_≡_};
@@ -7,23 +9,24 @@ ghost use lib.ListN.{length, drop, take};
 ghost use lib.Dec.{eqb};
 ghost use Rattle.wire.specs.Numbers.{flag};
 ghost use Rattle.wire.specs.Lists.{any, twice, falls};
+ghost use Rattle.engine_value.specs.Engine.{maxSegments, maxPoints};
 ghost use Rattle.journey.specs.View.{namesView, pointsView, valueView};
 ghost use Rattle.journey_rows.specs.Rows.{sameName, indexBeyond, nidtps, ends, indices, endingOf};
 ghost use Rattle.journey_rows.specs.View.{isNamed};
 
 // How many names there are; the caller learns the length of their array.
 pub fn name_count(j: Journey) -> usize
-    ensures { λ r. ⌜ (r ≡ min (j .«name_count») 40) × (length (j .names) ≡ 40) ⌝ }
+    ensures { λ r. ⌜ (r ≡ min (j .«name_count») maxSegments) × (length (j .names) ≡ maxSegments) ⌝ }
 {
     let n = j.name_count as usize;
-    if n < 40 { n } else { 40 }
+    if n < MAX_SEGMENTS { n } else { MAX_SEGMENTS }
 }
 
 pub fn point_count(j: Journey) -> usize
-    ensures { λ r. ⌜ (r ≡ min (j .«point_count») 64) × (length (j .points) ≡ 64) ⌝ }
+    ensures { λ r. ⌜ (r ≡ min (j .«point_count») maxPoints) × (length (j .points) ≡ maxPoints) ⌝ }
 {
     let n = j.point_count as usize;
-    if n < 64 { n } else { 64 }
+    if n < MAX_POINTS { n } else { MAX_POINTS }
 }
 
 fn is_named(n: Name, nidc: u16, nidsp: u32) -> bool
@@ -81,11 +84,11 @@ pub fn index_beyond(j: Journey) -> bool
 }
 
 // NID_TP of each point.
-fn nidtps_of(j: Journey) -> [u32; 64]
-    ensures { λ r. ⌜ take (min (j .«point_count») 64) r ≡ nidtps (pointsView j) ⌝ }
+fn nidtps_of(j: Journey) -> [u32; MAX_POINTS]
+    ensures { λ r. ⌜ take (min (j .«point_count») maxPoints) r ≡ nidtps (pointsView j) ⌝ }
 {
     let n = point_count(j);
-    let mut names = [0; 64];
+    let mut names = [0; MAX_POINTS];
     let mut i: usize = 0;
     while i < n {
         let p = j.points[i];

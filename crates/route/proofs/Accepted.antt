@@ -8,9 +8,11 @@ use native.Mathlib.Omega.{arith}
 use lib.Dec.{eqb}
 use Rattle.wire.specs.Lists.{All}
 use Rattle.wire.specs.Judged.Judged.{accept}
-use Rattle.book.specs.Book.{BookPoint, BookSegment, maxLength, maxReach, lookup, lookupPoint}
+use Rattle.segment_record.specs.Record.{BookPoint, BookSegment, maxLength, maxReach, lookupPoint}
+use Rattle.book.specs.Book.{lookup}
 use Rattle.book.specs.Table.{bookOf}
-use Rattle.book.proofs.Accepted.{PointFits, SegmentFits, book-fits}
+use Rattle.segment_record.proofs.Accepted.{PointFits, SegmentFits}
+use Rattle.book.proofs.Accepted.{book-fits}
 use Rattle.route.specs.Placing.{placeOn, reachOn}
 use Rattle.route.specs.View.{Limits, OnSome, Sound}
 

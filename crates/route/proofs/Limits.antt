@@ -12,7 +12,7 @@ use Rattle.wire.proofs.ListLaws.{tabulate-at, tabulate-length}
 use Rattle.wire.specs.Lists.{sum}
 use Rattle.engine_value.specs.Engine.{maxZones, blankSegment}
 use Rattle.engine_value.specs.declared.Segment.{Segment}
-use Rattle.book.specs.Book.{BookPoint, BookSegment, maxLength, maxReach, lookupPoint}
+use Rattle.segment_record.specs.Record.{BookPoint, BookSegment, maxLength, maxReach, lookupPoint}
 use Rattle.journey.specs.declared.Name.{Name}
 use Rattle.route.specs.View.{Limits, OnSome, Sound}
 use Rattle.route.specs.Placing.{recordOf, lengthOn, pointsOn, zonesOn, placedAt, startAt, segmentOf, nameAt, segmentAt, segmentsOf, placeOn, reachOn}

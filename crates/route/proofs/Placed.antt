@@ -16,11 +16,12 @@ use Rattle.wire.proofs.ListLaws.{one-more, any-false, any-same, map-same, map-a
 use Rattle.engine_value.specs.Engine.{blankSegment, blankPoint, filled}
 use Rattle.engine_value.specs.declared.Segment.{Segment}
 use Rattle.engine_value.specs.declared.Point.{Point}
-use Rattle.book.specs.Book.{BookPoint, BookSegment, lookupPoint, isSome}
-use Rattle.book.specs.View.{zoneOf, entryView, zonesView, blankEntry}
-use Rattle.book.proofs.Entries.{items-length}
-use Rattle.book.specs.declared.Entry.{Entry}
-use Rattle.book.specs.declared.Zones.{Zones}
+use Rattle.segment_record.specs.Record.{BookPoint, BookSegment, lookupPoint}
+use Rattle.book.specs.Book.{isSome}
+use Rattle.segment_record.specs.View.{zoneOf, entryView, zonesView, blankEntry}
+use Rattle.segment_record.proofs.ItemLaws.{items-length}
+use Rattle.segment_record.specs.declared.Entry.{Entry}
+use Rattle.segment_record.specs.declared.Zones.{Zones}
 use Rattle.journey.proofs.Filling.{filled-at, Filling, filling-none, filling-more, filling-end}
 use Rattle.journey.specs.Journey.{blankName, blankJourneyPoint, JourneyValue}
 use Rattle.journey.specs.View.{namesView, pointsView, valueView}

@@ -16,7 +16,7 @@ use Rattle.wire.proofs.ListLaws.{all-at, or-false}
 use Rattle.engine_value.specs.Engine.{max4, blankSegment, blankPoint}
 use Rattle.engine_value.specs.declared.Segment.{Segment}
 use Rattle.engine_value.specs.declared.Point.{Point}
-use Rattle.book.specs.Book.{BookPoint, BookSegment}
+use Rattle.segment_record.specs.Record.{BookPoint, BookSegment}
 use Rattle.book.specs.Table.{bookOf}
 use Rattle.journey.specs.Journey.{blankName, JourneyValue, journeyValue}
 use Rattle.journey.proofs.Filling.{filled-length, filled-at}

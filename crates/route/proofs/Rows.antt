@@ -16,7 +16,7 @@ use Rattle.engine_value.specs.Engine.{blankSegment, blankPoint, filled}
 use Rattle.engine_value.specs.declared.Segment.{Segment}
 use Rattle.engine_value.specs.declared.Point.{Point}
 use Rattle.engine_value.specs.declared.Load.{Load}
-use Rattle.book.specs.Book.{BookSegment}
+use Rattle.segment_record.specs.Record.{BookSegment}
 use Rattle.book.specs.Table.{bookOf}
 use Rattle.book.proofs.Accepted.{book-numbers}
 use Rattle.book.specs.View.{segmentsView, bookView}

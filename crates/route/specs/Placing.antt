@@ -10,7 +10,8 @@ use Rattle.engine_value.specs.Engine.{maxZones, blankZone, filled}
 use Rattle.engine_value.specs.declared.Zone.{Zone}
 use Rattle.engine_value.specs.declared.Segment.{Segment}
 use Rattle.engine_value.specs.declared.Point.{Point}
-use Rattle.book.specs.Book.{BookPoint, BookSegment, lookup, lookupPoint, isSome}
+use Rattle.segment_record.specs.Record.{BookPoint, BookSegment, lookupPoint}
+use Rattle.book.specs.Book.{lookup, isSome}
 use Rattle.journey.specs.Journey.{blankName, JourneyValue}
 use Rattle.journey.specs.declared.Name.{Name}
 use Rattle.journey.specs.declared.JourneyPoint.{JourneyPoint}

@@ -7,7 +7,7 @@ use Rattle.wire.specs.Judged.{Judged, thenJudge, _>>=_}
 use Rattle.wire.specs.Judged.Judged.{accept}
 use Rattle.engine_value.specs.Engine.{maxSegments, maxPoints, Route, blankSegment, blankPoint, filled}
 use Rattle.engine_value.specs.declared.Load.{Load}
-use Rattle.book.specs.Book.{BookSegment}
+use Rattle.segment_record.specs.Record.{BookSegment}
 use Rattle.book.specs.Table.{bookOf}
 use Rattle.journey.specs.Journey.{JourneyValue}
 use Rattle.journey.specs.declared.Head.{Head}

@@ -7,7 +7,8 @@ use Rattle.wire.specs.Lists.{any, those, twice, falls, strictlyRises}
 use Rattle.wire.specs.Judged.{Judged, thenJudge, row, _>>=_, _>>_}
 use Rattle.wire.specs.Judged.Judged.{accept}
 use Rattle.engine_value.specs.declared.Point.{Point}
-use Rattle.book.specs.Book.{BookSegment, isSome}
+use Rattle.segment_record.specs.Record.{BookSegment}
+use Rattle.book.specs.Book.{isSome}
 use Rattle.journey.specs.Journey.{JourneyValue, journeyValue}
 use Rattle.journey_rows.specs.Rows.{sameName, indexBeyond, nidtps, ends, indices}
 use Rattle.route.specs.Placing.{recordAt, recordPoint, pointsOf}

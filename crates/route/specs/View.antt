@@ -9,9 +9,10 @@ use Rattle.wire.specs.Judged.Judged.{refuse, accept}
 use Rattle.wire.specs.View.{verdictView}
 use Rattle.wire.specs.declared.Verdict.{Verdict}
 use Rattle.engine_value.specs.Engine.{maxSegments, maxPoints, maxZones, blankSegment, blankPoint, noLoad, filled}
-use Rattle.book.specs.Book.{BookPoint, BookSegment, maxLength, maxReach, lookup, lookupPoint}
-use Rattle.book.specs.View.{entryView, blankEntry}
-use Rattle.book.specs.declared.Entry.{Entry}
+use Rattle.segment_record.specs.Record.{BookPoint, BookSegment, maxLength, maxReach, lookupPoint}
+use Rattle.book.specs.Book.{lookup}
+use Rattle.segment_record.specs.View.{entryView, blankEntry}
+use Rattle.segment_record.specs.declared.Entry.{Entry}
 use Rattle.journey.specs.Journey.{blankHead, JourneyValue}
 use Rattle.journey.specs.declared.Name.{Name}
 use Rattle.route.specs.Placing.{recordOf, pointsOn, segmentsOf, placeOn, reachOn}

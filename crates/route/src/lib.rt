@@ -1,9 +1,11 @@
 // Journeys against a book (10 to 12), and what a load takes from both.
 use book::Book;
-use book::Entry;
 use book::Found;
-use book::PointFound;
 use engine_value::Load;
+use engine_value::MAX_POINTS;
+use engine_value::MAX_SEGMENTS;
+use engine_value::MAX_ZONES;
+use engine_value::NO_OPERATIONAL;
 use engine_value::Point;
 use engine_value::Segment;
 use engine_value::Zone;
@@ -11,6 +13,8 @@ use journey::Head;
 use journey::Journey;
 use journey::JourneyPoint;
 use journey::Name;
+use segment_record::Entry;
+use segment_record::PointFound;
 use wire::Verdict;
 ghost use mathlib.Core.Path.{_≡_};
 ghost use mathlib.Core.List.{List};
@@ -20,10 +24,12 @@ ghost use Prim.Native.Nat.{ℕ, _+_, _^_, _<_, min};
 ghost use lib.ListN.{length, take, replicate};
 ghost use lib.Dec.{eqb, ltb};
 ghost use Rattle.wire.specs.Numbers.{if_then_else_};
-ghost use Rattle.engine_value.specs.Engine.{blankSegment, blankPoint, filled};
+ghost use Rattle.engine_value.specs.Engine.{maxSegments, maxPoints, blankSegment, blankPoint, filled};
 ghost use Rattle.wire.specs.Lists.{twice, falls, strictlyRises};
-ghost use Rattle.book.specs.Book.{BookSegment, lookup, lookupPoint, isSome};
-ghost use Rattle.book.specs.View.{entryView, segmentsView, blankEntry, pointView};
+ghost use Rattle.segment_record.specs.Record.{BookSegment, lookupPoint};
+ghost use Rattle.book.specs.Book.{lookup, isSome};
+ghost use Rattle.segment_record.specs.View.{entryView, blankEntry, pointView};
+ghost use Rattle.book.specs.View.{segmentsView};
 ghost use Rattle.journey.specs.View.{namesView, pointsView, valueView};
 ghost use Rattle.route.specs.Placing.{segmentOf, placeOn, reachOn, pointOf, pointsOf};
 ghost use Rattle.journey_rows.specs.Rows.{indexBeyond, nidtps, ends, indices};
@@ -35,8 +41,8 @@ ghost use Rattle.route.specs.View.{refusedLoad, recordView, recordedEntr
 pub struct Loaded {
     pub verdict: Verdict,
     pub load: Load,
-    pub points: [Point; 64],
-    pub segments: [Segment; 40],
+    pub points: [Point; MAX_POINTS],
+    pub segments: [Segment; MAX_SEGMENTS],
     pub head: Head,
 }
 
@@ -48,22 +54,8 @@ enum Recorded {
 
 // The journey's segments, and beside each the book's entry, blank where there is none.
 struct Placing {
-    segments: [Segment; 40],
-    entries: [Entry; 40],
-}
-
-fn blank_entry() -> Entry
-    ensures { λ r. ⌜ r ≡ blankEntry ⌝ }
-{
-    Entry {
-        nidc: 0,
-        nidsp: 0,
-        length: 0,
-        points: 0,
-        points_at: 0,
-        zones: 0,
-        zones_at: 0,
-    }
+    segments: [Segment; MAX_SEGMENTS],
+    entries: [Entry; MAX_SEGMENTS],
 }
 
 fn record_of(b: Book, n: Name) -> Recorded
@@ -80,7 +72,7 @@ fn entry_in(r: Recorded) -> Entry
 {
     match r {
         Recorded::Record(e) => e,
-        Recorded::Missing => blank_entry(),
+        Recorded::Missing => segment_record::blank_entry(),
     }
 }
 
@@ -104,7 +96,7 @@ fn start_if(placed: bool, start: u32) -> u32
 fn booked_segment(s: &[u8], n: Name, placed: bool, start: u32, e: Entry) -> Segment
     ensures { λ r. ⌜ r ≡ segmentOf n placed start (some (entryView (now (s .entry)) e)) ⌝ }
 {
-    let z = book::zones_of(s, e);
+    let z = segment_record::zones_of(s, e);
     let zones = z.zones;
     let from = start_if(placed, start);
     Segment {
@@ -124,7 +116,7 @@ fn missing_segment(n: Name, placed: bool, start: u32) -> Segment
     ensures { λ r. ⌜ r ≡ segmentOf n placed start none ⌝ }
 {
     let zone = Zone { start: 0, end: 0 };
-    let zones = [zone; 4];
+    let zones = [zone; MAX_ZONES];
     let from = start_if(placed, start);
     Segment {
         nidc: n.nidc,
@@ -148,12 +140,12 @@ fn segment_of(s: &[u8], n: Name, placed: bool, start: u32, r: Recorded) -> Segme
 }
 
 fn blank_placing() -> Placing
-    ensures { λ r. ⌜ (r .segments ≡ replicate 40 blankSegment) × (r .entries ≡ replicate 40 blankEntry) ⌝ }
+    ensures { λ r. ⌜ (r .segments ≡ replicate maxSegments blankSegment) × (r .entries ≡ replicate maxSegments blankEntry) ⌝ }
 {
     let blank = engine_value::blank_segment();
-    let none = blank_entry();
-    let segments = [blank; 40];
-    let entries = [none; 40];
+    let none = segment_record::blank_entry();
+    let segments = [blank; MAX_SEGMENTS];
+    let entries = [none; MAX_SEGMENTS];
     Placing {
         segments: segments,
         entries: entries,
@@ -191,7 +183,7 @@ fn lacks(s: &[u8], g: Segment, e: Entry, nidtp: u32) -> bool
     if !g.booked {
         return false;
     }
-    match book::find_point(s, e, nidtp) {
+    match segment_record::find_point(s, e, nidtp) {
         PointFound::Found { place: _, reach: _ } => false,
         PointFound::Missing => true,
     }
@@ -268,20 +260,20 @@ fn point_of(p: JourneyPoint, g: Segment, f: PointFound) -> Point
 }
 
 // Each point of the journey by the segments.
-fn place_points(j: Journey, m: Placing, s: &[u8]) -> [Point; 64]
+fn place_points(j: Journey, m: Placing, s: &[u8]) -> [Point; MAX_POINTS]
     requires { ⌜ (indexBeyond (valueView j) ≡ false) × PlacesFit (now s) m ⌝ }
-    ensures { λ r. ⌜ ((book : List BookSegment) → PlacingRead (now (s .entry)) book (namesView j) m → r ≡ filled 64 blankPoint (pointsOf book (valueView j))) ⌝ }
+    ensures { λ r. ⌜ ((book : List BookSegment) → PlacingRead (now (s .entry)) book (namesView j) m → r ≡ filled maxPoints blankPoint (pointsOf book (valueView j))) ⌝ }
 {
     let n = journey_rows::point_count(j);
     let blank = engine_value::blank_point();
-    let mut points = [blank; 64];
+    let mut points = [blank; MAX_POINTS];
     let mut i: usize = 0;
     while i < n {
         let p = j.points[i];
         let k = p.index as usize;
         let g = m.segments[k];
         let e = m.entries[k];
-        let f = book::find_point(s, e, p.nidtp);
+        let f = segment_record::find_point(s, e, p.nidtp);
         let q = point_of(p, g, f);
         points[i] = q;
         i += 1;
@@ -307,12 +299,12 @@ fn least_after(p: Point, least: u64) -> u64
     least
 }
 
-fn place_falls(points: [Point; 64], n: usize) -> bool
-    ensures { λ r. ⌜ r ≡ not (strictlyRises (places (take (min n 64) points))) ⌝ }
+fn place_falls(points: [Point; MAX_POINTS], n: usize) -> bool
+    ensures { λ r. ⌜ r ≡ not (strictlyRises (places (take (min n maxPoints) points))) ⌝ }
 {
     let mut least: u64 = 0;
     let mut i: usize = 0;
-    while i < 64 {
+    while i < MAX_POINTS {
         if n <= i {
             return false;
         }
@@ -343,7 +335,7 @@ fn row_11(j: Journey, m: Placing, s: &[u8]) -> bool
 }
 
 // 12 refuses.
-fn row_12(j: Journey, points: [Point; 64]) -> bool
+fn row_12(j: Journey, points: [Point; MAX_POINTS]) -> bool
     ensures { λ r. ⌜ r ≡ (falls (indices (pointsView j)) || not (strictlyRises (places (take (length (pointsView j)) points)))) ⌝ }
 {
     if journey_rows::index_falls(j) {
@@ -374,11 +366,11 @@ fn refused(number: u8) -> Loaded
 {
     let point = engine_value::blank_point();
     let segment = engine_value::blank_segment();
-    let points = [point; 64];
-    let segments = [segment; 40];
+    let points = [point; MAX_POINTS];
+    let segments = [segment; MAX_SEGMENTS];
     let load = Load {
         valid: false,
-        operational: 4294967295,
+        operational: NO_OPERATIONAL,
         ending: 0,
         point_count: 0,
         segment_count: 0,

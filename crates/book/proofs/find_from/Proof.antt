@@ -1,6 +1,7 @@
-use Prim.Native.Nat.{ℕ, _+_, _-_, _<_, min}
-use lib.ListN.{length, drop, getD, length-map}
-use Rattle.book.specs.View.{entriesView, blankEntry, indexFrom}
+use Prim.Native.Nat.{_+_, _-_, min}
+use lib.ListN.{drop, getD}
+use Rattle.segment_record.specs.View.{blankEntry}
+use Rattle.book.specs.View.{entriesView, indexFrom}
 use mathlib.Core.Path.{_≡_, refl, _∙_, sym, ap}
 use native.Mathlib.Omega.{arith}
 use borrow.Author.Needs.{needs}
@@ -15,8 +16,8 @@ Inv-loop from nidc nidsp b n i₀ i = indexFrom nidc nidsp from (drop from (entr
 abbrev μ-loop : tie.MeasureT-loop
 μ-loop from nidc nidsp b n i₀ i = n - i
 
-count-of-requires : tie.Need-count-of-requires Inv-loop μ-loop
-count-of-requires c κs = search needs
+entry-count-requires : tie.Need-entry-count-requires Inv-loop μ-loop
+entry-count-requires c κs = search needs
 
 loop-holds : tie.Need-loop-holds Inv-loop μ-loop
 loop-holds c = refl
@@ -35,11 +36,8 @@ returns c =
     let a = c .before .before .before .before .before .before .args in
     let b = a .t1 in
     let i = c .before .before .before .before .loop .i in
-    let n : ℕ = min (b .count) 40 in
-    let long : length (b .entries) ≡ 40 = sym (length-map (b .entries) _) ∙ c .before .before .before .before .before .before .good .0 .1 .1 .1 .1 .0 .1 .0 .1 in
-    let h : i < n = omega (arith, c .before .before .before .before .before .count-of .ensures) in
     let e = getD (b .entries) i blankEntry in
-    let step = left-more blankEntry n i (b .entries) h (omega arith) in
+    let step = left-more blankEntry (min (b .count) 40) i (b .entries) (omega arith) (omega arith) in
     sym (c .before .before .before .before .loop .inv ∙ ap (indexFrom (a .nidc) (a .nidsp) i) step ∙ index-found (a .nidc) (a .nidsp) i e (drop (i + 1) (entriesView b)) (sym (c .before .is-named .ensures) ∙ c .if1 .taken))
 
 add-i : tie.Need-add-i Inv-loop μ-loop
@@ -53,18 +51,15 @@ loop-again c =
     let a = c .before .before .before .before .before .before .args in
     let b = a .t1 in
     let i = c .before .before .before .before .loop .i in
-    let n : ℕ = min (b .count) 40 in
-    let long : length (b .entries) ≡ 40 = sym (length-map (b .entries) _) ∙ c .before .before .before .before .before .before .good .0 .1 .1 .1 .1 .0 .1 .0 .1 in
-    let h : i < n = omega (arith, c .before .before .before .before .before .count-of .ensures) in
     let e = getD (b .entries) i blankEntry in
-    let step = left-more blankEntry n i (b .entries) h (omega arith) in
+    let step = left-more blankEntry (min (b .count) 40) i (b .entries) (omega arith) (omega arith) in
     c .before .before .before .before .loop .inv ∙ ap (indexFrom (a .nidc) (a .nidsp) i) step ∙ index-next (a .nidc) (a .nidsp) i e (drop (i + 1) (entriesView b)) (sym (c .before .is-named .ensures) ∙ c .if1 .left)
 
 returns-2 : tie.Need-returns-2 Inv-loop μ-loop
 returns-2 c =
     let a = c .before .before .before .args in
     let b = a .t1 in
-    sym (c .before .loop .inv ∙ ap (indexFrom (a .nidc) (a .nidsp) (c .before .loop .i)) (left-none blankEntry (min (b .count) 40) (c .before .loop .i) (b .entries) (omega (arith, c .before .before .count-of .ensures))))
+    sym (c .before .loop .inv ∙ ap (indexFrom (a .nidc) (a .nidsp) (c .before .loop .i)) (left-none blankEntry (min (b .count) 40) (c .before .loop .i) (b .entries) (omega arith)))
 
 pub find-from-spec : {M : Type 1} → statement M
 find-from-spec =
@@ -72,7 +67,7 @@ find-from-spec =
     (tie.spec
     Inv-loop
     μ-loop
-    count-of-requires
+    entry-count-requires
     loop-holds
     mul-e
     element-copy-out-e

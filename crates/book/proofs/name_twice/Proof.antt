@@ -4,7 +4,7 @@ use lib.ListN.{length, drop}
 use Rattle.wire.specs.Numbers.{number}
 use lib.Dec.{eqb}
 use Rattle.wire.specs.Lists.{twice}
-use Rattle.book.proofs.Entries.{items-length}
+use Rattle.segment_record.proofs.ItemLaws.{items-length}
 use borrow.Author.Needs.{needs}
 use Rattle.book.proofs.name_twice.Statement.{statement}
 use Rattle.book.proofs.name_twice.Tie as tie

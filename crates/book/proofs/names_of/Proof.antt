@@ -6,8 +6,8 @@ use lib.ListN.{length, drop, take, length-set}
 use native.Mathlib.Omega.{arith}
 use borrow.Author.Needs.{needs}
 use Rattle.wire.specs.Numbers.{number}
-use Rattle.book.specs.View.{items}
-use Rattle.book.proofs.Entries.{items-start, items-step, kept-more, kept-all}
+use Rattle.segment_record.specs.View.{items}
+use Rattle.segment_record.proofs.ItemLaws.{items-start, items-step, kept-more, kept-all}
 use Rattle.book.proofs.names_of.Statement.{statement}
 use Rattle.book.proofs.names_of.Tie as tie
 

@@ -1,16 +1,17 @@
-use Prim.Native.Nat.{ℕ, _-_, _<_, min}
+use Prim.Native.Nat.{_-_, min}
 use denote.Ref.{now}
 use mathlib.Core.Path.{_≡_, refl, _∙_, sym, ap}
 use mathlib.Core.List.{map}
-use lib.ListN.{length, drop, getD, length-map}
+use lib.ListN.{drop, getD}
 use native.Mathlib.Omega.{arith}
 use lib.Dec.{eqb}
 use lib.Seq.{getD-take}
 use Rattle.wire.specs.Lists.{any, twice}
 use Rattle.book.specs.Table.{nidtpTwice}
-use Rattle.book.specs.View.{entryView, entriesView, segmentsView, blankEntry}
+use Rattle.segment_record.specs.View.{entryView, blankEntry}
+use Rattle.book.specs.View.{entriesView, segmentsView}
 use Rattle.wire.proofs.ListLaws.{left-more, left-none, or-true-left, or-false-left}
-use Rattle.book.proofs.Entries.{names}
+use Rattle.segment_record.proofs.ItemLaws.{names}
 use borrow.Author.Needs.{needs}
 use Rattle.book.proofs.point_twice.Statement.{statement}
 use Rattle.book.proofs.point_twice.Tie as tie
@@ -21,8 +22,8 @@ Inv-loop s b n i₀ i = any nidtpTwice (segmentsView s b) ≡ any nidtpTwice (ma
 abbrev μ-loop : tie.MeasureT-loop
 μ-loop s b n i₀ i = n - i
 
-count-of-requires : tie.Need-count-of-requires Inv-loop μ-loop
-count-of-requires c κs = search needs
+entry-count-requires : tie.Need-entry-count-requires Inv-loop μ-loop
+entry-count-requires c κs = search needs
 
 loop-holds : tie.Need-loop-holds Inv-loop μ-loop
 loop-holds c = refl
@@ -41,8 +42,7 @@ name-twice-requires c κs =
     let a = c .before .before .before .before .before .args in
     let b = a .t2 in
     let w = c .before .before .loop in
-    let long : length (b .entries) ≡ 40 = sym (length-map (b .entries) _) ∙ c .before .before .before .before .before .good .1 .0 .1 .1 .1 .1 .0 .1 .0 .1 in
-    let e = getD-take (min (b .count) 40) (b .entries) (w .i) blankEntry (omega (arith, c .before .before .before .count-of .ensures)) in
+    let e = getD-take (min (b .count) 40) (b .entries) (w .i) blankEntry (omega arith) in
     rw e at (c .before .before .before .before .before .pre (w .i))
 
 returns : tie.Need-returns Inv-loop μ-loop
@@ -50,11 +50,8 @@ returns c =
     let a = c .before .before .before .before .before .before .before .args in
     let b = a .t2 in
     let i = c .before .before .before .before .loop .i in
-    let n : ℕ = min (b .count) 40 in
-    let long : length (b .entries) ≡ 40 = sym (length-map (b .entries) _) ∙ c .before .before .before .before .before .before .before .good .1 .0 .1 .1 .1 .1 .0 .1 .0 .1 in
-    let h : i < n = omega (arith, c .before .before .before .before .before .count-of .ensures) in
     let e = getD (b .entries) i blankEntry in
-    let step = left-more blankEntry n i (b .entries) h (omega arith) in
+    let step = left-more blankEntry (min (b .count) 40) i (b .entries) (omega arith) (omega arith) in
     let same = ap (twice eqb) (names (e .points) (drop (e .«points_at») (now (a .s)))) ∙ sym (c .before .name-twice .ensures) in
     sym (c .before .before .before .before .loop .inv ∙ ap (λ l. any nidtpTwice (map (entryView (now (a .s))) l)) step ∙ or-true-left _ _ (same ∙ c .if1 .taken))
 
@@ -66,11 +63,8 @@ loop-again c =
     let a = c .before .before .before .before .before .before .before .args in
     let b = a .t2 in
     let i = c .before .before .before .before .loop .i in
-    let n : ℕ = min (b .count) 40 in
-    let long : length (b .entries) ≡ 40 = sym (length-map (b .entries) _) ∙ c .before .before .before .before .before .before .before .good .1 .0 .1 .1 .1 .1 .0 .1 .0 .1 in
-    let h : i < n = omega (arith, c .before .before .before .before .before .count-of .ensures) in
     let e = getD (b .entries) i blankEntry in
-    let step = left-more blankEntry n i (b .entries) h (omega arith) in
+    let step = left-more blankEntry (min (b .count) 40) i (b .entries) (omega arith) (omega arith) in
     let same = ap (twice eqb) (names (e .points) (drop (e .«points_at») (now (a .s)))) ∙ sym (c .before .name-twice .ensures) in
     c .before .before .before .before .loop .inv ∙ ap (λ l. any nidtpTwice (map (entryView (now (a .s))) l)) step ∙ or-false-left _ _ (same ∙ c .if1 .left)
 
@@ -78,7 +72,7 @@ returns-2 : tie.Need-returns-2 Inv-loop μ-loop
 returns-2 c =
     let a = c .before .before .before .before .args in
     let b = a .t2 in
-    sym (c .before .loop .inv ∙ ap (λ l. any nidtpTwice (map (entryView (now (a .s))) l)) (left-none blankEntry (min (b .count) 40) (c .before .loop .i) (b .entries) (omega (arith, c .before .before .count-of .ensures))))
+    sym (c .before .loop .inv ∙ ap (λ l. any nidtpTwice (map (entryView (now (a .s))) l)) (left-none blankEntry (min (b .count) 40) (c .before .loop .i) (b .entries) (omega arith)))
 
 pub point-twice-spec : {M : Type 1} → statement M
 point-twice-spec =
@@ -86,7 +80,7 @@ point-twice-spec =
     (tie.spec
     Inv-loop
     μ-loop
-    count-of-requires
+    entry-count-requires
     loop-holds
     mul-e
     element-copy-out-e

@@ -6,8 +6,8 @@ use mathlib.Core.Logic.{⊎-elim}
 use lib.ListN.{length, set}
 use lib.Seq.{set-out}
 use native.Mathlib.Omega.{arith}
-use Rattle.book.specs.Book.{BookSegment}
-use Rattle.book.specs.View.{entryView, segmentView}
+use Rattle.segment_record.specs.Record.{BookSegment}
+use Rattle.segment_record.specs.View.{entryView, segmentView}
 use Rattle.book.proofs.Whole.{ReadTo, closer, read-start, read-step, read-bad, read-end}
 use borrow.Author.Needs.{needs}
 use Rattle.book.proofs.read_records.Statement.{statement}

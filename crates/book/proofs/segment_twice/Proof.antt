@@ -1,11 +1,12 @@
-use Prim.Native.Nat.{ℕ, _+_, _-_, _<_, min}
+use Prim.Native.Nat.{ℕ, _+_, _-_, min}
 use mathlib.Core.Path.{_≡_, refl, _∙_, sym, ap}
 use mathlib.Core.List.{List, map}
-use lib.ListN.{length, drop, getD, length-map}
+use lib.ListN.{drop, getD}
 use native.Mathlib.Omega.{arith}
 use Rattle.wire.specs.Lists.{twice}
 use Rattle.book.specs.Table.{sameSegment}
-use Rattle.book.specs.View.{entryView, entriesView, segmentsView, blankEntry}
+use Rattle.segment_record.specs.View.{entryView, blankEntry}
+use Rattle.book.specs.View.{entriesView, segmentsView}
 use Rattle.wire.proofs.ListLaws.{left-more, left-none, or-true-left, or-false-left}
 use Rattle.book.proofs.Entries.{same-named}
 use borrow.Author.Needs.{needs}
@@ -18,8 +19,8 @@ Inv-loop b n i₀ i = (s : List ℕ) → twice sameSegment (segmentsView s b) �
 abbrev μ-loop : tie.MeasureT-loop
 μ-loop b n i₀ i = n - i
 
-count-of-requires : tie.Need-count-of-requires Inv-loop μ-loop
-count-of-requires c κs = search needs
+entry-count-requires : tie.Need-entry-count-requires Inv-loop μ-loop
+entry-count-requires c κs = search needs
 
 loop-holds : tie.Need-loop-holds Inv-loop μ-loop
 loop-holds c = λ s. refl
@@ -41,11 +42,8 @@ returns c =
     let a = c .before .before .before .before .before .before .args in
     let b = a .t1 in
     let i = c .before .before .before .before .loop .i in
-    let n : ℕ = min (b .count) 40 in
-    let long : length (b .entries) ≡ 40 = sym (length-map (b .entries) _) ∙ c .before .before .before .before .before .before .good .0 .1 .1 .1 .1 .0 .1 .0 .1 in
-    let h : i < n = omega (arith, c .before .before .before .before .before .count-of .ensures) in
     let e = getD (b .entries) i blankEntry in
-    let step = left-more blankEntry n i (b .entries) h (omega arith) in
+    let step = left-more blankEntry (min (b .count) 40) i (b .entries) (omega arith) (omega arith) in
     λ s. sym (c .before .before .before .before .loop .inv s ∙ ap (λ l. twice sameSegment (map (entryView s) l)) step ∙ or-true-left _ (twice sameSegment (map (entryView s) (drop (i + 1) (entriesView b)))) (same-named s e (drop (i + 1) (entriesView b)) ∙ sym (c .before .has-from .ensures) ∙ c .if1 .taken))
 
 loop-less : tie.Need-loop-less Inv-loop μ-loop
@@ -56,17 +54,14 @@ loop-again c =
     let a = c .before .before .before .before .before .before .args in
     let b = a .t1 in
     let i = c .before .before .before .before .loop .i in
-    let n : ℕ = min (b .count) 40 in
-    let long : length (b .entries) ≡ 40 = sym (length-map (b .entries) _) ∙ c .before .before .before .before .before .before .good .0 .1 .1 .1 .1 .0 .1 .0 .1 in
-    let h : i < n = omega (arith, c .before .before .before .before .before .count-of .ensures) in
     let e = getD (b .entries) i blankEntry in
-    let step = left-more blankEntry n i (b .entries) h (omega arith) in
+    let step = left-more blankEntry (min (b .count) 40) i (b .entries) (omega arith) (omega arith) in
     λ s. c .before .before .before .before .loop .inv s ∙ ap (λ l. twice sameSegment (map (entryView s) l)) step ∙ or-false-left _ (twice sameSegment (map (entryView s) (drop (i + 1) (entriesView b)))) (same-named s e (drop (i + 1) (entriesView b)) ∙ sym (c .before .has-from .ensures) ∙ c .if1 .left)
 
 returns-2 : tie.Need-returns-2 Inv-loop μ-loop
 returns-2 c =
     let b = c .before .before .before .args .t1 in
-    λ s. sym (c .before .loop .inv s ∙ ap (λ l. twice sameSegment (map (entryView s) l)) (left-none blankEntry (min (b .count) 40) (c .before .loop .i) (b .entries) (omega (arith, c .before .before .count-of .ensures))))
+    λ s. sym (c .before .loop .inv s ∙ ap (λ l. twice sameSegment (map (entryView s) l)) (left-none blankEntry (min (b .count) 40) (c .before .loop .i) (b .entries) (omega arith)))
 
 pub segment-twice-spec : {M : Type 1} → statement M
 segment-twice-spec =
@@ -74,7 +69,7 @@ segment-twice-spec =
     (tie.spec
     Inv-loop
     μ-loop
-    count-of-requires
+    entry-count-requires
     loop-holds
     mul-e
     element-copy-out-e

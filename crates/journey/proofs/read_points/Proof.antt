@@ -17,6 +17,9 @@ Inv-loop s at points₀ n start p₀ i₀ points p i = ListTo pointRecord blankJ
 abbrev μ-loop : tie.MeasureT-loop
 μ-loop s at points₀ n start p₀ i₀ points p i = n - i
 
+cast-read-field : tie.Need-cast-read-field Inv-loop μ-loop
+cast-read-field c = search needs
+
 read-field-requires : tie.Need-read-field-requires Inv-loop μ-loop
 read-field-requires c κs = search needs
 
@@ -76,8 +79,8 @@ loop-again c =
     let e = sym (c .before .before .before .read-point .ensures) ∙ ap (pointView s) (c .before .point .given .1) in
     list-more pointRecord blankJourneyPoint 64 s _ _ _ _ _ (w .inv) _ _ (omega arith) e
 
-cast-t22 : tie.Need-cast-t22 Inv-loop μ-loop
-cast-t22 c = omega arith
+cast-count : tie.Need-cast-count Inv-loop μ-loop
+cast-count c = omega arith
 
 returns-3 : tie.Need-returns-3 Inv-loop μ-loop
 returns-3 c =
@@ -90,6 +93,7 @@ read-points-spec =
     (tie.spec
     Inv-loop
     μ-loop
+    cast-read-field
     read-field-requires
     enum-known-n
     enum-told
@@ -105,5 +109,5 @@ read-points-spec =
     add-i
     loop-less
     loop-again
-    cast-t22
+    cast-count
     returns-3)

@@ -1,8 +1,8 @@
 use denote.Ref.{now}
-use Rattle.book.specs.Book.{lookupPoint}
+use Rattle.segment_record.specs.Record.{lookupPoint}
 use mathlib.Core.Path.{sym, ap, _∙_}
 use borrow.Author.Tests.{not-true, not-false}
-use Rattle.book.specs.View.{entryView, pointView}
+use Rattle.segment_record.specs.View.{entryView, pointView}
 use Rattle.route.proofs.Placed.{unbooked-lacks, booked-lacks}
 use borrow.Author.Needs.{needs}
 use Rattle.route.proofs.lacks.Statement.{statement}

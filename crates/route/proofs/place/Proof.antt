@@ -6,7 +6,7 @@ use denote.Ref.{now}
 use lib.ListN.{length, length-take}
 use native.Mathlib.Omega.{arith}
 use borrow.Author.Needs.{needs}
-use Rattle.book.specs.Book.{BookSegment}
+use Rattle.segment_record.specs.Record.{BookSegment}
 use Rattle.book.specs.View.{segmentsView}
 use Rattle.journey.specs.Journey.{JourneyValue}
 use Rattle.journey.specs.View.{pointsView, valueView}

@@ -5,7 +5,7 @@ use native.Mathlib.Omega.{arith}
 use denote.Ref.{now}
 use borrow.Author.Needs.{needs}
 use Rattle.engine_value.specs.Engine.{blankSegment, blankPoint, filled}
-use Rattle.book.specs.View.{blankEntry}
+use Rattle.segment_record.specs.View.{blankEntry}
 use Rattle.journey.specs.View.{namesView, pointsView, valueView}
 use Rattle.journey.specs.Journey.{blankJourneyPoint}
 use Rattle.wire.proofs.ListLaws.{left-more, left-none, getD-there}

@@ -1,5 +1,5 @@
 use native.Mathlib.Omega.{arith}
-use Rattle.book.specs.View.{pointView}
+use Rattle.segment_record.specs.View.{pointView}
 use Rattle.route.proofs.Placed.{placed-point, unplaced-point}
 use borrow.Author.Needs.{needs}
 use Rattle.route.proofs.point_of.Statement.{statement}

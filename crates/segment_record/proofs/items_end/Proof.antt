@@ -4,10 +4,10 @@ use mathlib.Core.Path.{_≡_, _∙_, sym, ap}
 use lib.ListN.{drop}
 use native.Mathlib.Omega.{arith}
 use borrow.Author.Needs.{needs}
-use Rattle.book.specs.View.{item, skip, endsView}
-use Rattle.book.proofs.Reading.{skip-start, skip-step, skip-bad, skip-end}
-use Rattle.book.proofs.items_end.Statement.{statement}
-use Rattle.book.proofs.items_end.Tie as tie
+use Rattle.segment_record.specs.View.{item, skip, endsView}
+use Rattle.segment_record.proofs.Reading.{skip-start, skip-step, skip-bad, skip-end}
+use Rattle.segment_record.proofs.items_end.Statement.{statement}
+use Rattle.segment_record.proofs.items_end.Tie as tie
 
 abbrev Inv-loop : tie.InvT-loop
 Inv-loop s at n kind length p₀ i₀ p i = (i ≤ n) × (skip n (item kind length) (drop at s) ≡ skip (n - i) (item kind length) (drop p s))

@@ -5,11 +5,11 @@ use lib.ListN.{drop}
 use native.Mathlib.Omega.{arith}
 use borrow.Author.Needs.{needs}
 use Rattle.wire.specs.Numbers.{number}
-use Rattle.book.specs.Book.{lookupPoint}
-use Rattle.book.specs.View.{items, pointOf}
-use Rattle.book.proofs.Entries.{items-start, items-step, items-end, name-found, name-next, point-answer}
-use Rattle.book.proofs.find_point.Statement.{statement}
-use Rattle.book.proofs.find_point.Tie as tie
+use Rattle.segment_record.specs.Record.{lookupPoint}
+use Rattle.segment_record.specs.View.{items, pointOf}
+use Rattle.segment_record.proofs.ItemLaws.{items-start, items-step, items-end, name-found, name-next, point-answer}
+use Rattle.segment_record.proofs.find_point.Statement.{statement}
+use Rattle.segment_record.proofs.find_point.Tie as tie
 
 abbrev Inv-loop : tie.InvT-loop
 Inv-loop s nidtp n p₀ i₀ p i = (i ≤ n) × (lookupPoint nidtp (items pointOf 10 n (drop p₀ s)) ≡ lookupPoint nidtp (items pointOf 10 (n - i) (drop p s)))

@@ -1,10 +1,10 @@
 use denote.Ref.{now}
 use Rattle.engine_value.specs.Engine.{blankZone}
-use Rattle.book.specs.View.{entryView, zoneView, zonesView}
-use Rattle.book.proofs.Entries.{filled-four}
+use Rattle.segment_record.specs.View.{entryView, zoneView, zonesView}
+use Rattle.segment_record.proofs.ItemLaws.{filled-four}
 use borrow.Author.Needs.{needs}
-use Rattle.book.proofs.zones_of.Statement.{statement}
-use Rattle.book.proofs.zones_of.Tie as tie
+use Rattle.segment_record.proofs.zones_of.Statement.{statement}
+use Rattle.segment_record.proofs.zones_of.Tie as tie
 
 zone-in-requires : tie.Need-zone-in-requires
 zone-in-requires c κs = search needs

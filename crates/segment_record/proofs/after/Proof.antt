@@ -1,10 +1,10 @@
 use denote.Ref.{now}
 use mathlib.Core.Path.{sym}
 use lib.Seq.{drop-drop}
-use Rattle.book.proofs.Entries.{after-past, after-end}
+use Rattle.segment_record.proofs.ItemLaws.{after-past, after-end}
 use borrow.Author.Needs.{needs}
-use Rattle.book.proofs.after.Statement.{statement}
-use Rattle.book.proofs.after.Tie as tie
+use Rattle.segment_record.proofs.after.Statement.{statement}
+use Rattle.segment_record.proofs.after.Tie as tie
 
 returns : tie.Need-returns
 returns c = let a = c .before .args in after-past (now (a .s)) (a .p) (a .k) (c .if1 .taken)

@@ -4,11 +4,11 @@ use mathlib.Core.Path.{_∙_, sym, ap}
 use lib.ListN.{drop}
 use Rattle.engine_value.specs.Engine.{blankZone}
 use Rattle.wire.specs.Numbers.{number}
-use Rattle.book.specs.View.{zoneOf, zoneView}
-use Rattle.book.proofs.Entries.{items-at, items-past, zone-answer}
+use Rattle.segment_record.specs.View.{zoneOf, zoneView}
+use Rattle.segment_record.proofs.ItemLaws.{items-at, items-past, zone-answer}
 use borrow.Author.Needs.{needs}
-use Rattle.book.proofs.zone_in.Statement.{statement}
-use Rattle.book.proofs.zone_in.Tie as tie
+use Rattle.segment_record.proofs.zone_in.Statement.{statement}
+use Rattle.segment_record.proofs.zone_in.Tie as tie
 
 mul-after : tie.Need-mul-after
 mul-after c = search needs

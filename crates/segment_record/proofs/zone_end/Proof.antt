@@ -1,10 +1,10 @@
 use denote.Ref.{now}
 use mathlib.Core.Path.{_∙_, sym, ap}
 use Rattle.fields.specs.View.{fieldView}
-use Rattle.book.specs.Book.{zoneRecord}
+use Rattle.segment_record.specs.Record.{zoneRecord}
 use borrow.Author.Needs.{needs}
-use Rattle.book.proofs.zone_end.Statement.{statement}
-use Rattle.book.proofs.zone_end.Tie as tie
+use Rattle.segment_record.proofs.zone_end.Statement.{statement}
+use Rattle.segment_record.proofs.zone_end.Tie as tie
 
 read-field-requires : tie.Need-read-field-requires
 read-field-requires c κs = search needs

@@ -1,8 +1,8 @@
 use borrow.Author.Tests.{eq-eqb, ne-eqb}
 use mathlib.Core.Bool.{and-false}
 use borrow.Author.Needs.{needs}
-use Rattle.book.proofs.segment_map.Statement.{statement}
-use Rattle.book.proofs.segment_map.Tie as tie
+use Rattle.segment_record.proofs.segment_map.Statement.{statement}
+use Rattle.segment_record.proofs.segment_map.Tie as tie
 
 returns : tie.Need-returns
 returns c = rw (ne-eqb _ _ (c .if1 .taken))

@@ -3,11 +3,11 @@ use mathlib.Core.Path.{_∙_, sym, ap}
 use native.Mathlib.Omega.{arith}
 use Rattle.fields.specs.View.{fieldView}
 use Rattle.fields.proofs.ReaderLaws.{field-inv}
-use Rattle.book.specs.View.{extent, endsView}
-use Rattle.book.proofs.Reading.{most-small}
+use Rattle.segment_record.specs.View.{extent, endsView}
+use Rattle.segment_record.proofs.Reading.{most-small}
 use borrow.Author.Needs.{needs}
-use Rattle.book.proofs.read_items.Statement.{statement}
-use Rattle.book.proofs.read_items.Tie as tie
+use Rattle.segment_record.proofs.read_items.Statement.{statement}
+use Rattle.segment_record.proofs.read_items.Tie as tie
 
 most-of-requires : tie.Need-most-of-requires
 most-of-requires c κs = search needs

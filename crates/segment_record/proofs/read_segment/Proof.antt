@@ -7,12 +7,12 @@ use Rattle.wire.specs.Numbers.{bit}
 use Rattle.fields.specs.View.{fieldView}
 use Rattle.fields.specs.Parse.{bitMap}
 use Rattle.fields.proofs.ReaderLaws.{field-inv}
-use Rattle.book.specs.Book.{bookPoint, zoneRecord, segmentRecord}
-use Rattle.book.specs.View.{pointOf, zoneOf, itemsView}
-use Rattle.book.proofs.Reading.{point-fixed, zone-fixed, listed-extent}
+use Rattle.segment_record.specs.Record.{bookPoint, zoneRecord, segmentRecord}
+use Rattle.segment_record.specs.View.{pointOf, zoneOf, itemsView}
+use Rattle.segment_record.proofs.Reading.{point-fixed, zone-fixed, listed-extent}
 use borrow.Author.Needs.{needs}
-use Rattle.book.proofs.read_segment.Statement.{statement}
-use Rattle.book.proofs.read_segment.Tie as tie
+use Rattle.segment_record.proofs.read_segment.Statement.{statement}
+use Rattle.segment_record.proofs.read_segment.Tie as tie
 
 read-field-requires : tie.Need-read-field-requires
 read-field-requires c κs = search needs

@@ -1,11 +1,11 @@
 use denote.Ref.{now}
 use mathlib.Core.Path.{_∙_, sym, ap}
 use lib.ListN.{drop}
-use Rattle.book.specs.View.{item}
-use Rattle.book.specs.declared.Kind.{Kind}
+use Rattle.segment_record.specs.View.{item}
+use Rattle.segment_record.specs.declared.Kind.{Kind}
 use borrow.Author.Needs.{needs}
-use Rattle.book.proofs.item_end.Statement.{statement}
-use Rattle.book.proofs.item_end.Tie as tie
+use Rattle.segment_record.proofs.item_end.Statement.{statement}
+use Rattle.segment_record.proofs.item_end.Tie as tie
 
 enum-told : tie.Need-enum-told
 enum-told c = search needs

@@ -12,10 +12,10 @@ use Rattle.wire.specs.Numbers.{number, bit}
 use Rattle.fields.specs.Parse.{Parse, Reader, andThen, field, free, mapFits, bitMap, many, counted, listed, must, give}
 use Rattle.fields.specs.Parse.Parse.{bad, good}
 use Rattle.fields.proofs.ReaderLaws.{then-inv, FieldRead, field-inv}
-use Rattle.book.specs.Book.{BookPoint, maxLength, maxRecordPoints, maxReach, bookPoint, zoneRecord, segmentRecord}
-use Rattle.book.specs.View.{items, pointOf, zoneOf, bare, bareReader, skip, most, Extent, extent}
-use Rattle.book.specs.declared.Kind.{Kind}
-use Rattle.book.specs.declared.Kind.the-variants.{Points, Zones}
+use Rattle.segment_record.specs.Record.{BookPoint, maxLength, maxRecordPoints, maxReach, bookPoint, zoneRecord, segmentRecord}
+use Rattle.segment_record.specs.View.{items, pointOf, zoneOf, bare, bareReader, skip, most, Extent, extent}
+use Rattle.segment_record.specs.declared.Kind.{Kind}
+use Rattle.segment_record.specs.declared.Kind.the-variants.{Points, Zones}
 
 -- the turns of a loop that passes over n items: i of them are behind
 module _ (p : Reader (Unit {0})) (n : ℕ) where

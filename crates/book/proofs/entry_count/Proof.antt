@@ -1,0 +1,22 @@
+use mathlib.Core.Path.{_≡_, sym, _∙_}
+use lib.ListN.{length, length-map}
+use native.Mathlib.Omega.{arith}
+use borrow.Author.Needs.{needs}
+use Rattle.book.proofs.entry_count.Statement.{statement}
+use Rattle.book.proofs.entry_count.Tie as tie
+
+-- the array's length, which owning the parameter tells
+long : (c : tie.Start) → length (c .args .b .entries) ≡ 40
+long c = sym (length-map (c .args .b .entries) _) ∙ c .good .0 .1 .1 .1 .1 .0 .1 .0 .1
+
+cast-n : tie.Need-cast-n
+cast-n c = search needs
+
+returns : tie.Need-returns
+returns c = (omega arith, long (c .before .before))
+
+returns-2 : tie.Need-returns-2
+returns-2 c = (omega arith, long (c .before .before))
+
+pub entry-count-spec : {M : Type 1} → statement M
+entry-count-spec = tie.close (tie.spec cast-n returns returns-2)

@@ -1,0 +1,3 @@
+pub mod Reading
+pub mod ItemLaws
+pub mod Accepted
