@@ -30,10 +30,6 @@ maxNidc = 1023
 abbrev pub maxNidtp : ℕ
 maxNidtp = 4294967294
 
--- of packet 65: "NID_C (1,024 unless the position is known)"
-abbrev pub unknownNidc : ℕ
-unknownNidc = 1024
-
 -- "offset (4; 16,777,215 undefined, none higher)"
 abbrev pub undefined : ℕ
 undefined = 16777215

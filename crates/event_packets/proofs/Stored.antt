@@ -8,7 +8,8 @@ use lib.Dec.{eqb}
 use lib.Seq.{sets}
 use native.Mathlib.Omega.{arith}
 use Rattle.wire.specs.Numbers.{flag, if_then_else_}
-use Rattle.engine_value.specs.Engine.{Route, routeIn, progress, unknownNidc}
+use Rattle.engine_value.specs.Engine.{Route, routeIn, progress}
+use Rattle.packets.specs.Layouts.{unknownNidc}
 use Rattle.engine_value.specs.declared.Load.{Load}
 use Rattle.engine_value.specs.declared.Point.{Point}
 use Rattle.engine_value.specs.declared.Progress.{Progress}
@@ -16,7 +17,7 @@ use Rattle.engine_value.specs.declared.Position.{Position}
 use Rattle.engine_value.specs.declared.Engine.{Engine}
 use Rattle.packets.specs.Packets.{packetBytes, joined, sizeOf}
 use Rattle.packets.proofs.PacketLaws.{length-packetBytes, joined-append, length-one}
-use Rattle.packet_writer.proofs.Stores.{sets-more}
+use Rattle.wire.proofs.NumberLaws.{sets-more}
 use Rattle.packets.specs.declared.Header.{Header}
 use Rattle.packets.specs.declared.Packet.{Packet}
 use Rattle.journey.specs.declared.Head.{Head}

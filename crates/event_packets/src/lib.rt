@@ -16,7 +16,8 @@ ghost use Prim.Native.Nat.{_-_, _≤_};
 ghost use lib.Dec.{eqb};
 ghost use lib.Seq.{sets};
 ghost use Rattle.wire.specs.Numbers.{flag, if_then_else_};
-ghost use Rattle.engine_value.specs.Engine.{routeIn, unknownNidc};
+ghost use Rattle.engine_value.specs.Engine.{routeIn};
+ghost use Rattle.packets.specs.Layouts.{unknownNidc};
 ghost use Rattle.packets.specs.Packets.{joined};
 ghost use Rattle.position.specs.Position.{point, known};
 ghost use Rattle.timing.specs.Changes.{change, passings, statusStopped};
@@ -133,7 +134,7 @@ fn country(e: Engine) -> u16
     if is_known(e) {
         e.train.position.nidc
     } else {
-        packets::NIDC_UNKNOWN
+        packets::UNKNOWN_NIDC
     }
 }
 

@@ -63,10 +63,14 @@ timingPointOf h v =
 abbrev pub kind62 : PacketKind
 kind62 = record { number = 62; content = content62; between = stoppingAllowed; packet = λ h v. Packet.TimingPoint (timingPointOf h v) }
 
+-- of packet 65: "NID_C (1,024 unless the position is known)"
+abbrev pub unknownNidc : ℕ
+unknownNidc = 1024
+
 -- "65 ..: NID_C (..), NID_ATOTS, date, seconds, counter, status 0." Their widths are SUBSET-140's, Table 8: 2, 2, 2, 4, 1, 1.
 abbrev pub content65 : Layout
 content65 =
-    field "NID_C" 2 (upTo 1024)
+    field "NID_C" 2 (upTo unknownNidc)
     ∷ field "NID_ATOTS" 2 (upTo 16384)
     ∷ field "date" 2 (upTo 32767)
     ∷ field "seconds" 4 free

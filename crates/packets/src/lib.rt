@@ -67,7 +67,7 @@ pub const JP_RECEIVED_SIZE: usize = 29;
 pub const ATO_STATUS_SIZE: usize = 19;
 
 // NID_C in the content of 65 where the position is not known.
-pub const NIDC_UNKNOWN: u16 = 1024;
+pub const UNKNOWN_NIDC: u16 = 1024;
 
 // The highest values of the fields that are not free.
 const NIDC_MAX: u16 = 1023;
@@ -149,7 +149,7 @@ fn jp_received_fits(p: JpReceived) -> bool
     ensures { λ r. ⌜ r ≡ packetFits (Packet.JpReceived p) ⌝ }
 {
     header_fits(p.header)
-        & (p.nidc <= NIDC_UNKNOWN)
+        & (p.nidc <= UNKNOWN_NIDC)
         & (p.atots <= ATOTS_MAX)
         & (p.date <= DATE_MAX)
         & (p.status == 0)

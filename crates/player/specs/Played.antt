@@ -1,23 +1,14 @@
 -- The events of the input, one after the other, each with the engine and the output memory that the one before it left.
 use Prim.Native.Nat.{ℕ, zero, suc}
-use mathlib.Core.Path.{_≡_}
 use mathlib.Core.List.{List}
 use Rattle.fields.specs.Parse.{Parse}
 use Rattle.fields.specs.Parse.Parse.{bad, good}
 use Rattle.engine_value.specs.declared.Engine.{Engine}
-use Rattle.call.specs.Call.{Call, Outcome, stepOf}
+use Rattle.call.specs.Call.{Call, stepOf}
 use Rattle.player_text.specs.Calls.{Given, call}
-use Rattle.player_text.specs.Lines.{lines, Put}
-use Rattle.player.specs.declared.Played.{Played}
 
 abbrev pub lent : Given → List ℕ → Call
 lent g m = record { event = g .event; journey = g .journey; book = g .book; memory = m }
-
--- one event: its outcome, with its lines in a text that was `before`
-pub record Plays (o : Outcome) (before : List ℕ) (at : ℕ) (r : Played) (memory after : List ℕ) : Type 0 where
-  pub engine : r .engine ≡ o .engine
-  pub output : memory ≡ o .memory
-  pub text : Put before at (lines (o .answer) (o .memory)) after (r .at)
 
 -- what a run leaves: the engine, the output memory, and the input from the first event on that is cut short
 pub record Left : Type 0 where

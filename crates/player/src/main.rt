@@ -3,8 +3,10 @@ ghost use Prim.Native.Nat.{_+_, _≤_};
 ghost use mathlib.Core.Path.{_≡_};
 ghost use lib.ListN.{length, take, drop};
 ghost use Rattle.call.specs.Call.{stepOf};
-ghost use Rattle.player_text.specs.Calls.{givenIn};
-ghost use Rattle.player.specs.Played.{lent, Plays, left};
+ghost use Rattle.player_text.specs.Lines.{mostLines};
+ghost use Rattle.player_text.specs.View.{givenView};
+ghost use Rattle.player.specs.Played.{lent, left};
+ghost use Rattle.player.specs.View.{Plays};
 ghost use Rattle.player.specs.Played.{run as Played·run};
 use engine_value::Engine;
 use player_text::calls;
@@ -14,6 +16,15 @@ use player_text::lines;
 use player_text::parts;
 use player_text::parts::Part;
 
+// An event with its profiles has 196,611 bytes at most (`call-there` of player_text/proofs/Room.antt), so that there is always room to read on.
+const INPUT: usize = 262144;
+
+// "It lends 4,096 output bytes"
+const MEMORY: usize = 4096;
+
+// The lines of some events.
+const TEXT: usize = 65536;
+
 // An engine, and a position.
 struct Played {
     engine: Engine,
@@ -22,7 +33,7 @@ struct Played {
 
 // One event: the engine after it, and the position behind its lines in the text.
 fn play(e: Engine, s: &[u8], c: Call, memory: &mut [u8], text: &mut [u8], at: usize) -> Played
-    ensures { λ r. ⌜ Plays (stepOf e (lent (givenIn (now (s .entry)) c) (now (memory .entry)))) (now (text .entry)) at r (now (memory .exit)) (now (text .exit)) ⌝ }
+    ensures { λ r. ⌜ Plays (stepOf e (lent (givenView (now (s .entry)) c) (now (memory .entry)))) (now (text .entry)) at r (now (memory .exit)) (now (text .exit)) ⌝ }
 {
     let event = parts::bytes_of(s, c.event);
     let journey = parts::bytes_of(s, c.journey);
@@ -42,12 +53,12 @@ fn flush(text: &[u8], used: usize) {
     io::write_all(libc::STDOUT_FILENO, parts::front(text, used));
 }
 
-// The lines of an event, 16,384 bytes at most (`lines-fit` of player_text/proofs/Room.antt), fit behind the text, or else it is written out first.
+// The lines of an event fit behind the text, or else it is written out first.
 fn with_room(text: &[u8], used: usize) -> usize
-    ensures { λ r. ⌜ (16384 ≤ length (now (text .entry)) → r + 16384 ≤ length (now (text .entry))) ⌝ }
+    ensures { λ r. ⌜ (mostLines ≤ length (now (text .entry)) → r + mostLines ≤ length (now (text .entry))) ⌝ }
 {
     if used < text.len() {
-        if 16384 <= text.len() - used {
+        if lines::MOST_LINES <= text.len() - used {
             return used;
         }
     }
@@ -111,10 +122,9 @@ fn run(input: &mut [u8], memory: &mut [u8], text: &mut [u8]) {
     }
 }
 
-// An event with its profiles has 196,611 bytes at most (`call-there` of player_text/proofs/Room.antt), so that there is always room to read on.
 fn main() {
-    let mut input = [0u8; 262144];
-    let mut memory = [0u8; 4096];
-    let mut text = [0u8; 65536];
+    let mut input = [0u8; INPUT];
+    let mut memory = [0u8; MEMORY];
+    let mut text = [0u8; TEXT];
     run(&mut input, &mut memory, &mut text);
 }

@@ -6,27 +6,22 @@ use mathlib.Core.Bool.{Bool, true, false, cond}
 use lib.ListN.{length, take, drop, set, getD, length-append, length-set, length-take, length-drop, drop-of-length-le}
 use lib.Seq.{sets, length-sets, take-all, take-suc, take-suc-set, drop-set-lt, drop-drop, getD-drop}
 use lib.Dec.{leb, eqb}
-use native.Mathlib.Nat.{add-zero, add-suc, suc-add}
 use native.Mathlib.Numerals.{add-one}
 use native.Mathlib.Omega.{arith}
 use borrow.Author.Tests.{leb-true, leb-false, le-leb, lt-leb, lt-ltb, le-ltb}
 use mir.Val.{boolByte}
 use Rattle.wire.specs.Numbers.{number, flag}
-use Rattle.wire.proofs.NumberLaws.{sets-past}
+use Rattle.wire.proofs.NumberLaws.{sets-past, sets-more}
 use Rattle.fields.specs.Parse.{field}
 use Rattle.fields.specs.Parse.Parse.{bad, good}
 use Rattle.fields.proofs.ReaderLaws.{field-short, field-good, field-inv, then-inv, cond-good}
 use Rattle.packets.specs.Packets.{frontSize}
 use Rattle.packets.proofs.Cutting.{cut-none, cut-first}
 use Rattle.player_text.specs.Calls.{Given, some, block, profiles, call}
-use Rattle.player_text.specs.Lines.{Put, decimal, hex, hexByte, hexLine, hexLines, packetText}
+use Rattle.player_text.specs.Lines.{zeroSign, decimal, hex, hexByte, hexLine, hexLines, packetText}
+use Rattle.player_text.specs.View.{Put}
 
 -- ---- texts
-
--- the rest of a list is stored behind its front
-sets-append : (l m t : List ℕ) (i : ℕ) → sets t i (l ++ m) ≡ sets (sets t i l) (i + length l) m
-sets-append [] m t i = rw add-zero
-sets-append (a ∷ l) m t i = let e : i + length (a ∷ l) ≡ suc i + length l = rw (add-suc, suc-add) in rw e (sets-append l m (set t i a) (suc i))
 
 pub put-none : (t : List ℕ) (i : ℕ) → Put t i [] t i
 put-none t i = record { stored = refl; behind = omega arith }
@@ -48,7 +43,7 @@ module _ {t u v : List ℕ} {i j k : ℕ} (l m : List ℕ) (p : Put t i l u j) (
 
   pub put-then : Put t i (l ++ m) v k
   put-then = record {
-    stored = q .stored ∙ stored-then _ refl ∙ ap (λ (x : List ℕ). sets x (i + length l) m) (p .stored) ∙ sym (sets-append l m t i);
+    stored = q .stored ∙ stored-then _ refl ∙ ap (λ (x : List ℕ). sets x (i + length l) m) (p .stored) ∙ sets-more l m t i;
     behind = rw length-append (omega (arith, p .behind, q .behind, put-length p));
   }
 
@@ -168,12 +163,12 @@ unfolding hex
 hex-more s i h = rw (add-one, take-suc s i 0 h, hex-append)
 
 -- the digits of n by case
-pub digits-last : (k n : ℕ) → (k ≡ 0 → ⊥) → n < 10 → (48 + n % 10) ∷ [] ≡ decimal k n
+pub digits-last : (k n : ℕ) → (k ≡ 0 → ⊥) → n < 10 → (zeroSign + n % 10) ∷ [] ≡ decimal k n
 unfolding decimal
 digits-last zero n ne h = absurd (ne refl)
 digits-last (suc k) n ne h = rw (lt-ltb n 10 h)
 
-pub digits-more : (k n : ℕ) → (k ≡ 0 → ⊥) → 10 ≤ n → decimal (k - 1) (n / 10) ++ ((48 + n % 10) ∷ []) ≡ decimal k n
+pub digits-more : (k n : ℕ) → (k ≡ 0 → ⊥) → 10 ≤ n → decimal (k - 1) (n / 10) ++ ((zeroSign + n % 10) ∷ []) ≡ decimal k n
 unfolding decimal
 digits-more zero n ne h = absurd (ne refl)
 digits-more (suc k) n ne h = let e : suc k - 1 ≡ k = omega arith in rw (le-ltb n 10 h, e)

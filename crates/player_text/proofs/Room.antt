@@ -1,10 +1,10 @@
 -- The sizes of the buffers: what an event prints fits 16,384 bytes, and an event with its profiles 196,611.
 use Prim.Native.Nat.{ℕ, zero, suc, _+_, _*_, _/_, _≤_, _<_}
-use mathlib.Core.Path.{_≡_, refl, _∙_}
-use mathlib.Core.List.{List, [], _∷_, _++_}
+use mathlib.Core.Path.{_≡_, refl}
+use mathlib.Core.List.{List, [], _∷_}
 use mathlib.Core.Bool.{Bool, true, false, cond}
 use lib.ListN.{length, take, drop, length-append, length-take, length-drop}
-use lib.Seq.{sets-eq, getD-drop}
+use lib.Seq.{getD-drop}
 use lib.Dec.{ltb, eqb}
 use native.Mathlib.Omega.{arith}
 use borrow.Author.Tests.{le-leb}
@@ -17,14 +17,11 @@ use Rattle.fields.specs.Parse.Parse.{good}
 use Rattle.fields.proofs.ReaderLaws.{field-good}
 use Rattle.packets.specs.Packets.{frontSize, cut, cutPackets}
 use Rattle.packets.proofs.Cutting.{front-some}
+use Rattle.event.specs.Kinds.{kindOf}
+use Rattle.event.specs.declared.Event.the-variants.{Load}
 use Rattle.call.specs.Call.{Accepted}
 use Rattle.player_text.specs.Calls.{Given, some, block, profiles, call}
-use Rattle.player_text.specs.Lines.{hex, hexLines, decimal, lines, Put}
-
--- where there is room, a list stands whole at its position
-pub put-whole : {t u : List ℕ} {i j : ℕ} (l : List ℕ) → Put t i l u j → i + length l ≤ length t
-    → (u ≡ take i t ++ l ++ drop (i + length l) t) × (j ≡ i + length l)
-put-whole {t} {u} {i} {j} l p h = (p .stored ∙ sets-eq l t i h, omega (arith, p .behind))
+use Rattle.player_text.specs.Lines.{hex, hexLines, decimal, mostDigits, lines, outputBytes, mostLines}
 
 -- ---- lines
 
@@ -52,14 +49,14 @@ length-packets (suc k) (b ∷ l) =
     let rest = simp length-drop at (length-packets k (drop n (b ∷ l))) in
     rw (length-append, length-append, length-hex, length-take) (omega (arith, rest))
 
-pub lines-fit : (a : Judged Accepted) (m : List ℕ) → length m ≤ 4096 → length (lines a m) ≤ 16384
+pub lines-fit : (a : Judged Accepted) (m : List ℕ) → length m ≤ outputBytes → length (lines a m) ≤ mostLines
 unfolding lines cutPackets
-lines-fit (refuse n) m h = simp length-append (omega (arith, length-decimal 20 n))
+lines-fit (refuse n) m h = simp length-append (omega (arith, length-decimal mostDigits n))
 lines-fit (accept a) m h =
-    let t : length (take (a .bytes) m) ≤ 4096 = rw length-take (omega arith) in
+    let t : length (take (a .bytes) m) ≤ outputBytes = rw length-take (omega arith) in
     let p = length-packets (length (take (a .bytes) m)) (take (a .bytes) m) in
     simp length-append
-    (omega (arith, p, length-decimal 20 (a .state), length-decimal 20 (flag (a .request)), length-decimal 20 (a .bytes)))
+    (omega (arith, p, length-decimal mostDigits (a .state), length-decimal mostDigits (flag (a .request)), length-decimal mostDigits (a .bytes)))
 
 -- ---- events
 
@@ -91,5 +88,5 @@ pub call-there : (l : List ℕ) → Bytes l → 196611 ≤ length l → (g : Giv
 unfolding call
 call-there l h f =
     let (event, r, e, n, h₁) = block-there l h (omega arith) in
-    let (g, r₂, e₂) = profiles-there event (eqb (number 1 event) 11) r h₁ (omega (arith, n)) in
+    let (g, r₂, e₂) = profiles-there event (eqb (number 1 event) (kindOf Load)) r h₁ (omega (arith, n)) in
     (g, r₂, rw e e₂)

@@ -7,10 +7,9 @@ use lib.Dec.{eqb, leb}
 use Rattle.wire.specs.Numbers.{number, if_then_else_}
 use Rattle.fields.specs.Parse.{Parse, Reader, field, give, _>>=_, _>>_}
 use Rattle.fields.specs.Parse.Parse.{bad, good}
-use Rattle.player_text.specs.Parts.{partOf}
-use Rattle.player_text.specs.declared.calls.Block.{Block}
-use Rattle.player_text.specs.declared.calls.Call.{Call}
-use Rattle.player_text.specs.declared.calls.CallRead.{CallRead}
+use Rattle.engine_value.specs.Engine.{max2}
+use Rattle.event.specs.Kinds.{kindOf}
+use Rattle.event.specs.declared.Event.the-variants.{Load}
 
 -- an event with its profiles
 pub record Given : Type 0 where
@@ -25,7 +24,7 @@ some n l = if leb n (length l) then good (take n l) (drop n l) else bad
 -- a two-byte length, and as many bytes
 unfoldable pub block : Reader (List ℕ)
 block = do
-  n ← field 2 0 65535
+  n ← field 2 0 max2
   some n
 
 unfoldable pub profiles : List ℕ → Bool → Reader Given
@@ -38,17 +37,4 @@ profiles event true = do
 unfoldable pub call : Reader Given
 call = do
   event ← block
-  profiles event (eqb (number 1 event) 11)
-
--- ---- what the answers say of the slice s that was read
-
-abbrev pub blockView : List ℕ → Block → Parse (List ℕ)
-blockView s (Block.Whole p) = good (partOf s p) (drop (p .end) s)
-blockView s Block.Short = bad
-
-abbrev pub givenIn : List ℕ → Call → Given
-givenIn s c = record { event = partOf s (c .event); journey = partOf s (c .journey); book = partOf s (c .book) }
-
-abbrev pub callView : List ℕ → CallRead → Parse Given
-callView s (CallRead.Whole c) = good (givenIn s c) (drop (c .next) s)
-callView s CallRead.Short = bad
+  profiles event (eqb (number 1 event) (kindOf Load))

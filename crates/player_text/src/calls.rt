@@ -4,8 +4,10 @@ ghost use mathlib.Core.Bool.{true};
 ghost use lib.ListN.{drop};
 ghost use lib.Dec.{eqb};
 ghost use Rattle.wire.specs.Numbers.{number};
-ghost use Rattle.player_text.specs.Calls.{block, profiles, call, blockView, callView};
-ghost use Rattle.player_text.specs.Parts.{partOf};
+ghost use Rattle.event.specs.Kinds.{kindOf};
+ghost use Rattle.event.specs.declared.Event.the-variants.{Load};
+ghost use Rattle.player_text.specs.Calls.{block, profiles, call};
+ghost use Rattle.player_text.specs.View.{partView, blockView, callView};
 use crate::parts::Part;
 use crate::parts::bytes_of;
 
@@ -49,11 +51,11 @@ fn block_at(s: &[u8], at: usize) -> Block
     })
 }
 
-// The event's first byte is 11.
+// The event's first byte is the kind of a load.
 fn is_load(s: &[u8], event: Part) -> bool
-    ensures { λ r. ⌜ r ≡ eqb (number 1 (partOf (now (s .entry)) event)) 11 ⌝ }
+    ensures { λ r. ⌜ r ≡ eqb (number 1 (partView (now (s .entry)) event)) (kindOf Load) ⌝ }
 {
-    wire::be8(bytes_of(s, event), 0) == 11
+    wire::be8(bytes_of(s, event), 0) == event::LOAD
 }
 
 // The event at a position and, for a load, its profiles.
@@ -77,7 +79,7 @@ pub fn call_at(s: &[u8], at: usize) -> CallRead
 
 // A load, with the journey and the book behind it.
 fn load_at(s: &[u8], event: Part) -> CallRead
-    ensures { λ r. ⌜ callView (now (s .entry)) r ≡ profiles (partOf (now (s .entry)) event) true (drop (event .end) (now (s .entry))) ⌝ }
+    ensures { λ r. ⌜ callView (now (s .entry)) r ≡ profiles (partView (now (s .entry)) event) true (drop (event .end) (now (s .entry))) ⌝ }
 {
     let Block::Whole(journey) = block_at(s, event.end) else {
         return CallRead::Short;

@@ -3,11 +3,18 @@ ghost use Prim.Native.Nat.{_+_, _%_};
 ghost use mathlib.Core.Path.{_≡_};
 ghost use mathlib.Core.List.{[], _∷_};
 ghost use Rattle.call.specs.Call.{answerOf};
-ghost use Rattle.player_text.specs.Lines.{hexByte, hexLine, packetText, decimal, spaced, refusedLine, acceptedLine, Put};
+ghost use Rattle.player_text.specs.Lines.{hexByte, hexLine, packetText, decimal, spaced, refusedLine, acceptedLine, zeroSign};
+ghost use Rattle.player_text.specs.View.{Put};
 ghost use Rattle.player_text.specs.Lines.{digit as Lines·digit, lines as Lines·lines};
 use crate::parts::front;
 use crate::parts::rest;
 use call::Answer;
+
+// 64 bits make 20 digits at most.
+const MOST_DIGITS: usize = 20;
+
+// The bytes that the lines of an event take at most, for an output memory of 4,096 (`lines-fit` of proofs/Room.antt).
+pub const MOST_LINES: usize = 16384;
 
 // One byte at a position, and the next position; where the text is full, nothing.
 fn put(text: &mut [u8], at: usize, b: u8) -> usize
@@ -25,7 +32,7 @@ fn digit(n: u8) -> u8
     ensures { λ r. ⌜ r ≡ Lines·digit n ⌝ }
 {
     let d = n % 16;
-    if d < 10 { 48 + d } else { 55 + d }
+    if d < 10 { b'0' + d } else { b'A' + (d - 10) }
 }
 
 fn put_hex(text: &mut [u8], at: usize, b: u8) -> usize
@@ -62,9 +69,9 @@ fn put_packets(text: &mut [u8], at: usize, s: &[u8]) -> usize
 }
 
 fn last_digit(n: usize) -> u8
-    ensures { λ r. ⌜ r ≡ 48 + n % 10 ⌝ }
+    ensures { λ r. ⌜ r ≡ zeroSign + n % 10 ⌝ }
 {
-    48 + (n % 10) as u8
+    b'0' + (n % 10) as u8
 }
 
 // The last digits of n in decimal, with no zeros in front.
@@ -81,12 +88,12 @@ fn put_decimal(text: &mut [u8], at: usize, n: usize, most: usize) -> usize
     put(text, next, last_digit(n))
 }
 
-// A space and n; 64 bits make 20 digits at most.
+// A space and n.
 fn put_number(text: &mut [u8], at: usize, n: usize) -> usize
     ensures { λ r. ⌜ Put (now (text .entry)) at (spaced n) (now (text .exit)) r ⌝ }
 {
     let next = put(text, at, b' ');
-    put_decimal(text, next, n, 20)
+    put_decimal(text, next, n, MOST_DIGITS)
 }
 
 fn put_refused(text: &mut [u8], at: usize, n: u8) -> usize

@@ -2,7 +2,7 @@
 ghost use Prim.Native.Nat.{min};
 ghost use mathlib.Core.Path.{_≡_};
 ghost use lib.ListN.{length, take, drop};
-ghost use Rattle.player_text.specs.Parts.{partOf};
+ghost use Rattle.player_text.specs.View.{partView};
 
 // From a start to an end.
 pub struct Part {
@@ -18,7 +18,7 @@ fn least(a: usize, b: usize) -> usize
 
 // The bytes of a part, as far as there are any.
 pub fn bytes_of(s: &[u8], p: Part) -> &[u8]
-    ensures { λ r. ⌜ now r ≡ partOf (now (s .entry)) p ⌝ }
+    ensures { λ r. ⌜ now r ≡ partView (now (s .entry)) p ⌝ }
 {
     let end = least(p.end, s.len());
     let start = least(p.start, end);
@@ -47,7 +47,7 @@ pub fn rest(s: &[u8], at: usize) -> &[u8]
 
 // The bytes of a part go to the front of the slice, and it answers how many there are.
 pub fn to_front(s: &mut [u8], p: Part) -> usize
-    ensures { λ r. ⌜ (r ≡ length (partOf (now (s .entry)) p)) × (take r (now (s .exit)) ≡ partOf (now (s .entry)) p) ⌝ }
+    ensures { λ r. ⌜ (r ≡ length (partView (now (s .entry)) p)) × (take r (now (s .exit)) ≡ partView (now (s .entry)) p) ⌝ }
 {
     let end = least(p.end, s.len());
     let start = least(p.start, end);

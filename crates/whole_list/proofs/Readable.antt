@@ -21,7 +21,7 @@ use Rattle.route.specs.Route.{LoadValue}
 use Rattle.route.proofs.Ranges.{PointFits}
 use Rattle.layout.specs.Layout.{fits}
 use Rattle.layout.proofs.LayoutLaws.{Typed}
-use Rattle.packets.specs.Layouts.{headerLayout}
+use Rattle.packets.specs.Layouts.{headerLayout, unknownNidc}
 use Rattle.packets.specs.View.{headerView}
 use Rattle.packets.specs.Packets.{packetBytes, packetFits, packetOf}
 use Rattle.packets.proofs.RoundTrips.{TypedPacket, read-written}
@@ -89,11 +89,11 @@ module _ (j : Route) (x : Position) (r : Ranged j x) where
   fits-65 : (h : Head) → HeadFits h → Fits (jpReceived j x h)
   unfolding jpReceived
   fits-65 h p = (
-    rw (header-fits, le-leb _ 1024 (country (known j x)), le-leb (h .atots) 16384 (p .atots), le-leb (h .date) 32767 (p .date)),
+    rw (header-fits, le-leb _ unknownNidc (country (known j x)), le-leb (h .atots) 16384 (p .atots), le-leb (h .date) 32767 (p .date)),
     (header-typed, (tt, (tt, (tt, (omega (arith, p .seconds), (omega (arith, p .counter), (tt, tt))))))),
   )
     where
-      country : (b : Bool) → (if b then x .nidc else 1024) ≤ 1024
+      country : (b : Bool) → (if b then x .nidc else unknownNidc) ≤ unknownNidc
       country true = omega (arith, r .nidc)
       country false = omega arith
 

@@ -4,7 +4,7 @@ use mathlib.Core.Path.{_≡_, refl, sym, ap, _∙_}
 use denote.Ref.{now}
 use lib.ListN.{length, drop, length-drop}
 use native.Mathlib.Omega.{arith}
-use Rattle.player_text.specs.Calls.{callView}
+use Rattle.player_text.specs.View.{callView}
 use Rattle.player.specs.Played.{run}
 use Rattle.player_text.proofs.Laws.{call-shorter}
 use Rattle.player.proofs.Laws.{run-end, run-next}

@@ -1,6 +1,7 @@
 use mathlib.Core.Path.{sym, ap, _∙_}
 use denote.Ref.{now}
-use Rattle.player_text.specs.Calls.{profiles, blockView}
+use Rattle.player_text.specs.Calls.{profiles}
+use Rattle.player_text.specs.View.{blockView}
 use borrow.Author.Needs.{needs}
 use Rattle.player_text.proofs.calls.load_at.Statement.{statement}
 use Rattle.player_text.proofs.calls.load_at.Tie as tie

@@ -4,7 +4,8 @@ use lib.Seq.{take-all}
 use native.Mathlib.Omega.{arith}
 use Prim.Native.Nat.{_-_, _<_, _≤_}
 use lib.ListN.{length, take}
-use Rattle.player_text.specs.Lines.{Put, hex}
+use Rattle.player_text.specs.Lines.{hex}
+use Rattle.player_text.specs.View.{Put}
 use Rattle.player_text.proofs.Laws.{put-none, put-then, put-length, hex-more}
 use borrow.Author.Needs.{needs}
 use Rattle.player_text.proofs.lines.put_line.Statement.{statement}

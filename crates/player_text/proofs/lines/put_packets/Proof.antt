@@ -7,7 +7,8 @@ use lib.ListN.{length, take, drop, length-drop}
 use native.Mathlib.Omega.{arith}
 use Rattle.packets.specs.Packets.{frontSize}
 use Rattle.packets.proofs.Cutting.{front-some, front-most}
-use Rattle.player_text.specs.Lines.{Put, hexLine, packetText}
+use Rattle.player_text.specs.Lines.{hexLine, packetText}
+use Rattle.player_text.specs.View.{Put}
 use Rattle.player_text.proofs.Laws.{put-none, put-then, put-length, packets-more, packets-end}
 use borrow.Author.Needs.{needs}
 use Rattle.player_text.proofs.lines.put_packets.Statement.{statement}

@@ -1,0 +1,14 @@
+-- What the code's values stand for.
+use Prim.Native.Nat.{ℕ}
+use mathlib.Core.Path.{_≡_}
+use mathlib.Core.List.{List}
+use Rattle.call.specs.Call.{Outcome}
+use Rattle.player_text.specs.Lines.{lines}
+use Rattle.player_text.specs.View.{Put}
+use Rattle.player.specs.declared.Played.{Played}
+
+-- one event: its outcome, with its lines in a text that was `before`
+pub record Plays (o : Outcome) (before : List ℕ) (at : ℕ) (r : Played) (memory after : List ℕ) : Type 0 where
+  pub engine : r .engine ≡ o .engine
+  pub output : memory ≡ o .memory
+  pub text : Put before at (lines (o .answer) (o .memory)) after (r .at)
