@@ -13,56 +13,8 @@ returns : tie.Need-returns
 unfolding eventOf
 returns c = rw (eq-eqb _ _ (c .if1 .taken))
 
-be8-requires : tie.Need-be8-requires
-be8-requires c κs = search needs
-
-be32-requires : tie.Need-be32-requires
-be32-requires c κs = search needs
-
 shared-slice-read-kind : tie.Need-shared-slice-read-kind
 shared-slice-read-kind c = search needs
-
-event-rows-requires : tie.Need-event-rows-requires
-event-rows-requires c κs = search needs
-
-event-rows-requires-2 : tie.Need-event-rows-requires-2
-event-rows-requires-2 c κs = search needs
-
-event-rows-requires-3 : tie.Need-event-rows-requires-3
-event-rows-requires-3 c κs = search needs
-
-event-rows-requires-4 : tie.Need-event-rows-requires-4
-event-rows-requires-4 c κs = search needs
-
-event-rows-requires-5 : tie.Need-event-rows-requires-5
-event-rows-requires-5 c κs = search needs
-
-event-rows-requires-6 : tie.Need-event-rows-requires-6
-event-rows-requires-6 c κs = search needs
-
-event-rows-requires-7 : tie.Need-event-rows-requires-7
-event-rows-requires-7 c κs = search needs
-
-event-rows-requires-8 : tie.Need-event-rows-requires-8
-event-rows-requires-8 c κs = search needs
-
-read-position-requires : tie.Need-read-position-requires
-read-position-requires c κs = search needs
-
-within-requires : tie.Need-within-requires
-within-requires c κs = search needs
-
-event-rows-requires-9 : tie.Need-event-rows-requires-9
-event-rows-requires-9 c κs = search needs
-
-event-rows-requires-10 : tie.Need-event-rows-requires-10
-event-rows-requires-10 c κs = search needs
-
-event-rows-requires-11 : tie.Need-event-rows-requires-11
-event-rows-requires-11 c κs = search needs
-
-event-rows-requires-12 : tie.Need-event-rows-requires-12
-event-rows-requires-12 c κs = search needs
 
 power-on : tie.Need-returns-2
 unfolding contentAmong valuesAt
@@ -129,23 +81,23 @@ read-event-spec =
     tie.close
     (tie.spec
     returns
-    be8-requires
-    be32-requires
+    (λ c κs. search needs)
+    (λ c κs. search needs)
     shared-slice-read-kind
-    event-rows-requires
-    event-rows-requires-2
-    event-rows-requires-3
-    event-rows-requires-4
-    event-rows-requires-5
-    event-rows-requires-6
-    event-rows-requires-7
-    event-rows-requires-8
-    read-position-requires
-    within-requires
-    event-rows-requires-9
-    event-rows-requires-10
-    event-rows-requires-11
-    event-rows-requires-12
+    (λ c κs. search needs)
+    (λ c κs. search needs)
+    (λ c κs. search needs)
+    (λ c κs. search needs)
+    (λ c κs. search needs)
+    (λ c κs. search needs)
+    (λ c κs. search needs)
+    (λ c κs. search needs)
+    (λ c κs. search needs)
+    (λ c κs. search needs)
+    (λ c κs. search needs)
+    (λ c κs. search needs)
+    (λ c κs. search needs)
+    (λ c κs. search needs)
     power-on
     configured
     power-off
