@@ -16,7 +16,7 @@ use Rattle.timing.specs.Report.{looked, reported}
 use Rattle.timing.specs.Changes.{passings, reportChanges}
 use Rattle.position.specs.Skips.{stopFrom}
 use Rattle.conditions.specs.Conditions.{firstAhead, conditions}
-use Rattle.states.specs.Numbers.{powerRows, stateRow}
+use Rattle.state_codes.specs.Numbers.{powerRows, stateRow}
 use Rattle.states.specs.States.{machineAfter}
 use Rattle.states.specs.ControlGroup.{controlAfter}
 use Rattle.layout.specs.Layout.{bytes, valuesAt}

@@ -19,8 +19,8 @@ use Rattle.event.specs.declared.Event.{Event}
 use Rattle.packets.specs.Packets.{joined}
 use Rattle.position.specs.Position.{pointCount}
 use Rattle.position.specs.Standing.{standing, standingCode}
-use Rattle.states.specs.Codes.{stateAt}
-use Rattle.states.specs.Numbers.{powerRows, stateRow}
+use Rattle.state_codes.specs.Codes.{stateAt}
+use Rattle.state_codes.specs.Numbers.{powerRows, stateRow}
 use Rattle.call.specs.Effect.{Effect, effect}
 use Rattle.call.specs.Call.{Call, Step, stepBy, judged, outcomeOf, stepOf}
 use Rattle.call.specs.Shown.{standingIn, standingsIn}

@@ -14,9 +14,9 @@ use Rattle.event.specs.declared.Event.{Event}
 use Rattle.packets.specs.Packets.{joined}
 use Rattle.packets.specs.declared.Packet.{Packet}
 use Rattle.position.specs.Standing.{standing}
-use Rattle.states.specs.Codes.{stateAt}
+use Rattle.state_codes.specs.Codes.{stateAt}
 use Rattle.conditions.specs.Conditions.{conditions}
-use Rattle.states.specs.Numbers.{powerRows, stateRow}
+use Rattle.state_codes.specs.Numbers.{powerRows, stateRow}
 use Rattle.states.specs.ControlGroup.{controlAfter}
 use Rattle.call.specs.Packets.{Status, packetsOf}
 use Rattle.call.specs.Effect.{Effect, effect}

@@ -17,9 +17,9 @@ use Rattle.journey.specs.declared.Head.{Head}
 use Rattle.position.specs.Position.{point, known}
 use Rattle.position.specs.Standing.{standing}
 use Rattle.timing.specs.Changes.{Change, statusStopped, when}
-use Rattle.states.specs.Codes.{code}
+use Rattle.state_codes.specs.Codes.{code}
 use Rattle.conditions.specs.Conditions.{endAhead}
-use Rattle.states.specs.declared.State.the-variants.{EG}
+use Rattle.state_codes.specs.declared.State.the-variants.{EG}
 
 -- "header: NID_C (2), NID_SP (4), offset (4), speed (2), NID_OPERATIONAL (4; FFFFFFFF hexadecimal with no journey)"
 abbrev pub header : Route → Position → Header

@@ -13,20 +13,20 @@ use Rattle.event.specs.declared.Event.the-variants.{PowerOn, Configured, PowerO
 use Rattle.event.specs.declared.Row.{Row}
 use Rattle.event.specs.declared.Row.the-variants.{SwitchOn, Configure, SwitchOff, Fail, EngagePress, ByState}
 use Rattle.event.proofs.Known.{OfRow, known}
-use Rattle.states.specs.Codes.{is}
+use Rattle.state_codes.specs.Codes.{is}
 use Rattle.states.specs.States.{machine, U, fromRE, fromEG, fromDE, byState, byRow, machineAfter}
 use Rattle.states.specs.declared.Values.{Values}
 use Rattle.states.specs.declared.Machine.{Machine}
-use Rattle.states.specs.Numbers.{powerRows, stateRow}
+use Rattle.state_codes.specs.Numbers.{powerRows, stateRow}
 use Rattle.engagement.specs.Engagement.{Waiting, Ready, Driving, Engagement}
 use Rattle.engagement.proofs.Run.{Run}
-use Rattle.states.proofs.CodeLaws.{same-state}
-use Rattle.states.specs.declared.State.{State}
-use Rattle.states.specs.declared.State.the-variants.{NP, CO, NA, AV, RE, EG, DE, FA}
-use Rattle.states.specs.declared.EtcsMode.{EtcsMode}
-use Rattle.states.specs.declared.EtcsMode.the-variants.{Other, AD}
-use Rattle.states.specs.declared.DriverLever.{DriverLever}
-use Rattle.states.specs.declared.DriverLever.the-variants.{Neutral, Traction, Brake}
+use Rattle.state_codes.proofs.CodeLaws.{same-state}
+use Rattle.state_codes.specs.declared.State.{State}
+use Rattle.state_codes.specs.declared.State.the-variants.{NP, CO, NA, AV, RE, EG, DE, FA}
+use Rattle.state_codes.specs.declared.EtcsMode.{EtcsMode}
+use Rattle.state_codes.specs.declared.EtcsMode.the-variants.{Other, AD}
+use Rattle.state_codes.specs.declared.DriverLever.{DriverLever}
+use Rattle.state_codes.specs.declared.DriverLever.the-variants.{Neutral, Traction, Brake}
 
 zero-one : _≡_ {A = ℕ} 0 1 → ⊥
 zero-one e = omega arith

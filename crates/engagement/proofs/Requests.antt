@@ -9,18 +9,18 @@ use Rattle.event.specs.declared.Event.{Event}
 use Rattle.event.specs.declared.Row.{Row}
 use Rattle.event.specs.declared.Row.the-variants.{SwitchOn, Configure, SwitchOff, Fail, EngagePress, ByState}
 use Rattle.event.specs.Kinds.{rowOf}
-use Rattle.states.specs.Codes.{isAD}
+use Rattle.state_codes.specs.Codes.{isAD}
 use Rattle.states.specs.States.{machine, U, fromRE, fromEG, fromDE, byState, byRow, machineAfter, wanted, given}
 use Rattle.states.specs.declared.Values.{Values}
 use Rattle.states.specs.declared.Machine.{Machine}
 use Rattle.engagement.specs.Engagement.{Waiting}
 use Rattle.engagement.proofs.Run.{Run, Requested, Holds}
-use Rattle.states.specs.declared.State.{State}
-use Rattle.states.specs.declared.State.the-variants.{NP, CO, NA, AV, RE, EG, DE, FA}
-use Rattle.states.specs.declared.EtcsMode.{EtcsMode}
-use Rattle.states.specs.declared.EtcsMode.the-variants.{Other, AD}
-use Rattle.states.specs.declared.DriverLever.{DriverLever}
-use Rattle.states.specs.declared.DriverLever.the-variants.{Neutral, Traction, Brake}
+use Rattle.state_codes.specs.declared.State.{State}
+use Rattle.state_codes.specs.declared.State.the-variants.{NP, CO, NA, AV, RE, EG, DE, FA}
+use Rattle.state_codes.specs.declared.EtcsMode.{EtcsMode}
+use Rattle.state_codes.specs.declared.EtcsMode.the-variants.{Other, AD}
+use Rattle.state_codes.specs.declared.DriverLever.{DriverLever}
+use Rattle.state_codes.specs.declared.DriverLever.the-variants.{Neutral, Traction, Brake}
 use Rattle.engagement.proofs.Engaged.{engaged-exactly}
 
 zero-one : _≡_ {A = ℕ} 0 1 → ⊥

@@ -10,10 +10,10 @@ use Rattle.event.specs.declared.Event.the-variants.{PowerOff, Mode}
 use Rattle.states.specs.States.{machine, machineAfter, wanted, given}
 use Rattle.states.specs.declared.Values.{Values}
 use Rattle.states.specs.declared.Machine.{Machine}
-use Rattle.states.specs.Numbers.{powerRows, stateRow}
+use Rattle.state_codes.specs.Numbers.{powerRows, stateRow}
 use Rattle.engagement.specs.Engagement.{Waiting, Engagement}
-use Rattle.states.specs.declared.State.the-variants.{NP, RE, EG, DE}
-use Rattle.states.specs.declared.EtcsMode.the-variants.{Other, AD}
+use Rattle.state_codes.specs.declared.State.the-variants.{NP, RE, EG, DE}
+use Rattle.state_codes.specs.declared.EtcsMode.the-variants.{Other, AD}
 
 -- The AD request over a run: at some moment the mode was other, and at it and ever since the request was wanted. (`value k`, `after k`: see below.)
 pub record Requested (value : ℕ → Values) (after : ℕ → Machine) (n : ℕ) : Type 0 where

@@ -6,8 +6,8 @@ use Prim.Native.Nat.{ℕ, suc, _≤_, _<_}
 use Rattle.event.specs.declared.Event.{Event}
 use Rattle.event.specs.declared.Event.the-variants.{PowerOn, Configured, Fault, Press, Mode}
 use Rattle.states.specs.declared.Values.{Values}
-use Rattle.states.specs.declared.EtcsMode.the-variants.{Other, AD}
-use Rattle.states.specs.declared.DriverLever.the-variants.{Neutral, Brake}
+use Rattle.state_codes.specs.declared.EtcsMode.the-variants.{Other, AD}
+use Rattle.state_codes.specs.declared.DriverLever.the-variants.{Neutral, Brake}
 
 pub record Waiting (v : Values) : Type 0 where
   pub O : v .O ≡ true

@@ -19,9 +19,9 @@ use Rattle.event.specs.declared.Event.{Event}
 use Rattle.packets.specs.Packets.{joined}
 use Rattle.packets.specs.declared.Packet.{Packet}
 use Rattle.position.specs.Standing.{standing}
-use Rattle.states.specs.Codes.{stateAt}
+use Rattle.state_codes.specs.Codes.{stateAt}
 use Rattle.conditions.specs.Conditions.{conditions}
-use Rattle.states.specs.Numbers.{powerRows, stateRow, stateRows}
+use Rattle.state_codes.specs.Numbers.{powerRows, stateRow, stateRows}
 use Rattle.states.specs.ControlGroup.{controlAfter}
 use Rattle.event_packets.specs.View.{statusView, packetsView, sizeView}
 use Rattle.event_packets.proofs.Stored.{size-in, packets-in}

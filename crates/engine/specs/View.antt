@@ -11,8 +11,8 @@ use Rattle.engine_value.specs.declared.Engine.{Engine}
 use Rattle.event.specs.Kinds.{kindOf}
 use Rattle.event.specs.declared.Event.{Event}
 use Rattle.packets.specs.Packets.{joined}
-use Rattle.states.specs.Codes.{stateAt}
-use Rattle.states.specs.Numbers.{powerRows, stateRow}
+use Rattle.state_codes.specs.Codes.{stateAt}
+use Rattle.state_codes.specs.Numbers.{powerRows, stateRow}
 use Rattle.event_packets.specs.declared.Shown.{Shown}
 use Rattle.event_packets.specs.declared.Writes.{Writes}
 use Rattle.call.specs.Effect as model

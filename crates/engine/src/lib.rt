@@ -114,8 +114,8 @@ fn conclude(e: Engine, v: Event, f: Effect, out: &mut [u8]) -> Stepped
 fn take(e: Engine, v: Event, journey: &[u8], book: &[u8], out: &mut [u8]) -> Stepped
     ensures { λ r. ⌜ Steps (outcomeOf e (now (out .entry)) (laterRows e v (now (journey .entry)) (now (book .entry)) (now (out .entry)))) r (now (out .exit)) ⌝ }
 {
-    let state = states::state_at(e.control.state);
-    if let Verdict::Refused(n) = states::state_rows(state, event::kind_of(v)) {
+    let state = state_codes::state_at(e.control.state);
+    if let Verdict::Refused(n) = state_codes::state_rows(state, event::kind_of(v)) {
         return refused(e, n);
     }
     let f = effects::effect_of(e, v, journey, book);

@@ -3,12 +3,12 @@ use Prim.Native.Nat.{ℕ}
 use mathlib.Core.Path.{_≡_}
 use mathlib.Core.Bool.{Bool, true, false, _&&_}
 use Rattle.engine_value.specs.declared.Control.{Control}
-use Rattle.states.specs.Codes.{code, is, isAD}
+use Rattle.state_codes.specs.Codes.{code, is, isAD}
 use Rattle.states.specs.States.{machine, N, U, fromRE, given}
 use Rattle.states.specs.ControlGroup.{controlOf}
 use Rattle.states.specs.declared.Values.{Values}
 use Rattle.states.specs.declared.Machine.{Machine}
-use Rattle.states.specs.declared.State.the-variants.{RE}
+use Rattle.state_codes.specs.declared.State.the-variants.{RE}
 
 -- a press that does not engage is kept where RE stays
 pub press-stays : (press : Bool) (v : Values) → (press && (v .O && (v .T && (N v && isAD (v .mode))))) ≡ false → press ≡ true

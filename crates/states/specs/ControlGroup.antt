@@ -6,7 +6,7 @@ use Rattle.engine_value.specs.declared.Control.{Control}
 use Rattle.engine_value.specs.declared.Train.{Train}
 use Rattle.conditions.specs.Conditions.{allConditions}
 use Rattle.event.specs.declared.Event.{Event}
-use Rattle.states.specs.Codes.{code, stateAt, modeAt, leverAt}
+use Rattle.state_codes.specs.Codes.{code, stateAt, modeAt, leverAt}
 use Rattle.states.specs.States.{machine, T, machineAfter, given}
 use Rattle.states.specs.declared.Values.{Values}
 use Rattle.states.specs.declared.Machine.{Machine}

@@ -6,9 +6,9 @@ use Rattle.event.specs.declared.Event.{Event}
 use Rattle.event.specs.declared.Row.{Row}
 use Rattle.event.specs.declared.Row.the-variants.{SwitchOn, Configure, SwitchOff, Fail, EngagePress, ByState}
 use Rattle.event.specs.Kinds.{rowOf}
-use Rattle.states.specs.Codes.{is, isAD, isNeutral, isBrake}
-use Rattle.states.specs.declared.State.{State}
-use Rattle.states.specs.declared.State.the-variants.{NP, CO, NA, AV, RE, EG, DE, FA}
+use Rattle.state_codes.specs.Codes.{is, isAD, isNeutral, isBrake}
+use Rattle.state_codes.specs.declared.State.{State}
+use Rattle.state_codes.specs.declared.State.the-variants.{NP, CO, NA, AV, RE, EG, DE, FA}
 use Rattle.states.specs.declared.Values.{Values}
 use Rattle.states.specs.declared.Machine.{Machine}
 

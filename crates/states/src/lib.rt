@@ -1,48 +1,18 @@
-// The ATO states: their codes, the rows of the states, the AD request, rows 3 to 6 of the table of numbers.
+// The rows of the states, the AD request, and the control group after an event.
 ghost use mathlib.Core.Path.{_≡_};
 ghost use mathlib.Core.Bool.{false, not, _&&_, _||_};
-ghost use Prim.Native.Nat.{_≤_};
-ghost use Rattle.wire.specs.View.{verdictView};
-ghost use Rattle.states.specs.Codes.{code, stateAt, is, modeAt, isAD, leverAt, isNeutral, isBrake};
+ghost use Rattle.state_codes.specs.Codes.{isAD, isBrake};
 ghost use Rattle.states.specs.States.{machine, T, N, U, fromRE, fromEG, fromDE, byState, machineAfter, wanted, given};
 ghost use Rattle.states.specs.ControlGroup.{allNine, valuesIn, machineIn, controlAfter};
-ghost use Rattle.states.specs.Numbers.{powerRows, stateRow, stateRows};
 use conditions::ALL_CONDITIONS;
 use engine_value::Control;
 use engine_value::Train;
-use event::CONFIGURED;
 use event::Event;
-use event::POWER_OFF;
-use event::POWER_ON;
-use event::PRESS;
 use event::Row;
 use event::row_of;
-use wire::Verdict;
-
-// The states of document 01, by their codes 0 to 7 in this order.
-pub enum State {
-    NP,
-    CO,
-    NA,
-    AV,
-    RE,
-    EG,
-    DE,
-    FA,
-}
-
-// The ETCS mode: 0 other, 1 AD.
-pub enum EtcsMode {
-    Other,
-    AD,
-}
-
-// The lever: 0 neutral, 1 traction, 2 brake.
-pub enum DriverLever {
-    Neutral,
-    Traction,
-    Brake,
-}
+use state_codes::DriverLever;
+use state_codes::EtcsMode;
+use state_codes::State;
 
 // What the rows look at, after an event: O, all nine conditions; T, the train conditions; the lever and the mode.
 pub struct Values {
@@ -58,96 +28,6 @@ pub struct Machine {
     pub press: bool,
 }
 
-// ---- codes
-
-pub fn state_at(code: u8) -> State
-    ensures { λ r. ⌜ r ≡ stateAt code ⌝ }
-{
-    match code {
-        0 => State::NP,
-        1 => State::CO,
-        2 => State::NA,
-        3 => State::AV,
-        4 => State::RE,
-        5 => State::EG,
-        6 => State::DE,
-        _ => State::FA,
-    }
-}
-
-pub fn code_of(s: State) -> u8
-    ensures { λ r. ⌜ (r ≡ code s) × (r ≤ 7) ⌝ }
-{
-    match s {
-        State::NP => 0,
-        State::CO => 1,
-        State::NA => 2,
-        State::AV => 3,
-        State::RE => 4,
-        State::EG => 5,
-        State::DE => 6,
-        State::FA => 7,
-    }
-}
-
-pub fn mode_at(n: u8) -> EtcsMode
-    ensures { λ r. ⌜ r ≡ modeAt n ⌝ }
-{
-    if n == 1 {
-        EtcsMode::AD
-    } else {
-        EtcsMode::Other
-    }
-}
-
-pub fn lever_at(n: u8) -> DriverLever
-    ensures { λ r. ⌜ r ≡ leverAt n ⌝ }
-{
-    if n == 0 {
-        return DriverLever::Neutral;
-    }
-    if n == 1 {
-        DriverLever::Traction
-    } else {
-        DriverLever::Brake
-    }
-}
-
-fn is_ad(m: EtcsMode) -> bool
-    ensures { λ r. ⌜ r ≡ isAD m ⌝ }
-{
-    match m {
-        EtcsMode::Other => false,
-        EtcsMode::AD => true,
-    }
-}
-
-fn is_neutral(l: DriverLever) -> bool
-    ensures { λ r. ⌜ r ≡ isNeutral l ⌝ }
-{
-    match l {
-        DriverLever::Neutral => true,
-        DriverLever::Traction => false,
-        DriverLever::Brake => false,
-    }
-}
-
-fn is_brake(l: DriverLever) -> bool
-    ensures { λ r. ⌜ r ≡ isBrake l ⌝ }
-{
-    match l {
-        DriverLever::Neutral => false,
-        DriverLever::Traction => false,
-        DriverLever::Brake => true,
-    }
-}
-
-fn same(a: State, b: State) -> bool
-    ensures { λ r. ⌜ r ≡ is a b ⌝ }
-{
-    code_of(a) == code_of(b)
-}
-
 // ---- the rows of the states
 
 // The state that the values alone give.
@@ -161,11 +41,15 @@ fn u(v: Values) -> State
         return State::AV;
     }
     let lever = v.lever;
-    if !is_neutral(lever) {
+    if !state_codes::is_neutral(lever) {
         return State::AV;
     }
     let mode = v.mode;
-    if is_ad(mode) { State::AV } else { State::RE }
+    if state_codes::is_ad(mode) {
+        State::AV
+    } else {
+        State::RE
+    }
 }
 
 // A press pending, O, T, N and AD.
@@ -182,11 +66,11 @@ fn engages(press: bool, v: Values) -> bool
         return false;
     }
     let lever = v.lever;
-    if !is_neutral(lever) {
+    if !state_codes::is_neutral(lever) {
         return false;
     }
     let mode = v.mode;
-    is_ad(mode)
+    state_codes::is_ad(mode)
 }
 
 fn at_rest(s: State) -> Machine
@@ -208,7 +92,7 @@ fn from_re(press: bool, v: Values) -> Machine
     if !press {
         return at_rest(s);
     }
-    let stays = same(s, State::RE);
+    let stays = state_codes::same(s, State::RE);
     Machine {
         state: s,
         press: stays,
@@ -221,9 +105,9 @@ fn leaves(reached: bool, v: Values) -> bool
 {
     let lever = v.lever;
     let mode = v.mode;
-    if is_brake(lever) {
+    if state_codes::is_brake(lever) {
         true
-    } else if is_ad(mode) {
+    } else if state_codes::is_ad(mode) {
         reached
     } else {
         true
@@ -286,11 +170,11 @@ fn ad_neutral(v: Values) -> bool
     ensures { λ r. ⌜ r ≡ (isAD (v .mode) && N v) ⌝ }
 {
     let mode = v.mode;
-    if !is_ad(mode) {
+    if !state_codes::is_ad(mode) {
         return false;
     }
     let lever = v.lever;
-    is_neutral(lever)
+    state_codes::is_neutral(lever)
 }
 
 fn wanted(s: State, v: Values) -> bool
@@ -315,7 +199,11 @@ fn given(s: State, v: Values, before: bool) -> bool
         return false;
     }
     let mode = v.mode;
-    if before { true } else { !is_ad(mode) }
+    if before {
+        true
+    } else {
+        !state_codes::is_ad(mode)
+    }
 }
 
 // ---- the control group
@@ -337,8 +225,8 @@ fn values_in(train: Train, word: u16) -> Values
 {
     let o = all_nine(word);
     let t = train_conditions(train.reports);
-    let lever = lever_at(train.lever);
-    let mode = mode_at(train.mode);
+    let lever = state_codes::lever_at(train.lever);
+    let mode = state_codes::mode_at(train.mode);
     Values {
         O: o,
         T: t,
@@ -350,7 +238,7 @@ fn values_in(train: Train, word: u16) -> Values
 fn machine_in(c: Control) -> Machine
     ensures { λ r. ⌜ r ≡ machineIn c ⌝ }
 {
-    let s = state_at(c.state);
+    let s = state_codes::state_at(c.state);
     Machine {
         state: s,
         press: c.press,
@@ -366,65 +254,10 @@ pub fn control_after(train: Train, c: Control, event: Event, reached: bool, word
     let m = machine_after(machine_in(c), event, reached, v);
     let s = m.state;
     let request = given(s, v, c.request);
-    let code = code_of(s);
+    let code = state_codes::code_of(s);
     Control {
         state: code,
         press: m.press,
         request: request,
-    }
-}
-
-// ---- the places "power" and "state" of the table of numbers
-
-fn power_rows(s: State, kind: u8) -> Verdict
-    ensures { λ r. ⌜ verdictView r ≡ powerRows s kind ⌝ }
-{
-    if same(s, State::NP) {
-        return if kind == POWER_ON {
-            Verdict::Accepted
-        } else {
-            Verdict::Refused(3)
-        };
-    }
-    if kind == POWER_ON {
-        return Verdict::Refused(4);
-    }
-    if same(s, State::FA) {
-        return if kind == POWER_OFF {
-            Verdict::Accepted
-        } else {
-            Verdict::Refused(5)
-        };
-    }
-    Verdict::Accepted
-}
-
-fn state_row(s: State, kind: u8) -> Verdict
-    ensures { λ r. ⌜ verdictView r ≡ stateRow s kind ⌝ }
-{
-    if kind == CONFIGURED {
-        return if same(s, State::CO) {
-            Verdict::Accepted
-        } else {
-            Verdict::Refused(6)
-        };
-    }
-    if kind == PRESS {
-        return if same(s, State::RE) {
-            Verdict::Accepted
-        } else {
-            Verdict::Refused(6)
-        };
-    }
-    Verdict::Accepted
-}
-
-// Both places, one after the other.
-pub fn state_rows(s: State, kind: u8) -> Verdict
-    ensures { λ r. ⌜ verdictView r ≡ stateRows s kind ⌝ }
-{
-    match power_rows(s, kind) {
-        Verdict::Accepted => state_row(s, kind),
-        Verdict::Refused(n) => Verdict::Refused(n),
     }
 }

@@ -21,16 +21,16 @@ use Rattle.position.specs.Position.{pointCount}
 use Rattle.position.specs.declared.Standing.{Standing}
 use Rattle.position.specs.declared.Standing.the-variants.{Reached}
 use Rattle.timing.proofs.Moments.{as-function}
-use Rattle.states.specs.Codes.{modeAt}
+use Rattle.state_codes.specs.Codes.{modeAt}
 use Rattle.conditions.specs.Conditions.{lookedUp, nine, allOf, O}
-use Rattle.states.proofs.CodeLaws.{mode-AD}
-use Rattle.states.specs.Numbers.{powerRows, stateRow}
+use Rattle.state_codes.proofs.CodeLaws.{mode-AD}
+use Rattle.state_codes.specs.Numbers.{powerRows, stateRow}
 use Rattle.states.specs.States.{machineAfter, given}
 use Rattle.states.specs.declared.Values.{Values}
 use Rattle.states.specs.declared.Machine.{Machine}
 use Rattle.engagement.proofs.Run as run
-use Rattle.states.specs.declared.State.the-variants.{EG}
-use Rattle.states.specs.declared.EtcsMode.the-variants.{Other, AD}
+use Rattle.state_codes.specs.declared.State.the-variants.{EG}
+use Rattle.state_codes.specs.declared.EtcsMode.the-variants.{Other, AD}
 use Rattle.engagement.proofs.Requests.{run-holds}
 use Rattle.call.specs.Call.{Call}
 use Rattle.whole_list.specs.Values.{History, eventOfCall, isOff, latest, modeBy, reportsBy, positionBy, routeBy}

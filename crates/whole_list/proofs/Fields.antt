@@ -26,7 +26,7 @@ use Rattle.position.specs.declared.Found.the-variants.{At, Nothing}
 use Rattle.position.specs.declared.Standing.{Standing}
 use Rattle.timing.proofs.Steps.{InRange, started, run-range, target-most}
 use Rattle.timing.proofs.Rule.{as-rule}
-use Rattle.states.specs.Codes.{code}
+use Rattle.state_codes.specs.Codes.{code}
 use Rattle.conditions.specs.Conditions.{endAhead, lastAhead, firstAhead, profilesThere, lookedUp, nine, conditions, wordOf}
 use Rattle.whole_list.specs.Values.{History, roleOfCall, modeBy, leverBy, reportsBy, positionBy, lengthBy, routeBy, isPoint, skippedBy, reportsSince, behindAtLoad}
 use Rattle.whole_list.specs.Rules.{standingBy, conditionsBy, machineBy, stateBy, requestBy}

@@ -7,10 +7,10 @@ use Rattle.engine_value.specs.declared.Control.{Control}
 use Rattle.event.specs.declared.Event.{Event}
 use Rattle.event.specs.Kinds.{Role, off, load, report, other, skip, rowOf, roleOf}
 use Rattle.event.proofs.Known.{OfRole, known}
-use Rattle.states.specs.Codes.{code, stateAt, modeAt, leverAt}
+use Rattle.state_codes.specs.Codes.{code, stateAt, modeAt, leverAt}
 use Rattle.conditions.specs.Conditions.{O}
 use Rattle.conditions.proofs.WordLaws.{O-word}
-use Rattle.states.proofs.CodeLaws.{state-code}
+use Rattle.state_codes.proofs.CodeLaws.{state-code}
 use Rattle.states.specs.States.{machine, T, byRow, machineAfter, given}
 use Rattle.states.specs.declared.Values.{Values}
 use Rattle.states.specs.declared.Machine.{Machine}

@@ -30,7 +30,7 @@ use Rattle.position.specs.declared.Found.{Found}
 use Rattle.position.specs.declared.Found.the-variants.{At, Nothing}
 use Rattle.timing.proofs.Steps.{run-snoc}
 use Rattle.position.proofs.Laws.{standing-passed}
-use Rattle.states.specs.Codes.{code}
+use Rattle.state_codes.specs.Codes.{code}
 use Rattle.call.specs.Effect.{Effect, offsetBeyond, sameBool, reportedIn, positionEffect, loadedIn, loadEffect, skippedIn, skipEffect, taking, effectAs, effect}
 use Rattle.call.specs.Call.{Call}
 use Rattle.whole_list.specs.Values.{History, eventOfCall, loadOfCall, roleOfCall, isOff, latest, modeBy, leverBy, reportsBy, positionBy, lengthBy, routeLoaded, routeBy, skippedBy, reportAt, reportsSince, behindAtLoad}

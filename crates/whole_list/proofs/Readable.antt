@@ -36,7 +36,7 @@ use Rattle.position.specs.declared.Standing.{Standing}
 use Rattle.position.specs.declared.Standing.the-variants.{Unused, Targeted, Reached, Passed}
 use Rattle.conditions.specs.Conditions.{endAhead}
 use Rattle.conditions.proofs.WordLaws.{conditions-most}
-use Rattle.states.proofs.CodeLaws.{code-most}
+use Rattle.state_codes.proofs.CodeLaws.{code-most}
 use Rattle.call.specs.Packets.{header, timingPoint, jpReceived, atoStatus, statusDue, received, packetsOf}
 use Rattle.call.specs.Call.{Call}
 use Rattle.whole_list.specs.Values.{History, loadOfCall, roleOfCall, positionBy, routeBy}

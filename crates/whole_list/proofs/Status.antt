@@ -9,10 +9,10 @@ use lib.Dec.{eqb}
 use borrow.Author.Tests.{eqb-true, ne-eqb}
 use Rattle.wire.specs.Numbers.{if_then_else_}
 use Rattle.packets.specs.Packets.{packetBytes}
-use Rattle.states.specs.Codes.{code, stateAt}
+use Rattle.state_codes.specs.Codes.{code, stateAt}
 use Rattle.conditions.proofs.WordLaws.{conditions-most}
-use Rattle.states.proofs.CodeLaws.{code-most, state-code}
-use Rattle.states.specs.declared.State.the-variants.{NP}
+use Rattle.state_codes.proofs.CodeLaws.{code-most, state-code}
+use Rattle.state_codes.specs.declared.State.the-variants.{NP}
 use Rattle.call.specs.Call.{Call}
 use Rattle.call.specs.Packets.{Status, atoStatus, statusDue}
 use Rattle.whole_list.specs.Values.{History, positionBy, routeBy}

@@ -11,9 +11,9 @@ use Rattle.event.specs.Kinds.{kindOf}
 use Rattle.event.specs.declared.Event.{Event}
 use Rattle.packets.specs.Packets.{joined}
 use Rattle.packets.specs.declared.Packet.{Packet}
-use Rattle.states.specs.Codes.{code, stateAt}
-use Rattle.states.proofs.CodeLaws.{state-code}
-use Rattle.states.specs.Numbers.{powerRows, stateRow}
+use Rattle.state_codes.specs.Codes.{code, stateAt}
+use Rattle.state_codes.proofs.CodeLaws.{state-code}
+use Rattle.state_codes.specs.Numbers.{powerRows, stateRow}
 use Rattle.call.specs.Packets.{packetsOf}
 use Rattle.call.specs.Effect.{Effect, effect}
 use Rattle.call.specs.Call.{Call, Step, statusIn, stepTo, stepBy, judged}

@@ -19,13 +19,13 @@ use Rattle.event.specs.declared.Row.the-variants.{SwitchOn, Configure, SwitchOf
 use Rattle.event.proofs.Known.{OfRow, known}
 use Rattle.packets.specs.Packets.{joined, cut, cutPackets}
 use Rattle.timing.specs.Report.{run}
-use Rattle.states.specs.Codes.{code, stateAt}
-use Rattle.states.proofs.CodeLaws.{state-code}
-use Rattle.states.specs.Numbers.{powerRows}
+use Rattle.state_codes.specs.Codes.{code, stateAt}
+use Rattle.state_codes.proofs.CodeLaws.{state-code}
+use Rattle.state_codes.specs.Numbers.{powerRows}
 use Rattle.states.specs.States.{machine, byRow, machineAfter}
 use Rattle.states.specs.declared.Values.{Values}
-use Rattle.states.specs.declared.State.{State}
-use Rattle.states.specs.declared.State.the-variants.{NP, CO, EG}
+use Rattle.state_codes.specs.declared.State.{State}
+use Rattle.state_codes.specs.declared.State.the-variants.{NP, CO, EG}
 use Rattle.call.specs.Call.{Call, Accepted, Outcome, Step, conditionsIn, judged, outcomeOf, stepOf}
 use Rattle.call.proofs.Rows.{memory-length}
 use Rattle.whole_list.specs.Values.{History, eventOfCall, latest, routeBy, reportsSince, behindAtLoad}

@@ -11,7 +11,7 @@ use Rattle.engine_value.specs.Engine.{fresh}
 use Rattle.position.specs.Standing.{standing}
 use Rattle.position.specs.declared.Standing.{Standing}
 use Rattle.position.specs.declared.Standing.the-variants.{Targeted, Reached, Passed}
-use Rattle.states.specs.Codes.{code}
+use Rattle.state_codes.specs.Codes.{code}
 use Rattle.call.specs.Call.{Call, Accepted}
 use Rattle.call.specs.Trials.{answered, plain, powerOn, configured, reports, at, press, mode, plainly, trialLoad}
 use Rattle.whole_list.specs.Rules.{standingBy, conditionsBy, stateBy, requestBy}

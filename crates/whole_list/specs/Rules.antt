@@ -13,14 +13,14 @@ use Rattle.timing.specs.History.{Stands}
 use Rattle.timing.specs.Rule.{standingByReports}
 use Rattle.position.specs.declared.Standing.{Standing}
 use Rattle.position.specs.declared.Standing.the-variants.{Reached}
-use Rattle.states.specs.Codes.{modeAt, leverAt}
+use Rattle.state_codes.specs.Codes.{modeAt, leverAt}
 use Rattle.conditions.specs.Conditions.{conditions, O}
 use Rattle.states.specs.States.{machine, T, machineAfter, given}
 use Rattle.states.specs.declared.Values.{Values}
 use Rattle.states.specs.declared.Machine.{Machine}
 use Rattle.engagement.specs.Engagement.{Engagement}
-use Rattle.states.specs.declared.State.{State}
-use Rattle.states.specs.declared.State.the-variants.{NP}
+use Rattle.state_codes.specs.declared.State.{State}
+use Rattle.state_codes.specs.declared.State.the-variants.{NP}
 use Rattle.call.specs.Call.{Call}
 use Rattle.whole_list.specs.Values.{History, eventOfCall, roleOfCall, modeBy, leverBy, reportsBy, positionBy, routeBy, reportsSince, behindAtLoad}
 

@@ -24,9 +24,9 @@ use Rattle.position.specs.declared.Found.{Found}
 use Rattle.position.specs.declared.Found.the-variants.{At, Nothing}
 use Rattle.position.specs.declared.Standing.{Standing}
 use Rattle.position.specs.declared.Standing.the-variants.{Unused, Targeted, Reached, Passed}
-use Rattle.states.specs.Codes.{code}
+use Rattle.state_codes.specs.Codes.{code}
 use Rattle.conditions.specs.Conditions.{firstAhead}
-use Rattle.states.specs.Numbers.{powerRows, stateRow}
+use Rattle.state_codes.specs.Numbers.{powerRows, stateRow}
 use Rattle.call.specs.Packets.{Status, packetsOf}
 use Rattle.call.specs.Effect.{offsetBeyond, sameBool}
 use Rattle.call.specs.Call.{Call, Accepted}

@@ -20,9 +20,9 @@ use Rattle.timing.specs.Distance.{beyond}
 use Rattle.position.specs.Standing.{standing}
 use Rattle.timing.specs.Changes.{statusPassed}
 use Rattle.position.specs.declared.Standing.{Standing}
-use Rattle.states.specs.Codes.{code}
+use Rattle.state_codes.specs.Codes.{code}
 use Rattle.states.specs.States.{wanted}
-use Rattle.states.specs.declared.EtcsMode.the-variants.{Other}
+use Rattle.state_codes.specs.declared.EtcsMode.the-variants.{Other}
 use Rattle.call.specs.Call.{Call, Accepted, Outcome, stepOf, conditionsIn}
 use Rattle.whole_list.specs.Values.{History, eventOfCall, routeBy, reportAt}
 use Rattle.whole_list.specs.Rules.{StandsBy, conditionsBy, valuesBy, stateBy, requestBy, upto, Engaged}

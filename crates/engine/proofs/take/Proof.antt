@@ -1,8 +1,8 @@
 use denote.Ref.{now}
 use mathlib.Core.Path.{_≡_, ap₂, _∙_}
 use Rattle.event.specs.Kinds.{kindOf}
-use Rattle.states.specs.Codes.{stateAt}
-use Rattle.states.specs.Numbers.{stateRows}
+use Rattle.state_codes.specs.Codes.{stateAt}
+use Rattle.state_codes.specs.Numbers.{stateRows}
 use Rattle.wire.specs.View.{verdictView}
 use Rattle.engine.proofs.Rows.{rows-number, rows-effect, rows-output, steps-refused, steps-by}
 use borrow.Author.Needs.{needs}

@@ -2,9 +2,9 @@ use mathlib.Core.Path.{sym, ap, _∙_}
 use borrow.Author.Tests.{not-false, not-true}
 use mathlib.Core.Path.{ap₂}
 use mathlib.Core.Bool.{false}
-use Rattle.states.specs.Codes.{is}
+use Rattle.state_codes.specs.Codes.{is}
 use Rattle.states.specs.States.{machine}
-use Rattle.states.specs.declared.State.the-variants.{RE}
+use Rattle.state_codes.specs.declared.State.the-variants.{RE}
 use Rattle.states.proofs.Laws.{press-stays}
 use borrow.Author.Needs.{needs}
 use Rattle.states.proofs.from_re.Statement.{statement}

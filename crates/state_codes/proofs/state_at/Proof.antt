@@ -1,8 +1,8 @@
 use mathlib.Core.Path.{sym, ap}
 use borrow.Author.Tests.{ne-eqb}
-use Rattle.states.specs.Codes.{stateAt}
-use Rattle.states.proofs.state_at.Statement.{statement}
-use Rattle.states.proofs.state_at.Tie as tie
+use Rattle.state_codes.specs.Codes.{stateAt}
+use Rattle.state_codes.proofs.state_at.Statement.{statement}
+use Rattle.state_codes.proofs.state_at.Tie as tie
 
 returns : tie.Need-returns
 returns c = sym (ap stateAt (c .match .keys1))

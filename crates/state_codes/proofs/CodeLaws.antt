@@ -5,10 +5,10 @@ use Prim.Native.Nat.{ℕ, _≤_}
 use native.Mathlib.Omega.{arith}
 use lib.Dec.{eqb}
 use borrow.Author.Tests.{eqb-true}
-use Rattle.states.specs.Codes.{code, stateAt, is, modeAt}
-use Rattle.states.specs.declared.State.{State}
-use Rattle.states.specs.declared.State.the-variants.{NP, CO, NA, AV, RE, EG, DE, FA}
-use Rattle.states.specs.declared.EtcsMode.the-variants.{AD}
+use Rattle.state_codes.specs.Codes.{code, stateAt, is, modeAt}
+use Rattle.state_codes.specs.declared.State.{State}
+use Rattle.state_codes.specs.declared.State.the-variants.{NP, CO, NA, AV, RE, EG, DE, FA}
+use Rattle.state_codes.specs.declared.EtcsMode.the-variants.{AD}
 
 pub state-code : (s : State) → stateAt (code s) ≡ s
 state-code NP = refl

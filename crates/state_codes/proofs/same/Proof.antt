@@ -1,8 +1,8 @@
 use mathlib.Core.Path.{ap₂}
 use lib.Dec.{eqb}
 use borrow.Author.Needs.{needs}
-use Rattle.states.proofs.same.Statement.{statement}
-use Rattle.states.proofs.same.Tie as tie
+use Rattle.state_codes.proofs.same.Statement.{statement}
+use Rattle.state_codes.proofs.same.Tie as tie
 
 code-of-requires : tie.Need-code-of-requires
 code-of-requires c κs = search needs

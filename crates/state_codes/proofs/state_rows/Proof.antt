@@ -1,10 +1,10 @@
 use mathlib.Core.Path.{sym, ap, _∙_}
 use Rattle.wire.specs.Judged.{Judged, thenJudge}
 use Rattle.wire.specs.View.{verdictView}
-use Rattle.states.specs.Numbers.{stateRow, stateRows}
+use Rattle.state_codes.specs.Numbers.{stateRow, stateRows}
 use borrow.Author.Needs.{needs}
-use Rattle.states.proofs.state_rows.Statement.{statement}
-use Rattle.states.proofs.state_rows.Tie as tie
+use Rattle.state_codes.proofs.state_rows.Statement.{statement}
+use Rattle.state_codes.proofs.state_rows.Tie as tie
 
 power-rows-requires : tie.Need-power-rows-requires
 power-rows-requires c κs = search needs

@@ -3,9 +3,9 @@ use Prim.Native.Nat.{ℕ}
 use mathlib.Core.Bool.{not, _&&_, _||_}
 use lib.Dec.{eqb}
 use Rattle.wire.specs.Judged.{Judged, row, _>>_}
-use Rattle.states.specs.Codes.{is}
-use Rattle.states.specs.declared.State.{State}
-use Rattle.states.specs.declared.State.the-variants.{NP, CO, RE, FA}
+use Rattle.state_codes.specs.Codes.{is}
+use Rattle.state_codes.specs.declared.State.{State}
+use Rattle.state_codes.specs.declared.State.the-variants.{NP, CO, RE, FA}
 
 -- "3 NP and kind not 1; 4 kind 1 outside NP; 5 FA and kind not 3 (kind 1: 4)"
 unfoldable pub powerRows : State → ℕ → Judged (Unit {0})

@@ -1,6 +1,6 @@
 use borrow.Author.Tests.{eq-eqb, ne-eqb}
-use Rattle.states.proofs.mode_at.Statement.{statement}
-use Rattle.states.proofs.mode_at.Tie as tie
+use Rattle.state_codes.proofs.mode_at.Statement.{statement}
+use Rattle.state_codes.proofs.mode_at.Tie as tie
 
 returns : tie.Need-returns
 returns c = rw (eq-eqb _ _ (c .if1 .taken))

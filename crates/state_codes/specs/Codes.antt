@@ -3,12 +3,12 @@ use Prim.Native.Nat.{ℕ}
 use mathlib.Core.Bool.{Bool, true, false}
 use lib.Dec.{eqb}
 use Rattle.wire.specs.Numbers.{if_then_else_}
-use Rattle.states.specs.declared.State.{State}
-use Rattle.states.specs.declared.State.the-variants.{NP, CO, NA, AV, RE, EG, DE, FA}
-use Rattle.states.specs.declared.EtcsMode.{EtcsMode}
-use Rattle.states.specs.declared.EtcsMode.the-variants.{Other, AD}
-use Rattle.states.specs.declared.DriverLever.{DriverLever}
-use Rattle.states.specs.declared.DriverLever.the-variants.{Neutral, Traction, Brake}
+use Rattle.state_codes.specs.declared.State.{State}
+use Rattle.state_codes.specs.declared.State.the-variants.{NP, CO, NA, AV, RE, EG, DE, FA}
+use Rattle.state_codes.specs.declared.EtcsMode.{EtcsMode}
+use Rattle.state_codes.specs.declared.EtcsMode.the-variants.{Other, AD}
+use Rattle.state_codes.specs.declared.DriverLever.{DriverLever}
+use Rattle.state_codes.specs.declared.DriverLever.the-variants.{Neutral, Traction, Brake}
 
 -- "Codes (ours, since SUBSET-126 sets them): 0 NP, 1 CO, 2 NA, 3 AV, 4 RE, 5 EG, 6 DE, 7 FA."
 abbrev pub code : State → ℕ
@@ -24,13 +24,13 @@ code FA = 7
 -- the state of a code; no call leaves one above 7
 abbrev pub stateAt : ℕ → State
 stateAt n =
-    if eqb n 0 then NP else
-    if eqb n 1 then CO else
-    if eqb n 2 then NA else
-    if eqb n 3 then AV else
-    if eqb n 4 then RE else
-    if eqb n 5 then EG else
-    if eqb n 6 then DE else
+    if eqb n (code NP) then NP else
+    if eqb n (code CO) then CO else
+    if eqb n (code NA) then NA else
+    if eqb n (code AV) then AV else
+    if eqb n (code RE) then RE else
+    if eqb n (code EG) then EG else
+    if eqb n (code DE) then DE else
     FA
 
 abbrev pub is : State → State → Bool

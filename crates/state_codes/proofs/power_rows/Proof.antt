@@ -1,12 +1,12 @@
 use mathlib.Core.Path.{sym, _∙_}
 use borrow.Author.Tests.{eq-eqb, ne-eqb}
 use mathlib.Core.Path.{ap₂}
-use Rattle.states.specs.Numbers.{powerRows}
-use Rattle.states.proofs.CodeLaws.{same-state}
-use Rattle.states.specs.declared.State.the-variants.{NP}
+use Rattle.state_codes.specs.Numbers.{powerRows}
+use Rattle.state_codes.proofs.CodeLaws.{same-state}
+use Rattle.state_codes.specs.declared.State.the-variants.{NP}
 use borrow.Author.Needs.{needs}
-use Rattle.states.proofs.power_rows.Statement.{statement}
-use Rattle.states.proofs.power_rows.Tie as tie
+use Rattle.state_codes.proofs.power_rows.Statement.{statement}
+use Rattle.state_codes.proofs.power_rows.Tie as tie
 
 same-requires : tie.Need-same-requires
 same-requires c κs = search needs

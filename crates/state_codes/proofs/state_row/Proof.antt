@@ -1,12 +1,12 @@
 use mathlib.Core.Path.{sym, _∙_}
 use borrow.Author.Tests.{eq-eqb, ne-eqb}
 use mathlib.Core.Path.{ap₂}
-use Rattle.states.specs.Numbers.{stateRow}
-use Rattle.states.proofs.CodeLaws.{same-state}
-use Rattle.states.specs.declared.State.the-variants.{CO}
+use Rattle.state_codes.specs.Numbers.{stateRow}
+use Rattle.state_codes.proofs.CodeLaws.{same-state}
+use Rattle.state_codes.specs.declared.State.the-variants.{CO}
 use borrow.Author.Needs.{needs}
-use Rattle.states.proofs.state_row.Statement.{statement}
-use Rattle.states.proofs.state_row.Tie as tie
+use Rattle.state_codes.proofs.state_row.Statement.{statement}
+use Rattle.state_codes.proofs.state_row.Tie as tie
 
 same-requires : tie.Need-same-requires
 same-requires c κs = search needs
