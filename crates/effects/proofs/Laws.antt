@@ -1,15 +1,17 @@
 -- Laws of the effects, by case.
 use Prim.Native.Nat.{ℕ}
-use mathlib.Core.Path.{_≡_, refl, sym, ap, _∙_}
+use mathlib.Core.Path.{_≡_, refl, sym, ap, subst, _∙_}
 use mathlib.Core.List.{List}
 use mathlib.Core.Bool.{Bool, true, false}
+use mathlib.Core.Option.{Option, none, some}
 use lib.ListN.{getD, set}
 use lib.Dec.{eqb, ltb}
+use native.Mathlib.Omega.{arith}
 use borrow.Author.Tests.{eq-eqb, ne-eqb}
 use Rattle.wire.specs.Judged.{Judged, thenJudge}
 use Rattle.wire.specs.Judged.Judged.{refuse, accept}
 use Rattle.wire.specs.declared.Verdict.{Verdict}
-use Rattle.engine_value.specs.Engine.{routeIn, undefined, progress, withRoute, withSkips, withProgress, withPosition}
+use Rattle.engine_value.specs.Engine.{routeIn, undefined, progress, withRoute, withSkips, withProgress}
 use Rattle.engine_value.specs.declared.Position.{Position}
 use Rattle.engine_value.specs.declared.Engine.{Engine}
 use Rattle.position.specs.Position.{segmentNamed}
@@ -21,25 +23,35 @@ use Rattle.timing.specs.Changes.{passings, reportChanges}
 use Rattle.position.specs.declared.Found.the-variants.{At}
 use Rattle.position.specs.declared.Named.{Named}
 use Rattle.timing.specs.declared.Reported.{Reported}
+use Rattle.conditions.specs.Conditions.{lookedUp}
 use Rattle.conditions.specs.declared.LookedUp.{LookedUp}
+use Rattle.event.specs.Kinds.{Role, load, report, other, skip, newer, roleOf, carried}
+use Rattle.event.specs.declared.Event.{Event}
+use Rattle.event.proofs.Known.{OfRole, known, OfPosition, position-of}
+use Rattle.position.specs.Skips.{stopNamed}
 use Rattle.route.specs.Route.{LoadValue, loadOf}
 use Rattle.route.specs.View.{loadView}
 use Rattle.route.specs.declared.Loaded.{Loaded}
 use Rattle.event_packets.specs.declared.Changes.{Changes}
 use Rattle.journey.specs.declared.Head.{Head}
 use Rattle.call.specs.Effect as model
-use Rattle.call.specs.Effect.{valuesOnly, offsetBeyond, positionEffect, loadedIn, loadEffect, sameBool, skipEffect}
+use Rattle.call.specs.Effect.{valuesOnly, taking, offsetBeyond, positionEffect, loadedIn, loadEffect, sameBool, skipEffect, effectAs, effect}
 use Rattle.effects.specs.declared.Effect.{Effect}
 use Rattle.effects.specs.View.{noChanges, oneChange, reportedChanges, skipStatus, routeView, lookedUpIn, plainEffect, acceptedView, effectView, Gives}
 
-pub gives-values-only : (e m n : Engine) (v w : LookedUp) (f : Effect) (x : Judged model.Effect) → f ≡ plainEffect m Verdict.Accepted v w → m ≡ n → v ≡ lookedUpIn e → w ≡ lookedUpIn n
-    → accept (valuesOnly n) ≡ x → Gives e x f
+-- an event that brings a value, or nothing
+pub gives-values-only : (e m n : Engine) (v w : LookedUp) (f : Effect) (x : Judged model.Effect) → f ≡ plainEffect m Verdict.Accepted w → m ≡ n → (v ≡ lookedUpIn e → w ≡ lookedUpIn n)
+    → accept (valuesOnly n) ≡ x → Gives e v x f
 unfolding passings
-gives-values-only e m n v w f x q a s t y = record { effect = rw (q, a) y; before = rw q s; after = rw (q, a) t }
+gives-values-only e m n v w f x q a t y = record { effect = rw (q, a) y; after = λ s. rw (q, a) (t s) }
 
 -- a row that refuses
-pub gives-number : (e : Engine) (k : ℕ) (w : LookedUp) (f : Effect) (x : Judged model.Effect) → f ≡ plainEffect e (Verdict.Refused k) w w → w ≡ lookedUpIn e → refuse k ≡ x → Gives e x f
-gives-number e k w f x q t y = record { effect = rw q y; before = rw q t; after = rw q t }
+pub gives-number : (e : Engine) (k : ℕ) (w : LookedUp) (f : Effect) (x : Judged model.Effect) → f ≡ plainEffect e (Verdict.Refused k) w → refuse k ≡ x → Gives e w x f
+gives-number e k w f x q y = record { effect = rw q y; after = λ s. rw q s }
+
+-- an effect that is another's
+pub gives-by : (e : Engine) (v : LookedUp) (x y : Judged model.Effect) (f : Effect) → x ≡ y → Gives e v y f → Gives e v x f
+gives-by e v x y f p g = record { effect = g .effect ∙ sym p; after = g .after }
 
 pub seen-number : (f : Effect) (n : ℕ) → f .verdict ≡ Verdict.Refused n → effectView f ≡ refuse n
 seen-number f n q = rw q
@@ -66,17 +78,20 @@ module _ (s : Named) (x : Position) where
     unfolding offsetBeyond
     beyond-unbooked f b = rw (ne-eqb (x .offset) undefined h, f, b)
 
-module _ (e : Engine) (x : Position) where
-  pub position-13 : offsetBeyond (segmentNamed (routeIn e) x) x ≡ true → positionEffect (withPosition e x) ≡ refuse 13
+module _ (m : Engine) where
+  abbrev beyond : Bool
+  beyond = offsetBeyond (segmentNamed (routeIn m) (m .train .position)) (m .train .position)
+
+  pub position-13 : beyond ≡ true → positionEffect m ≡ refuse 13
   unfolding positionEffect
   position-13 h = rw h
 
-  pub position-reported : (m : Engine) (t : Reported) (ch : Changes) (head : Head) → offsetBeyond (segmentNamed (routeIn e) x) x ≡ false → m ≡ withPosition e x
+  pub position-reported : (e : Engine) (v w : LookedUp) (t : Reported) (ch : Changes) (head : Head) → beyond ≡ false
       → t ≡ reportOf (routeIn m) (reportIn m) (m .progress) → ch ≡ reportedChanges (m .progress .next) t
-      → (v w : LookedUp) → v ≡ lookedUpIn e → w ≡ lookedUpIn (withProgress m (t .progress))
-      → Gives e (positionEffect (withPosition e x)) (record { engine = withProgress m (t .progress); verdict = Verdict.Accepted; loaded = false; head = head; changes = ch; reached = t .reached; before = v; after = w })
+      → (v ≡ lookedUpIn e → w ≡ lookedUpIn (withProgress m (t .progress)))
+      → Gives e v (positionEffect m) (record { engine = withProgress m (t .progress); verdict = Verdict.Accepted; loaded = false; head = head; changes = ch; reached = t .reached; after = w })
   unfolding positionEffect reportChanges
-  position-reported m t ch head h a q c v w s u = record { effect = rw (h, c, q, a); before = s; after = u }
+  position-reported e v w t ch head h q c u = record { effect = rw (h, c, q); after = u }
 
 -- load
 module _ (e : Engine) (journey book : List ℕ) (l : Loaded) (told : loadView l ≡ loadOf journey book) where
@@ -94,10 +109,10 @@ module _ (e : Engine) (journey book : List ℕ) (l : Loaded) (told : loadView l 
 
   pub load-taken : (m : Engine) (ch : Changes) → l .verdict ≡ Verdict.Accepted
       → m ≡ withProgress (withRoute e (routeView l)) (progress (target (routeView l) (e .train .position) (e .train .length)) false) → ch ≡ noChanges
-      → (v w : LookedUp) → v ≡ lookedUpIn e → w ≡ lookedUpIn m
-      → Gives e (loadEffect e journey book) (record { engine = m; verdict = Verdict.Accepted; loaded = true; head = l .head; changes = ch; reached = false; before = v; after = w })
+      → (v w : LookedUp) → w ≡ lookedUpIn m
+      → Gives e v (loadEffect e journey book) (record { engine = m; verdict = Verdict.Accepted; loaded = true; head = l .head; changes = ch; reached = false; after = w })
   unfolding passings
-  load-taken m ch h q c v w s u = record { effect = rw (q, c) (load-route h); before = s; after = u }
+  load-taken m ch h q c v w u = record { effect = rw (q, c) (load-route h); after = λ s. u }
 
 -- 15
 module _ (e : Engine) (k : ℕ) (on : Bool) where
@@ -111,7 +126,33 @@ module _ (e : Engine) (k : ℕ) (on : Bool) where
 
   pub skip-taken : (m : Engine) (ch : Changes) (head : Head) → behind (standing (e .progress) k) ≡ false → sameBool (getD (e .skips) k false) on ≡ false
       → m ≡ withSkips e (set (e .skips) k on) → ch ≡ oneChange k (skipStatus on) (e .progress)
-      → (w : LookedUp) → w ≡ lookedUpIn e
-      → Gives e (skipEffect e on (At k)) (record { engine = m; verdict = Verdict.Accepted; loaded = false; head = head; changes = ch; reached = false; before = w; after = w })
+      → (w : LookedUp)
+      → Gives e w (skipEffect e on (At k)) (record { engine = m; verdict = Verdict.Accepted; loaded = false; head = head; changes = ch; reached = false; after = w })
   unfolding skipEffect passings
-  skip-taken m ch head h q a b w v = record { effect = rw (h, q, a, b); before = v; after = rw a v }
+  skip-taken m ch head h q a b w = record { effect = rw (h, q, a, b); after = λ s. rw a s }
+
+-- ---- an event by its role
+module _ (e : Engine) (journey book : List ℕ) (v : Event) where
+  pub by-role : (q : Role) → roleOf v ≡ q → effect e journey book v ≡ effectAs q (taking e (carried v)) journey book
+  unfolding effect
+  by-role q p = ap (λ (q : Role). effectAs q (taking e (carried v)) journey book) p
+
+  ofRole : (q : Role) → roleOf v ≡ q → OfRole q v
+  ofRole q p = subst (λ (q : Role). OfRole q v) p (known v .role)
+
+  pub by-load : roleOf v ≡ load → effect e journey book v ≡ loadEffect e journey book
+  unfolding effect
+  by-load p = ap (effect e journey book) (ofRole load p)
+
+  pub by-skip : (t : ℕ) (on : Bool) → roleOf v ≡ skip t on → effect e journey book v ≡ skipEffect e on (stopNamed (routeIn e) t)
+  unfolding effect
+  by-skip t true p = ap (effect e journey book) (ofRole (skip t true) p)
+  by-skip t false p = ap (effect e journey book) (ofRole (skip t false) p)
+
+  -- no position comes with it
+  pub looked-kept : roleOf v ≡ other → lookedUpIn e ≡ lookedUpIn (taking e (carried v))
+  looked-kept p = ap (λ (x : Position). lookedUp (routeIn e) x (standing (e .progress))) (sym (go (carried v .position) (position-of v)))
+    where
+      go : (o : Option Position) → OfPosition o v → newer o (e .train .position) ≡ e .train .position
+      go none k = refl
+      go (some x) k = let r : other ≡ report = sym p ∙ ap roleOf k in let z : _≡_ {A = ℕ} 0 1 = cc r in absurd (omega arith)

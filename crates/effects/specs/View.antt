@@ -44,9 +44,8 @@ routeView l = record { load = l .load; points = l .points; segments = l .segment
 abbrev pub lookedUpIn : Engine → LookedUp
 lookedUpIn e = lookedUp (routeIn e) (e .train .position) (standing (e .progress))
 
-abbrev pub plainEffect : Engine → Verdict → LookedUp → LookedUp → Effect
-plainEffect e v before after =
-    record { engine = e; verdict = v; loaded = false; head = blankHead; changes = noChanges; reached = false; before = before; after = after }
+abbrev pub plainEffect : Engine → Verdict → LookedUp → Effect
+plainEffect e v after = record { engine = e; verdict = v; loaded = false; head = blankHead; changes = noChanges; reached = false; after = after }
 
 abbrev pub acceptedView : Effect → model.Effect
 acceptedView f = record {
@@ -60,8 +59,7 @@ acceptedView f = record {
 abbrev pub effectView : Effect → Judged model.Effect
 effectView f = thenJudge (verdictView (f .verdict)) (λ u. accept (acceptedView f))
 
--- such an effect on engine e, and what the conditions look up before and after it
-pub record Gives (e : Engine) (x : Judged model.Effect) (f : Effect) : Type 0 where
+-- such an effect on engine e; and, where `looked` is what the conditions look up in e, it has what they look up after it
+pub record Gives (e : Engine) (looked : LookedUp) (x : Judged model.Effect) (f : Effect) : Type 0 where
   pub effect : effectView f ≡ x
-  pub before : f .before ≡ lookedUpIn e
-  pub after : f .after ≡ lookedUpIn (f .engine)
+  pub after : looked ≡ lookedUpIn e → f .after ≡ lookedUpIn (f .engine)

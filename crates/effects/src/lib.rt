@@ -5,6 +5,7 @@ use engine_value::Position;
 use engine_value::Progress;
 use engine_value::UNDEFINED;
 use event::Event;
+use event::Role;
 use event_packets::Changes;
 use journey::Head;
 use position::Found;
@@ -18,19 +19,19 @@ ghost use mathlib.Core.Bool.{false};
 ghost use Prim.Native.Nat.{_<_};
 ghost use lib.ListN.{set};
 ghost use Rattle.wire.specs.declared.Verdict.the-variants.{Accepted};
-ghost use Rattle.engine_value.specs.Engine.{routeIn, fresh, progress, withPosition, withRoute, withSkips, withProgress};
+ghost use Rattle.engine_value.specs.Engine.{routeIn, fresh, progress, withRoute, withSkips, withProgress};
 ghost use Rattle.journey.specs.Journey.{blankHead};
 ghost use Rattle.position.specs.Standing.{standing, behind};
 ghost use Rattle.conditions.specs.Conditions.{profilesThere};
 ghost use Rattle.position.specs.Skips.{stopNamed};
 ghost use Rattle.timing.specs.Load.{target};
 ghost use Rattle.position.specs.declared.Found.the-variants.{At};
-ghost use Rattle.event.specs.Kinds.{mode, lever, reports, trainLength, number, bringing};
+ghost use Rattle.event.specs.Kinds.{carried};
 ghost use Rattle.call.specs.Effect.{taking, positionEffect, loadEffect, offsetBeyond, sameBool, skipEffect, effect};
 ghost use Rattle.effects.specs.View.{noChanges, oneChange, reportedChanges, skipStatus, routeView, lookedUpIn, plainEffect, Gives};
 
 // The engine with the event's values, the head of a journey that was loaded, the points that changed, whether one became reached, and what the
-// conditions look up before and after it; where a row refuses, its number alone counts.
+// conditions look up after it; where a row refuses, its number alone counts.
 pub struct Effect {
     pub engine: Engine,
     pub verdict: Verdict,
@@ -38,7 +39,6 @@ pub struct Effect {
     pub head: Head,
     pub changes: Changes,
     pub reached: bool,
-    pub before: LookedUp,
     pub after: LookedUp,
 }
 
@@ -87,8 +87,8 @@ fn one_change(index: u8, status: u8, after: Progress) -> Changes
 }
 
 // An engine with nothing loaded and no point changed; the engine does not count where a row refuses.
-fn plain(e: Engine, verdict: Verdict, before: LookedUp, after: LookedUp) -> Effect
-    ensures { λ r. ⌜ r ≡ plainEffect e verdict before after ⌝ }
+fn plain(e: Engine, verdict: Verdict, after: LookedUp) -> Effect
+    ensures { λ r. ⌜ r ≡ plainEffect e verdict after ⌝ }
 {
     let head = no_head();
     let changes = no_changes();
@@ -99,51 +99,47 @@ fn plain(e: Engine, verdict: Verdict, before: LookedUp, after: LookedUp) -> Effe
         head: head,
         changes: changes,
         reached: false,
-        before: before,
         after: after,
     }
 }
 
-fn with_mode(e: Engine, n: u8) -> Engine
-    ensures { λ r. ⌜ r ≡ taking e (bringing (number mode n)) ⌝ }
+// The engine with the value that an event brings.
+fn with_value(e: Engine, v: Event) -> Engine
+    ensures { λ r. ⌜ r ≡ taking e (carried v) ⌝ }
 {
     let mut m = e;
-    m.train.mode = n;
-    m
-}
-
-fn with_lever(e: Engine, n: u8) -> Engine
-    ensures { λ r. ⌜ r ≡ taking e (bringing (number lever n)) ⌝ }
-{
-    let mut m = e;
-    m.train.lever = n;
-    m
-}
-
-fn with_reports(e: Engine, n: u8) -> Engine
-    ensures { λ r. ⌜ r ≡ taking e (bringing (number reports n)) ⌝ }
-{
-    let mut m = e;
-    m.train.reports = n;
-    m
-}
-
-fn with_length(e: Engine, n: u32) -> Engine
-    ensures { λ r. ⌜ r ≡ taking e (bringing (number trainLength n)) ⌝ }
-{
-    let mut m = e;
-    m.train.length = n;
-    m
-}
-
-fn with_position(e: Engine, x: Position) -> Engine
-    ensures { λ r. ⌜ r ≡ withPosition e x ⌝ }
-{
-    let mut train = e.train;
-    train.position = x;
-    let mut m = e;
-    m.train = train;
-    m
+    match v {
+        Event::PowerOn => m,
+        Event::Configured => m,
+        Event::PowerOff => m,
+        Event::Fault => m,
+        Event::Reports(n) => {
+            m.train.reports = n;
+            m
+        }
+        Event::Mode(n) => {
+            m.train.mode = n;
+            m
+        }
+        Event::Lever(n) => {
+            m.train.lever = n;
+            m
+        }
+        Event::Press => m,
+        Event::PositionReport(x) => {
+            let mut train = e.train;
+            train.position = x;
+            m.train = train;
+            m
+        }
+        Event::Length(n) => {
+            m.train.length = n;
+            m
+        }
+        Event::Load => m,
+        Event::Skip(_) => m,
+        Event::Revoke(_) => m,
+    }
 }
 
 // 13, by the segment that a position names.
@@ -183,8 +179,7 @@ fn changes_of(index: u8, t: Reported) -> Changes
 
 // Condition 4 after a report, from before it on.
 fn profiles_after(m: Engine, p: Progress, before: bool) -> bool
-    requires { ⌜ before ≡ profilesThere (routeIn m) (standing (m .progress)) ⌝ }
-    ensures { λ r. ⌜ r ≡ profilesThere (routeIn m) (standing p) ⌝ }
+    ensures { λ r. ⌜ (before ≡ profilesThere (routeIn m) (standing (m .progress)) → r ≡ profilesThere (routeIn m) (standing p)) ⌝ }
 {
     if p.next == m.progress.next {
         before
@@ -194,21 +189,20 @@ fn profiles_after(m: Engine, p: Progress, before: bool) -> bool
 }
 
 // A position report.
-fn position(e: Engine, x: Position, looked: LookedUp) -> Effect
-    requires { ⌜ looked ≡ lookedUpIn e ⌝ }
-    ensures { λ r. ⌜ Gives e (positionEffect (withPosition e x)) r ⌝ }
+fn position(e: Engine, v: Event, looked: LookedUp) -> Effect
+    ensures { λ r. ⌜ Gives e looked (positionEffect (taking e (carried v))) r ⌝ }
 {
-    let mut m = with_position(e, x);
+    let mut m = with_value(e, v);
     let t = timing::report(m);
     let segment = t.segment;
-    if offset_beyond(segment, x) {
-        return plain(e, Verdict::Refused(13), looked, looked);
+    if offset_beyond(segment, m.train.position) {
+        return plain(e, Verdict::Refused(13), looked);
     }
     let head = no_head();
     let changes = changes_of(m.progress.next, t);
     let progress = t.progress;
     let profiles = profiles_after(m, progress, looked.profiles);
-    let after = conditions::look_up(segment, x, profiles);
+    let after = conditions::look_up(segment, m.train.position, profiles);
     m.progress = progress;
     Effect {
         engine: m,
@@ -217,7 +211,6 @@ fn position(e: Engine, x: Position, looked: LookedUp) -> Effect
         head: head,
         changes: changes,
         reached: t.reached,
-        before: looked,
         after: after,
     }
 }
@@ -253,13 +246,12 @@ fn with_target(e: Engine) -> Engine
 }
 
 fn load(e: Engine, journey: &[u8], book: &[u8], looked: LookedUp) -> Effect
-    requires { ⌜ looked ≡ lookedUpIn e ⌝ }
-    ensures { λ r. ⌜ Gives e (loadEffect e (now (journey .entry)) (now (book .entry))) r ⌝ }
+    ensures { λ r. ⌜ Gives e looked (loadEffect e (now (journey .entry)) (now (book .entry))) r ⌝ }
 {
     let l = route::load_route(journey, book);
     let verdict = l.verdict;
     if let Verdict::Refused(n) = verdict {
-        return plain(e, Verdict::Refused(n), looked, looked);
+        return plain(e, Verdict::Refused(n), looked);
     }
     let m = with_target(with_route(e, l));
     let head = l.head;
@@ -272,7 +264,6 @@ fn load(e: Engine, journey: &[u8], book: &[u8], looked: LookedUp) -> Effect
         head: head,
         changes: changes,
         reached: false,
-        before: looked,
         after: after,
     }
 }
@@ -314,17 +305,17 @@ fn with_skip(e: Engine, k: usize, on: bool) -> Engine
 
 // A driver skip of point k, or its revocation.
 fn skip_at(e: Engine, k: usize, on: bool, looked: LookedUp) -> Effect
-    requires { ⌜ (k < 64) × (looked ≡ lookedUpIn e) ⌝ }
-    ensures { λ r. ⌜ Gives e (skipEffect e on (At k)) r ⌝ }
+    requires { ⌜ k < 64 ⌝ }
+    ensures { λ r. ⌜ Gives e looked (skipEffect e on (At k)) r ⌝ }
 {
     let index = k as u8;
     if is_behind(e.progress, index) {
-        return plain(e, Verdict::Refused(15), looked, looked);
+        return plain(e, Verdict::Refused(15), looked);
     }
     let skips = e.skips;
     let given = skips[k];
     if same(given, on) {
-        return plain(e, Verdict::Refused(15), looked, looked);
+        return plain(e, Verdict::Refused(15), looked);
     }
     let m = with_skip(e, k, on);
     let head = no_head();
@@ -336,17 +327,15 @@ fn skip_at(e: Engine, k: usize, on: bool, looked: LookedUp) -> Effect
         head: head,
         changes: changes,
         reached: false,
-        before: looked,
         after: looked,
     }
 }
 
 fn skip(e: Engine, nidtp: u32, on: bool, looked: LookedUp) -> Effect
-    requires { ⌜ looked ≡ lookedUpIn e ⌝ }
-    ensures { λ r. ⌜ Gives e (skipEffect e on (stopNamed (routeIn e) nidtp)) r ⌝ }
+    ensures { λ r. ⌜ Gives e looked (skipEffect e on (stopNamed (routeIn e) nidtp)) r ⌝ }
 {
     let Found::At(k) = position::find_stop(e, nidtp) else {
-        return plain(e, Verdict::Refused(14), looked, looked);
+        return plain(e, Verdict::Refused(14), looked);
     };
     skip_at(e, k, on, looked)
 }
@@ -363,35 +352,23 @@ fn fresh_looked_up() -> LookedUp
 }
 
 // Power off returns to fresh.
-fn power_off(e: Engine, looked: LookedUp) -> Effect
-    ensures { λ r. ⌜ r ≡ plainEffect fresh Accepted looked (lookedUpIn fresh) ⌝ }
+fn power_off(e: Engine) -> Effect
+    ensures { λ r. ⌜ r ≡ plainEffect fresh Accepted (lookedUpIn fresh) ⌝ }
 {
     let m = engine_value::cleared(e);
     let after = fresh_looked_up();
-    plain(m, Verdict::Accepted, looked, after)
+    plain(m, Verdict::Accepted, after)
 }
 
-// The effect of an event, by its kind.
-pub fn effect_of(e: Engine, v: Event, journey: &[u8], book: &[u8]) -> Effect
-    ensures { λ r. ⌜ Gives e (effect e (now (journey .entry)) (now (book .entry)) v) r ⌝ }
+// The effect of an event, by its role. Where `looked` is what the conditions look up before the event, the effect has what they look up after it.
+pub fn effect_of(e: Engine, v: Event, journey: &[u8], book: &[u8], looked: LookedUp) -> Effect
+    ensures { λ r. ⌜ Gives e looked (effect e (now (journey .entry)) (now (book .entry)) v) r ⌝ }
 {
-    // conditions::looked_up, written out: a call of it would copy the engine once more
-    let s = position::segment_named(e);
-    let profiles = conditions::profiles_there(e, e.progress);
-    let looked = conditions::look_up(s, e.train.position, profiles);
-    match v {
-        Event::PowerOn => plain(e, Verdict::Accepted, looked, looked),
-        Event::Configured => plain(e, Verdict::Accepted, looked, looked),
-        Event::PowerOff => power_off(e, looked),
-        Event::Fault => plain(e, Verdict::Accepted, looked, looked),
-        Event::Reports(n) => plain(with_reports(e, n), Verdict::Accepted, looked, looked),
-        Event::Mode(n) => plain(with_mode(e, n), Verdict::Accepted, looked, looked),
-        Event::Lever(n) => plain(with_lever(e, n), Verdict::Accepted, looked, looked),
-        Event::Press => plain(e, Verdict::Accepted, looked, looked),
-        Event::PositionReport(x) => position(e, x, looked),
-        Event::Length(n) => plain(with_length(e, n), Verdict::Accepted, looked, looked),
-        Event::Load => load(e, journey, book, looked),
-        Event::Skip(t) => skip(e, t, true, looked),
-        Event::Revoke(t) => skip(e, t, false, looked),
+    match event::role_of(v) {
+        Role::Off => power_off(e),
+        Role::Load => load(e, journey, book, looked),
+        Role::Report => position(e, v, looked),
+        Role::Other => plain(with_value(e, v), Verdict::Accepted, looked),
+        Role::Skip(nidtp, on) => skip(e, nidtp, on, looked),
     }
 }

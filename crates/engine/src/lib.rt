@@ -90,12 +90,12 @@ fn conditions(e: Engine, looked: LookedUp) -> u16
     conditions::word_of(e.load, e.train.reports, looked, e.progress)
 }
 
-// The rows of the states, then 16, then the packets.
-fn conclude(e: Engine, v: Event, f: Effect, out: &mut [u8]) -> Stepped
-    requires { ⌜ (f .before ≡ lookedUpIn e) × (f .after ≡ lookedUpIn (f .engine)) ⌝ }
+// The rows of the states, then 16, then the packets. `looked` is what the conditions look up before the event.
+fn conclude(e: Engine, v: Event, looked: LookedUp, f: Effect, out: &mut [u8]) -> Stepped
+    requires { ⌜ (looked ≡ lookedUpIn e) × (f .after ≡ lookedUpIn (f .engine)) ⌝ }
     ensures { λ r. ⌜ Steps (outcomeOf e (now (out .entry)) (outputRow (now (out .entry)) (stepBy e v (acceptedView f)))) r (now (out .exit)) ⌝ }
 {
-    let before = shown(e, conditions(e, f.before));
+    let before = shown(e, conditions(e, looked));
     let word = conditions(f.engine, f.after);
     let m = after_rows(f.engine, v, f.reached, word);
     let after = shown(m, word);
@@ -118,12 +118,16 @@ fn take(e: Engine, v: Event, journey: &[u8], book: &[u8], out: &mut [u8]) -> Ste
     if let Verdict::Refused(n) = state_codes::state_rows(state, event::kind_of(v)) {
         return refused(e, n);
     }
-    let f = effects::effect_of(e, v, journey, book);
+    // conditions::looked_up, written out: a call of it would copy the engine once more
+    let s = position::segment_named(e);
+    let profiles = conditions::profiles_there(e, e.progress);
+    let looked = conditions::look_up(s, e.train.position, profiles);
+    let f = effects::effect_of(e, v, journey, book, looked);
     let verdict = f.verdict;
     if let Verdict::Refused(n) = verdict {
         return refused(e, n);
     }
-    conclude(e, v, f, out)
+    conclude(e, v, looked, f, out)
 }
 
 // One event. A refusal changes neither engine nor memory.

@@ -8,9 +8,9 @@ use wire::be32;
 ghost use mathlib.Core.Path.{_≡_};
 ghost use mathlib.Core.Bool.{_&&_};
 ghost use lib.Dec.{leb};
-ghost use Rattle.event.specs.Kinds.{kindOf, rowOf, positionContent};
+ghost use Rattle.event.specs.Kinds.{kindOf, rowOf, roleOf, positionContent};
 ghost use Rattle.event.specs.Events.{eventRows, eventWith, eventOf};
-ghost use Rattle.event.specs.View.{eventView};
+ghost use Rattle.event.specs.View.{eventView, roleView};
 
 // The kinds of events by their numbers.
 pub const POWER_ON: u8 = 1;
@@ -63,6 +63,15 @@ pub enum Row {
     Fail,
     EngagePress,
     ByState,
+}
+
+// What an event is to the journey and its points: power off, a load, a position report, nothing, a driver skip of a point's name given or revoked.
+pub enum Role {
+    Off,
+    Load,
+    Report,
+    Other,
+    Skip(u32, bool),
 }
 
 // An event, or the number that refuses it.
@@ -179,5 +188,26 @@ pub fn row_of(e: Event) -> Row
         Event::Load => Row::ByState,
         Event::Skip(_) => Row::ByState,
         Event::Revoke(_) => Row::ByState,
+    }
+}
+
+// What an event is to the journey and its points.
+pub fn role_of(e: Event) -> Role
+    ensures { λ r. ⌜ roleView r ≡ roleOf e ⌝ }
+{
+    match e {
+        Event::PowerOn => Role::Other,
+        Event::Configured => Role::Other,
+        Event::PowerOff => Role::Off,
+        Event::Fault => Role::Other,
+        Event::Reports(_) => Role::Other,
+        Event::Mode(_) => Role::Other,
+        Event::Lever(_) => Role::Other,
+        Event::Press => Role::Other,
+        Event::PositionReport(_) => Role::Report,
+        Event::Length(_) => Role::Other,
+        Event::Load => Role::Load,
+        Event::Skip(nidtp) => Role::Skip(nidtp, true),
+        Event::Revoke(nidtp) => Role::Skip(nidtp, false),
     }
 }

@@ -23,7 +23,7 @@ returns c =
     let l = c .before .before .before .before in
     let b = l .before .before .before in
     let a = b .args in
-    gives-number (a .e) _ (a .looked) _ _ (c .plain .ensures) (b .pre)
+    gives-number (a .e) _ (a .looked) _ _ (c .plain .ensures)
     (load-number (a .e) (now (a .journey)) (now (a .book)) (l .load-route .result) (l .load-route .ensures .seen) _ (c .before .before .verdict .given .1))
 
 enum-told : tie.Need-enum-told
@@ -52,7 +52,7 @@ returns-2 c =
     let a = s .args in
     load-taken (a .e) (now (a .journey)) (now (a .book)) (l .load-route .result) (l .load-route .ensures .seen) _ _ (told .enum-told .given .1)
     (t .with-target .ensures ∙ ap (λ (x : Engine). withProgress x (progress (target (routeIn x) (x .train .position) (x .train .length)) false)) (r .with-route .ensures))
-    (n .no-changes .ensures) _ _ (s .pre) (c .looked-up .ensures)
+    (n .no-changes .ensures) (a .looked) _ (c .looked-up .ensures)
 
 pub load-spec : {M : Type 1} → statement M
 load-spec =

@@ -9,10 +9,10 @@ profiles-there-requires : tie.Need-profiles-there-requires
 profiles-there-requires c κs = search needs
 
 returns : tie.Need-returns
-returns c = let s = c .before .before .before in s .pre ∙ profiles-same (routeIn (s .args .m)) (s .args .m .progress) (s .args .p) (sym (c .if1 .taken))
+returns c = λ h. let s = c .before .before .before in h ∙ profiles-same (routeIn (s .args .m)) (s .args .m .progress) (s .args .p) (sym (c .if1 .taken))
 
 returns-2 : tie.Need-returns-2
-returns-2 c = search needs
+returns-2 c = λ h. c .profiles-there .ensures
 
 pub profiles-after-spec : {M : Type 1} → statement M
 profiles-after-spec = tie.close (tie.spec profiles-there-requires returns returns-2)

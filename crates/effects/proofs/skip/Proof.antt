@@ -22,14 +22,15 @@ plain-requires c κs = search needs
 returns : tie.Need-returns
 unfolding skipEffect
 returns c = let s = c .before .before .before in let b = s .before in
-    gives-number (b .args .e) 14 (b .args .looked) _ _ (c .plain .ensures) (b .pre) (sym (ap (skipEffect _ _) (sym (s .find-stop .ensures .0) ∙ c .before .enum-told .given .1)))
+    gives-number (b .args .e) 14 (b .args .looked) _ _ (c .plain .ensures) (sym (ap (skipEffect _ _) (sym (s .find-stop .ensures .0) ∙ c .before .enum-told .given .1)))
 
 skip-at-requires : tie.Need-skip-at-requires
-skip-at-requires c κs = let s = c .before .before .before in (subst (IndexBelow 64) (c .before .k .given .1) (s .find-stop .ensures .1), s .before .pre)
+skip-at-requires c κs = subst (IndexBelow 64) (c .before .k .given .1) (c .before .before .before .find-stop .ensures .1)
 
 returns-2 : tie.Need-returns-2
 returns-2 c = let k = c .before .before in
-    subst (λ x. Gives (k .before .before .before .args .e) x (c .skip-at .result)) (sym (ap (skipEffect _ _) (sym (k .before .before .find-stop .ensures .0) ∙ k .k .given .1))) (c .skip-at .ensures)
+    let b = k .before .before .before in
+    subst (λ x. Gives (b .args .e) (b .args .looked) x (c .skip-at .result)) (sym (ap (skipEffect _ _) (sym (k .before .before .find-stop .ensures .0) ∙ k .k .given .1))) (c .skip-at .ensures)
 
 pub skip-spec : {M : Type 1} → statement M
 skip-spec =

@@ -17,7 +17,7 @@ plain-requires c κs = search needs
 
 returns : tie.Need-returns
 returns c = let b = c .before .before in let s = b .before in
-    gives-number (s .args .e) 15 (s .args .looked) _ _ (c .plain .ensures) (s .pre .1) (sym (skip-behind _ _ _ (sym (b .is-behind .ensures) ∙ c .before .if1 .taken)))
+    gives-number (s .args .e) 15 (s .args .looked) _ _ (c .plain .ensures) (sym (skip-behind _ _ _ (sym (b .is-behind .ensures) ∙ c .before .if1 .taken)))
 
 array-read-given : tie.Need-array-read-given
 array-read-given c = search needs
@@ -33,7 +33,7 @@ returns-2 c =
     let s = c .before .before in
     let i = s .before .before in
     let b = i .before .before in
-    gives-number (b .args .e) 15 (b .args .looked) _ _ (c .plain2 .ensures) (b .pre .1)
+    gives-number (b .args .e) 15 (b .args .looked) _ _ (c .plain2 .ensures)
     (sym (skip-same _ _ _ (sym (i .before .is-behind .ensures) ∙ i .if1 .left) (sym (s .same .ensures) ∙ c .before .if2 .taken)))
 
 with-skip-requires : tie.Need-with-skip-requires
@@ -56,7 +56,7 @@ returns-3 c =
     let i = s .before .before in
     let b = i .before .before in
     skip-taken (b .args .e) (b .args .k) (b .args .on) _ _ (t .before .no-head .result) (sym (i .before .is-behind .ensures) ∙ i .if1 .left) (sym (s .same .ensures) ∙ w .before .if2 .left) (w .with-skip .ensures)
-    (c .one-change .ensures ∙ ap (λ (n : ℕ). oneChange (b .args .k) n (b .args .e .progress)) (t .skip-status .ensures)) _ (b .pre .1)
+    (c .one-change .ensures ∙ ap (λ (n : ℕ). oneChange (b .args .k) n (b .args .e .progress)) (t .skip-status .ensures)) (b .args .looked)
 
 pub skip-at-spec : {M : Type 1} → statement M
 skip-at-spec =

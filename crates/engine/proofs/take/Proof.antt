@@ -4,6 +4,8 @@ use Rattle.event.specs.Kinds.{kindOf}
 use Rattle.state_codes.specs.Codes.{stateAt}
 use Rattle.state_codes.specs.Numbers.{stateRows}
 use Rattle.wire.specs.View.{verdictView}
+use Rattle.conditions.specs.Conditions.{lookUp}
+use Rattle.effects.specs.View.{lookedUpIn}
 use Rattle.engine.proofs.Rows.{rows-number, rows-effect, rows-output, steps-refused, steps-by}
 use borrow.Author.Needs.{needs}
 use Rattle.engine.proofs.take.Statement.{statement}
@@ -11,6 +13,12 @@ use Rattle.engine.proofs.take.Tie as tie
 
 judged : (c : tie.After-state-rows) → let a = c .before .before .before .before .before .before .args in verdictView (c .state-rows .result) ≡ stateRows (stateAt (a .e .control .state)) (kindOf (a .v))
 judged c = c .state-rows .ensures ∙ ap₂ stateRows (c .before .before .state-at .ensures) (c .before .kind-of .ensures)
+
+found : (c : tie.After-look-up) → let a = c .before .before .before .before .before .before .before .before .before .before .before .args in c .look-up .result ≡ lookedUpIn (a .e)
+found c =
+    let s = c .before .before in
+    let e = s .before .before .before .before .before .before .before .before .before .args .e in
+    c .look-up .ensures ∙ ap₂ (λ g b. lookUp g (e .train .position) b) (s .segment-named .ensures) (c .before .profiles-there .ensures)
 
 state-at-requires : tie.Need-state-at-requires
 state-at-requires c κs = search needs
@@ -36,6 +44,15 @@ returns c =
 enum-told : tie.Need-enum-told
 enum-told c = search needs
 
+segment-named-requires : tie.Need-segment-named-requires
+segment-named-requires c κs = search needs
+
+profiles-there-requires : tie.Need-profiles-there-requires
+profiles-there-requires c κs = search needs
+
+look-up-requires : tie.Need-look-up-requires
+look-up-requires c κs = search needs
+
 effect-of-requires : tie.Need-effect-of-requires
 effect-of-requires c κs = search needs
 
@@ -48,17 +65,18 @@ refused-requires-2 c κs = search needs
 returns-2 : tie.Need-returns-2
 returns-2 c =
     let f = c .before .before .before .before in
-    let p = f .before .before .before in
+    let n = f .before .before .before .before in
+    let p = n .before .before in
     let a = p .before .before .before .before .before .before .args in
     steps-refused (a .e) (now (a .out)) _ _ _
-    (rows-effect (a .e) (a .v) (now (a .journey)) (now (a .book)) (now (a .out)) _ (judged p) (f .effect-of .result) (f .before .enum-told .given .1) (f .effect-of .ensures .effect) _ (c .before .before .verdict .given .1))
+    (rows-effect (a .e) (a .v) (now (a .journey)) (now (a .book)) (now (a .out)) _ (judged p) (f .effect-of .result) (n .enum-told .given .1) (f .effect-of .ensures .effect) _ (c .before .before .verdict .given .1))
     (c .refused2 .ensures)
 
 enum-told-2 : tie.Need-enum-told-2
 enum-told-2 c = search needs
 
 conclude-requires : tie.Need-conclude-requires
-conclude-requires c κs = let g = c .before .before .before .effect-of .ensures in (g .before, g .after)
+conclude-requires c κs = let f = c .before .before .before in let h = found (f .before) in (h, f .effect-of .ensures .after h)
 
 same-length : tie.Need-same-length
 same-length c = search needs
@@ -68,10 +86,11 @@ returns-3 c =
     let o = c .before .before in
     let i = o .before .before in
     let f = i .before .before in
-    let p = f .before .before .before in
+    let n = f .before .before .before .before in
+    let p = n .before .before in
     let a = p .before .before .before .before .before .before .args in
     steps-by (a .e) (now (a .out)) _ _ _ _
-    (rows-output (a .e) (a .v) (now (a .journey)) (now (a .book)) (now (a .out)) _ (judged p) (f .effect-of .result) (f .before .enum-told .given .1) (f .effect-of .ensures .effect) (i .enum-told2 .given .1))
+    (rows-output (a .e) (a .v) (now (a .journey)) (now (a .book)) (now (a .out)) _ (judged p) (f .effect-of .result) (n .enum-told .given .1) (f .effect-of .ensures .effect) (i .enum-told2 .given .1))
     (o .conclude .ensures)
 
 pub take-spec : {M : Type 1} → statement M
@@ -85,6 +104,9 @@ take-spec =
     refused-requires
     returns
     enum-told
+    segment-named-requires
+    profiles-there-requires
+    look-up-requires
     effect-of-requires
     enum-known-verdict
     refused-requires-2
