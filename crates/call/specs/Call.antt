@@ -18,9 +18,8 @@ use Rattle.state_codes.specs.Codes.{stateAt}
 use Rattle.conditions.specs.Conditions.{conditions}
 use Rattle.state_codes.specs.Numbers.{powerRows, stateRow}
 use Rattle.states.specs.ControlGroup.{controlAfter}
-use Rattle.call.specs.Packets.{Status, packetsOf}
+use Rattle.call.specs.Packets.{Status, ownPackets, packetsOf}
 use Rattle.call.specs.Effect.{Effect, effect}
-use Rattle.call.specs.declared.Answer.{Answer}
 
 -- "A call brings any event, profiles and output memory"
 pub record Call : Type 0 where
@@ -41,11 +40,6 @@ pub record Outcome : Type 0 where
   pub engine : Engine
   pub memory : List ℕ
 
--- "For an answer that is an enum, a definition gives this paper's number and values for each of its cases."
-abbrev pub answerOf : Answer → Judged Accepted
-answerOf (Answer.Accepted s r n) = accept (record { state = s; request = r; bytes = n })
-answerOf (Answer.Refused n) = refuse n
-
 -- the nine conditions as the engine shows them
 unfoldable pub conditionsIn : Engine → ℕ
 conditionsIn e = conditions (routeIn e) (e .train .reports) (e .train .position) (standing (e .progress))
@@ -58,12 +52,15 @@ pub record Step : Type 0 where
   pub engine : Engine
   pub packets : List Packet
 
-abbrev pub stepTo : Engine → Effect → Engine → Step
-stepTo e f m = record { engine = m; packets = packetsOf (routeIn m) (m .train .position) (f .loaded) (f .changes) (statusIn e) (statusIn m) }
+abbrev pub stepTo : Engine → Event → Effect → Engine → Step
+stepTo e event f m = record {
+  engine = m;
+  packets = packetsOf (routeIn m) (m .train .position) (f .loaded) (f .changes) (ownPackets e event m) (statusIn e) (statusIn m);
+}
 
 -- "After each accepted event": the rows of the states over the event's values
 abbrev pub stepBy : Engine → Event → Effect → Step
-stepBy e event f = stepTo e f (withControl (f .engine) (controlAfter (f .engine .train) (f .engine .control) event (f .reached) (conditionsIn (f .engine))))
+stepBy e event f = stepTo e event f (withControl (f .engine) (controlAfter (f .engine .train) (f .engine .control) event (f .reached) (conditionsIn (f .engine))))
 
 -- the table of numbers; output: "16 shorter than this event's packets"
 unfoldable pub judged : Engine → Call → Judged Step

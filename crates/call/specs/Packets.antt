@@ -7,6 +7,8 @@ use lib.Dec.{eqb}
 use Rattle.wire.specs.Numbers.{flag, if_then_else_}
 use Rattle.engine_value.specs.Engine.{Route}
 use Rattle.engine_value.specs.declared.Position.{Position}
+use Rattle.engine_value.specs.declared.Engine.{Engine}
+use Rattle.event.specs.declared.Event.{Event}
 use Rattle.packets.specs.Layouts.{unknownNidc}
 use Rattle.packets.specs.declared.Header.{Header}
 use Rattle.packets.specs.declared.TimingPoint.{TimingPoint}
@@ -74,9 +76,15 @@ abbrev pub received : Route → Position → Option Head → List Packet
 received j x none = []
 received j x (some h) = jpReceived j x h ∷ []
 
--- "Order: 65, the 62s as they arise, 68."
-unfoldable pub packetsOf : Route → Position → Option Head → List Change → Status → Status → List Packet
-packetsOf j x loaded changes before after =
-    received j x loaded
-    ++ (map (timingPoint j x) changes
-    ++ when (statusDue before after) (atoStatus j x (after .state) (after .conditions)))
+-- "Order: 65, the 62s as they arise, 68." The packets that one kind of event alone writes stand before the 68
+abbrev pub inOrder : List Packet → List Packet → List Packet → List Packet → List Packet
+inOrder packet65 packets62 own packet68 = packet65 ++ (packets62 ++ (own ++ packet68))
+
+-- the packets that one kind of event alone writes: here they join, by the engine before the event, the event and the engine after it.
+-- The kinds of document 01 have none
+abbrev pub ownPackets : Engine → Event → Engine → List Packet
+ownPackets e event m = []
+
+unfoldable pub packetsOf : Route → Position → Option Head → List Change → List Packet → Status → Status → List Packet
+packetsOf j x loaded changes own before after =
+    inOrder (received j x loaded) (map (timingPoint j x) changes) own (when (statusDue before after) (atoStatus j x (after .state) (after .conditions)))

@@ -33,7 +33,7 @@ use Rattle.route.specs.Route.{LoadValue, loadOf}
 use Rattle.route.specs.View.{loadView}
 use Rattle.route.specs.declared.Loaded.{Loaded}
 use Rattle.event_packets.specs.declared.Changes.{Changes}
-use Rattle.journey.specs.declared.Head.{Head}
+use Rattle.event_packets.specs.declared.Received.{Received}
 use Rattle.call.specs.Effect as model
 use Rattle.call.specs.Effect.{valuesOnly, taking, offsetBeyond, positionEffect, loadedIn, loadEffect, sameBool, skipEffect, effectAs, effect}
 use Rattle.effects.specs.declared.Effect.{Effect}
@@ -86,12 +86,12 @@ module _ (m : Engine) where
   unfolding positionEffect
   position-13 h = rw h
 
-  pub position-reported : (e : Engine) (v w : LookedUp) (t : Reported) (ch : Changes) (head : Head) → beyond ≡ false
+  pub position-reported : (e : Engine) (v w : LookedUp) (t : Reported) (ch : Changes) → beyond ≡ false
       → t ≡ reportOf (routeIn m) (reportIn m) (m .progress) → ch ≡ reportedChanges (m .progress .next) t
       → (v ≡ lookedUpIn e → w ≡ lookedUpIn (withProgress m (t .progress)))
-      → Gives e v (positionEffect m) (record { engine = withProgress m (t .progress); verdict = Verdict.Accepted; loaded = false; head = head; changes = ch; reached = t .reached; after = w })
+      → Gives e v (positionEffect m) (record { engine = withProgress m (t .progress); verdict = Verdict.Accepted; received = Received.Nothing; changes = ch; reached = t .reached; after = w })
   unfolding positionEffect reportChanges
-  position-reported e v w t ch head h q c u = record { effect = rw (h, c, q); after = u }
+  position-reported e v w t ch h q c u = record { effect = rw (h, c, q); after = u }
 
 -- load
 module _ (e : Engine) (journey book : List ℕ) (l : Loaded) (told : loadView l ≡ loadOf journey book) where
@@ -110,7 +110,7 @@ module _ (e : Engine) (journey book : List ℕ) (l : Loaded) (told : loadView l 
   pub load-taken : (m : Engine) (ch : Changes) → l .verdict ≡ Verdict.Accepted
       → m ≡ withProgress (withRoute e (routeView l)) (progress (target (routeView l) (e .train .position) (e .train .length)) false) → ch ≡ noChanges
       → (v w : LookedUp) → w ≡ lookedUpIn m
-      → Gives e v (loadEffect e journey book) (record { engine = m; verdict = Verdict.Accepted; loaded = true; head = l .head; changes = ch; reached = false; after = w })
+      → Gives e v (loadEffect e journey book) (record { engine = m; verdict = Verdict.Accepted; received = Received.Journey (l .head); changes = ch; reached = false; after = w })
   unfolding passings
   load-taken m ch h q c v w u = record { effect = rw (q, c) (load-route h); after = λ s. u }
 
@@ -124,12 +124,12 @@ module _ (e : Engine) (k : ℕ) (on : Bool) where
   unfolding skipEffect
   skip-same h q = rw (h, q)
 
-  pub skip-taken : (m : Engine) (ch : Changes) (head : Head) → behind (standing (e .progress) k) ≡ false → sameBool (getD (e .skips) k false) on ≡ false
+  pub skip-taken : (m : Engine) (ch : Changes) → behind (standing (e .progress) k) ≡ false → sameBool (getD (e .skips) k false) on ≡ false
       → m ≡ withSkips e (set (e .skips) k on) → ch ≡ oneChange k (skipStatus on) (e .progress)
       → (w : LookedUp)
-      → Gives e w (skipEffect e on (At k)) (record { engine = m; verdict = Verdict.Accepted; loaded = false; head = head; changes = ch; reached = false; after = w })
+      → Gives e w (skipEffect e on (At k)) (record { engine = m; verdict = Verdict.Accepted; received = Received.Nothing; changes = ch; reached = false; after = w })
   unfolding skipEffect passings
-  skip-taken m ch head h q a b w = record { effect = rw (h, q, a, b); after = λ s. rw a s }
+  skip-taken m ch h q a b w = record { effect = rw (h, q, a, b); after = λ s. rw a s }
 
 -- ---- an event by its role
 module _ (e : Engine) (journey book : List ℕ) (v : Event) where

@@ -2,7 +2,6 @@
 use Prim.Native.Nat.{ℕ}
 use mathlib.Core.Path.{_≡_}
 use mathlib.Core.Bool.{Bool, true, false}
-use mathlib.Core.Option.{none, some}
 use Rattle.wire.specs.Numbers.{if_then_else_}
 use Rattle.wire.specs.Judged.{Judged, thenJudge}
 use Rattle.wire.specs.Judged.Judged.{accept}
@@ -11,15 +10,15 @@ use Rattle.wire.specs.declared.Verdict.{Verdict}
 use Rattle.engine_value.specs.Engine.{Route, routeIn, progress}
 use Rattle.engine_value.specs.declared.Progress.{Progress}
 use Rattle.engine_value.specs.declared.Engine.{Engine}
-use Rattle.journey.specs.Journey.{blankHead}
 use Rattle.position.specs.Standing.{standing}
 use Rattle.timing.specs.Changes.{statusDeparted, statusSkipped, statusRevoked}
 use Rattle.timing.specs.declared.Reported.{Reported}
 use Rattle.conditions.specs.Conditions.{lookedUp}
 use Rattle.conditions.specs.declared.LookedUp.{LookedUp}
 use Rattle.route.specs.declared.Loaded.{Loaded}
-use Rattle.event_packets.specs.View.{changesView}
+use Rattle.event_packets.specs.View.{changesView, receivedView}
 use Rattle.event_packets.specs.declared.Changes.{Changes}
+use Rattle.event_packets.specs.declared.Received.{Received}
 use Rattle.call.specs.Effect as model
 use Rattle.effects.specs.declared.Effect.{Effect}
 
@@ -45,12 +44,12 @@ abbrev pub lookedUpIn : Engine → LookedUp
 lookedUpIn e = lookedUp (routeIn e) (e .train .position) (standing (e .progress))
 
 abbrev pub plainEffect : Engine → Verdict → LookedUp → Effect
-plainEffect e v after = record { engine = e; verdict = v; loaded = false; head = blankHead; changes = noChanges; reached = false; after = after }
+plainEffect e v after = record { engine = e; verdict = v; received = Received.Nothing; changes = noChanges; reached = false; after = after }
 
 abbrev pub acceptedView : Effect → model.Effect
 acceptedView f = record {
   engine = f .engine;
-  loaded = if f .loaded then some (f .head) else none;
+  loaded = receivedView (f .received);
   changes = changesView (f .changes) (f .engine .progress);
   reached = f .reached;
 }

@@ -1,13 +1,14 @@
 // What an event does before the rows of the states.
 use conditions::LookedUp;
 use engine_value::Engine;
+use engine_value::MAX_POINTS;
 use engine_value::Position;
 use engine_value::Progress;
 use engine_value::UNDEFINED;
 use event::Event;
 use event::Role;
 use event_packets::Changes;
-use journey::Head;
+use event_packets::Received;
 use position::Found;
 use position::Named;
 use position::Standing;
@@ -20,7 +21,6 @@ ghost use Prim.Native.Nat.{_<_};
 ghost use lib.ListN.{set};
 ghost use Rattle.wire.specs.declared.Verdict.the-variants.{Accepted};
 ghost use Rattle.engine_value.specs.Engine.{routeIn, fresh, progress, withRoute, withSkips, withProgress};
-ghost use Rattle.journey.specs.Journey.{blankHead};
 ghost use Rattle.position.specs.Standing.{standing, behind};
 ghost use Rattle.conditions.specs.Conditions.{profilesThere};
 ghost use Rattle.position.specs.Skips.{stopNamed};
@@ -35,23 +35,10 @@ ghost use Rattle.effects.specs.View.{noChanges, oneChange, reportedChang
 pub struct Effect {
     pub engine: Engine,
     pub verdict: Verdict,
-    pub loaded: bool,
-    pub head: Head,
+    pub received: Received,
     pub changes: Changes,
     pub reached: bool,
     pub after: LookedUp,
-}
-
-fn no_head() -> Head
-    ensures { λ r. ⌜ r ≡ blankHead ⌝ }
-{
-    Head {
-        operational: 0,
-        date: 0,
-        seconds: 0,
-        counter: 0,
-        atots: 0,
-    }
 }
 
 fn no_changes() -> Changes
@@ -90,13 +77,11 @@ fn one_change(index: u8, status: u8, after: Progress) -> Changes
 fn plain(e: Engine, verdict: Verdict, after: LookedUp) -> Effect
     ensures { λ r. ⌜ r ≡ plainEffect e verdict after ⌝ }
 {
-    let head = no_head();
     let changes = no_changes();
     Effect {
         engine: e,
         verdict: verdict,
-        loaded: false,
-        head: head,
+        received: Received::Nothing,
         changes: changes,
         reached: false,
         after: after,
@@ -169,7 +154,7 @@ fn changes_of(index: u8, t: Reported) -> Changes
     Changes {
         first: t.departed,
         index: index,
-        status: 2,
+        status: event_packets::DEPARTED,
         after: after,
         from: t.from,
         to: t.progress.next,
@@ -198,7 +183,6 @@ fn position(e: Engine, v: Event, looked: LookedUp) -> Effect
     if offset_beyond(segment, m.train.position) {
         return plain(e, Verdict::Refused(13), looked);
     }
-    let head = no_head();
     let changes = changes_of(m.progress.next, t);
     let progress = t.progress;
     let profiles = profiles_after(m, progress, looked.profiles);
@@ -207,8 +191,7 @@ fn position(e: Engine, v: Event, looked: LookedUp) -> Effect
     Effect {
         engine: m,
         verdict: Verdict::Accepted,
-        loaded: false,
-        head: head,
+        received: Received::Nothing,
         changes: changes,
         reached: t.reached,
         after: after,
@@ -223,7 +206,7 @@ fn with_route(e: Engine, l: Loaded) -> Engine
     let points = l.points;
     let segments = l.segments;
     let load = l.load;
-    let none = [false; 64];
+    let none = [false; MAX_POINTS];
     m.points = points;
     m.segments = segments;
     m.load = load;
@@ -255,13 +238,13 @@ fn load(e: Engine, journey: &[u8], book: &[u8], looked: LookedUp) -> Effect
     }
     let m = with_target(with_route(e, l));
     let head = l.head;
+    let received = Received::Journey(head);
     let changes = no_changes();
     let after = conditions::looked_up(m);
     Effect {
         engine: m,
         verdict: Verdict::Accepted,
-        loaded: true,
-        head: head,
+        received: received,
         changes: changes,
         reached: false,
         after: after,
@@ -289,7 +272,11 @@ fn same(a: bool, b: bool) -> bool
 fn skip_status(on: bool) -> u8
     ensures { λ r. ⌜ r ≡ skipStatus on ⌝ }
 {
-    if on { 5 } else { 6 }
+    if on {
+        event_packets::SKIPPED
+    } else {
+        event_packets::REVOKED
+    }
 }
 
 fn with_skip(e: Engine, k: usize, on: bool) -> Engine
@@ -318,13 +305,11 @@ fn skip_at(e: Engine, k: usize, on: bool, looked: LookedUp) -> Effect
         return plain(e, Verdict::Refused(15), looked);
     }
     let m = with_skip(e, k, on);
-    let head = no_head();
     let changes = one_change(index, skip_status(on), e.progress);
     Effect {
         engine: m,
         verdict: Verdict::Accepted,
-        loaded: false,
-        head: head,
+        received: Received::Nothing,
         changes: changes,
         reached: false,
         after: looked,

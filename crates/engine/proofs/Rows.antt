@@ -25,7 +25,7 @@ use Rattle.state_codes.specs.Numbers.{powerRows, stateRow, stateRows}
 use Rattle.states.specs.ControlGroup.{controlAfter}
 use Rattle.event_packets.specs.View.{statusView, packetsView, sizeView}
 use Rattle.event_packets.proofs.Stored.{size-in, packets-in}
-use Rattle.event_packets.specs.declared.Shown.{Shown}
+use Rattle.event_packets.specs.declared.Status.{Status}
 use Rattle.event_packets.specs.declared.Writes.{Writes}
 use Rattle.call.specs.Packets.{statusDue}
 use Rattle.call.specs.Effect as model
@@ -35,7 +35,7 @@ use Rattle.effects.specs.declared.Effect.{Effect}
 use Rattle.effects.specs.View.{acceptedView, effectView}
 use Rattle.effects.proofs.Laws.{seen-number, seen-effect}
 use Rattle.engine.specs.declared.Stepped.{Stepped}
-use Rattle.engine.specs.View.{outputRow, laterRows, refusedStep, acceptedStep, statusShown, effectWrites, Steps}
+use Rattle.engine.specs.View.{outputRow, laterRows, refusedStep, acceptedStep, engineStatus, effectWrites, Steps}
 
 -- ---- the rows
 
@@ -112,11 +112,11 @@ pub record Decided (e : Engine) (v : Event) (f : Effect) (m : Engine) (w : Write
   pub packets : packetsView m w ≡ stepBy e v (acceptedView f) .packets
 
 -- so they are, by the conditions c₁ before the event and c₂ after it
-module _ (e : Engine) (v : Event) (f : Effect) (c₁ c₂ : ℕ) (before after : Shown) (m : Engine) (due : Bool) (w : Writes)
+module _ (e : Engine) (v : Event) (f : Effect) (c₁ c₂ : ℕ) (before after : Status) (m : Engine) (due : Bool) (w : Writes)
     (told₁ : c₁ ≡ conditions (routeIn e) (e .train .reports) (e .train .position) (standing (e .progress)))
     (told₂ : c₂ ≡ conditions (routeIn (f .engine)) (f .engine .train .reports) (f .engine .train .position) (standing (f .engine .progress)))
     (after-rows : m ≡ withControl (f .engine) (controlAfter (f .engine .train) (f .engine .control) v (f .reached) c₂))
-    (shown₁ : before ≡ statusShown e c₁) (shown₂ : after ≡ statusShown m c₂)
+    (shown₁ : before ≡ engineStatus e c₁) (shown₂ : after ≡ engineStatus m c₂)
     (dues : due ≡ statusDue (statusView before) (statusView after))
     (writes : w ≡ effectWrites f due c₂) where
   pub decided : Decided e v f m w

@@ -13,10 +13,11 @@ use Rattle.event.specs.declared.Event.{Event}
 use Rattle.packets.specs.Packets.{joined}
 use Rattle.state_codes.specs.Codes.{stateAt}
 use Rattle.state_codes.specs.Numbers.{powerRows, stateRow}
-use Rattle.event_packets.specs.declared.Shown.{Shown}
+use Rattle.event_packets.specs.declared.Status.{Status}
 use Rattle.event_packets.specs.declared.Writes.{Writes}
 use Rattle.call.specs.Effect as model
-use Rattle.call.specs.Call.{Call, Accepted, Outcome, Step, answerOf, stepBy}
+use Rattle.call.specs.Call.{Call, Accepted, Outcome, Step, stepBy}
+use Rattle.call.specs.View.{answerView}
 use Rattle.call.specs.declared.Answer.{Answer}
 use Rattle.effects.specs.declared.Effect.{Effect}
 use Rattle.engine.specs.declared.Stepped.{Stepped}
@@ -48,14 +49,14 @@ refusedStep e n = record { engine = e; answer = Answer.Refused n }
 abbrev pub acceptedStep : Engine → ℕ → Stepped
 acceptedStep m n = record { engine = m; answer = Answer.Accepted (m .control .state) (m .control .request) n }
 
-abbrev pub statusShown : Engine → ℕ → Shown
-statusShown e n = record { state = e .control .state; conditions = n; speed = e .train .position .speed }
+abbrev pub engineStatus : Engine → ℕ → Status
+engineStatus e n = record { state = e .control .state; conditions = n; speed = e .train .position .speed }
 
 abbrev pub effectWrites : Effect → Bool → ℕ → Writes
-effectWrites f due n = record { loaded = f .loaded; head = f .head; changes = f .changes; due = due; conditions = n }
+effectWrites f due n = record { received = f .received; changes = f .changes; due = due; conditions = n }
 
 -- answer, engine and output memory are those of an outcome
 pub record Steps (o : Outcome) (r : Stepped) (memory : List ℕ) : Type 0 where
   pub engine : r .engine ≡ o .engine
-  pub answer : answerOf (r .answer) ≡ o .answer
+  pub answer : answerView (r .answer) ≡ o .answer
   pub output : memory ≡ o .memory

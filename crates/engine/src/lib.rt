@@ -5,7 +5,7 @@ use effects::Effect;
 use engine_value::Engine;
 use event::Event;
 use event::EventRead;
-use event_packets::Shown;
+use event_packets::Status;
 use event_packets::Writes;
 use wire::Verdict;
 ghost use mathlib.Core.Path.{_≡_};
@@ -15,7 +15,7 @@ ghost use Rattle.conditions.specs.Conditions.{conditions};
 ghost use Rattle.states.specs.ControlGroup.{controlAfter};
 ghost use Rattle.call.specs.Call.{stepBy, outcomeOf, stepOf};
 ghost use Rattle.effects.specs.View.{lookedUpIn, acceptedView};
-ghost use Rattle.engine.specs.View.{outputRow, laterRows, call, refusedStep, acceptedStep, statusShown, effectWrites, Steps};
+ghost use Rattle.engine.specs.View.{outputRow, laterRows, call, refusedStep, acceptedStep, engineStatus, effectWrites, Steps};
 
 // What a call answers, and the engine that it leaves.
 pub struct Stepped {
@@ -57,10 +57,10 @@ fn after_rows(m: Engine, v: Event, reached: bool, conditions: u16) -> Engine
     after
 }
 
-fn shown(e: Engine, conditions: u16) -> Shown
-    ensures { λ r. ⌜ r ≡ statusShown e conditions ⌝ }
+fn status(e: Engine, conditions: u16) -> Status
+    ensures { λ r. ⌜ r ≡ engineStatus e conditions ⌝ }
 {
-    Shown {
+    Status {
         state: e.control.state,
         conditions: conditions,
         speed: e.train.position.speed,
@@ -71,11 +71,10 @@ fn shown(e: Engine, conditions: u16) -> Shown
 fn writes_of(f: Effect, due: bool, conditions: u16) -> Writes
     ensures { λ r. ⌜ r ≡ effectWrites f due conditions ⌝ }
 {
-    let head = f.head;
+    let received = f.received;
     let changes = f.changes;
     Writes {
-        loaded: f.loaded,
-        head: head,
+        received: received,
         changes: changes,
         due: due,
         conditions: conditions,
@@ -95,10 +94,10 @@ fn conclude(e: Engine, v: Event, looked: LookedUp, f: Effect, out: &mut [u8]) ->
     requires { ⌜ (looked ≡ lookedUpIn e) × (f .after ≡ lookedUpIn (f .engine)) ⌝ }
     ensures { λ r. ⌜ Steps (outcomeOf e (now (out .entry)) (outputRow (now (out .entry)) (stepBy e v (acceptedView f)))) r (now (out .exit)) ⌝ }
 {
-    let before = shown(e, conditions(e, looked));
+    let before = status(e, conditions(e, looked));
     let word = conditions(f.engine, f.after);
     let m = after_rows(f.engine, v, f.reached, word);
-    let after = shown(m, word);
+    let after = status(m, word);
     let due = event_packets::status_due(before, after);
     let w = writes_of(f, due, word);
     let size = event_packets::size(w);

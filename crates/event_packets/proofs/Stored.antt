@@ -25,8 +25,9 @@ use Rattle.position.specs.Position.{point, known}
 use Rattle.position.specs.Standing.{standing}
 use Rattle.timing.specs.Changes.{Change, change, passings, when, statusPassed, statusStopped}
 use Rattle.conditions.specs.Conditions.{endAhead}
-use Rattle.call.specs.Packets.{Status, statusDue, header, timingPoint, jpReceived, atoStatus, packetsOf}
-use Rattle.event_packets.specs.View.{timingPointView, packets62, packets65, packets68, changesView, firstView, passingsView, stoppedView, loadedView, packetsView, sizeView, Put}
+use Rattle.call.specs.Packets.{Status, statusDue, header, timingPoint, jpReceived, atoStatus, received, packetsOf}
+use Rattle.event_packets.specs.View.{timingPointView, packets62, packets65, packets68, changesView, firstView, passingsView, stoppedView, receivedView, ownView, packetsView, receivedSize, sizeView, Put}
+use Rattle.event_packets.specs.declared.Received.{Received}
 use Rattle.event_packets.specs.declared.Writes.{Writes}
 
 -- ---- sizes
@@ -48,13 +49,13 @@ size-when : (e : Engine) (b : Bool) (c : Change) → length (joined (packets62 e
 size-when e true c = length-one (timingPoint (routeIn e) (e .train .position) c) 25 (size-62 (routeIn e) (e .train .position) c)
 size-when e false c = refl
 
-size-65 : (e : Engine) (w : Writes) → length (joined (packets65 e w)) ≡ 29 * flag (w .loaded)
+size-65 : (e : Engine) (w : Writes) → length (joined (packets65 e w)) ≡ receivedSize (w .received)
 unfolding jpReceived
-size-65 e w = go (w .loaded) refl
+size-65 e w = go (w .received)
   where
-    go : (b : Bool) → w .loaded ≡ b → length (joined (packets65 e w)) ≡ 29 * flag (w .loaded)
-    go true q = rw q (length-one (jpReceived (routeIn e) (e .train .position) (w .head)) 29 refl)
-    go false q = rw q
+    go : (r : Received) → length (joined (received (routeIn e) (e .train .position) (receivedView r))) ≡ receivedSize r
+    go Received.Nothing = refl
+    go (Received.Journey h) = length-one (jpReceived (routeIn e) (e .train .position) h) 29 refl
 
 size-68 : (e : Engine) (w : Writes) → length (joined (packets68 e w)) ≡ 19 * flag (w .due)
 unfolding atoStatus
@@ -70,12 +71,13 @@ joined-in : (e : Engine) (w : Writes) → joined (packetsView e w) ≡
     ++ (joined (packets62 e (firstView (w .changes)))
     ++ (joined (packets62 e (passingsView (w .changes)))
     ++ (joined (packets62 e (stoppedView (w .changes) (e .progress)))
-    ++ joined (packets68 e w))))
-joined-in e w = parts (timingPoint (routeIn e) (e .train .position)) (packets65 e w) (firstView (w .changes)) (passingsView (w .changes)) (stoppedView (w .changes) (e .progress)) (packets68 e w)
+    ++ (joined (ownView e w)
+    ++ joined (packets68 e w)))))
+joined-in e w = parts (timingPoint (routeIn e) (e .train .position)) (packets65 e w) (firstView (w .changes)) (passingsView (w .changes)) (stoppedView (w .changes) (e .progress)) (ownView e w) (packets68 e w)
   where
-    parts : (t : Change → Packet) (ps : List Packet) (a b c : List Change) (qs : List Packet)
-        → joined (ps ++ (map t (a ++ (b ++ c)) ++ qs)) ≡ joined ps ++ (joined (map t a) ++ (joined (map t b) ++ (joined (map t c) ++ joined qs)))
-    parts t ps a b c qs = simp (joined-append, map-append, append-assoc)
+    parts : (t : Change → Packet) (ps : List Packet) (a b c : List Change) (os qs : List Packet)
+        → joined (ps ++ (map t (a ++ (b ++ c)) ++ (os ++ qs))) ≡ joined ps ++ (joined (map t a) ++ (joined (map t b) ++ (joined (map t c) ++ (joined os ++ joined qs))))
+    parts t ps a b c os qs = simp (joined-append, map-append, append-assoc)
 
 -- "16 shorter than this event's packets": their size, with nothing written yet
 pub size-in : (e : Engine) (w : Writes) → length (joined (packetsView e w)) ≡ sizeView w
@@ -126,12 +128,12 @@ module _ (e : Engine) (at : ℕ) (l : List ℕ) where
   pub none-62 : (b : Bool) (c : Change) → b ≡ false → Put at (packets62 e (when b c)) l l at
   none-62 b c q = put-none at l _ (rw q)
 
-  pub put-65 : (w : Writes) (p : Packet) (m : List ℕ) → w .loaded ≡ true → p ≡ jpReceived (routeIn e) (e .train .position) (w .head)
+  pub put-65 : (w : Writes) (h : Head) (p : Packet) (m : List ℕ) → w .received ≡ Received.Journey h → p ≡ jpReceived (routeIn e) (e .train .position) h
       → m ≡ sets l at (packetBytes p) → Put at (packets65 e w) l m (at + 29)
   unfolding jpReceived
-  put-65 w p m q t s = put-one at l p _ 29 m (rw (q, t)) (ap sizeOf t) (omega arith) s
+  put-65 w h p m q t s = put-one at l p _ 29 m (rw (q, t)) (ap sizeOf t) (omega arith) s
 
-  pub none-65 : (w : Writes) → w .loaded ≡ false → Put at (packets65 e w) l l at
+  pub none-65 : (w : Writes) → w .received ≡ Received.Nothing → Put at (packets65 e w) l l at
   none-65 w q = put-none at l _ (rw q)
 
   pub put-68 : (w : Writes) (p : Packet) (m : List ℕ) → w .due ≡ true → p ≡ atoStatus (routeIn e) (e .train .position) (e .control .state) (w .conditions)
@@ -180,6 +182,6 @@ module _ (e : Engine) (to k : ℕ) where
 
 -- ---- the packets are the model's
 pub packets-in : (m : Engine) (w : Writes) (before after : Status) → w .due ≡ statusDue before after → m .control .state ≡ after .state → w .conditions ≡ after .conditions
-    → packetsView m w ≡ packetsOf (routeIn m) (m .train .position) (loadedView w) (changesView (w .changes) (m .progress)) before after
+    → packetsView m w ≡ packetsOf (routeIn m) (m .train .position) (receivedView (w .received)) (changesView (w .changes) (m .progress)) (ownView m w) before after
 unfolding packetsOf
 packets-in m w before after d s c = rw (d, s, c)

@@ -1,7 +1,7 @@
 -- The packets that the code's `Writes` stands for, with the values of the engine after the event.
 use Prim.Native.Nat.{ℕ, _+_, _-_, _*_, _≤_}
 use mathlib.Core.Path.{_≡_}
-use mathlib.Core.List.{List, _++_, map}
+use mathlib.Core.List.{List, [], _++_, map}
 use mathlib.Core.Option.{Option, none, some}
 use lib.ListN.{length}
 use lib.Dec.{eqb}
@@ -21,12 +21,13 @@ use Rattle.packets.specs.declared.Packet.{Packet}
 use Rattle.position.specs.Standing.{standing}
 use Rattle.conditions.specs.Conditions.{endAhead}
 use Rattle.timing.specs.Changes.{Change, change, passings, when, statusStopped}
-use Rattle.call.specs.Packets.{Status, received, timingPoint, atoStatus}
+use Rattle.call.specs.Packets.{Status, received, timingPoint, atoStatus, inOrder}
 use Rattle.event_packets.specs.declared.Changes.{Changes}
-use Rattle.event_packets.specs.declared.Shown.{Shown}
+use Rattle.event_packets.specs.declared.Received.{Received}
+use Rattle.event_packets.specs.declared.Status as code
 use Rattle.event_packets.specs.declared.Writes.{Writes}
 
-abbrev pub statusView : Shown → Status
+abbrev pub statusView : code.Status → Status
 statusView s = record { state = s .state; conditions = s .conditions; speed = s .speed }
 
 abbrev pub firstView : Changes → List Change
@@ -42,8 +43,9 @@ stoppedView c p = when (c .stopped) (change (p .next) statusStopped p)
 abbrev pub changesView : Changes → Progress → List Change
 changesView c p = firstView c ++ (passingsView c ++ stoppedView c p)
 
-abbrev pub loadedView : Writes → Option Head
-loadedView w = if w .loaded then some (w .head) else none
+abbrev pub receivedView : Received → Option Head
+receivedView Received.Nothing = none
+receivedView (Received.Journey h) = some h
 
 -- packet 62 for a change of a point, by the load's group
 abbrev pub timingPointView : Header → Load → Point → ℕ → Progress → Packet
@@ -62,19 +64,27 @@ abbrev pub packets62 : Engine → List Change → List Packet
 packets62 e l = map (timingPoint (routeIn e) (e .train .position)) l
 
 abbrev pub packets65 : Engine → Writes → List Packet
-packets65 e w = received (routeIn e) (e .train .position) (loadedView w)
+packets65 e w = received (routeIn e) (e .train .position) (receivedView (w .received))
 
 abbrev pub packets68 : Engine → Writes → List Packet
 packets68 e w = when (w .due) (atoStatus (routeIn e) (e .train .position) (e .control .state) (w .conditions))
 
--- "Order: 65, the 62s as they arise, 68."
+-- the packets that one kind of event alone writes; the kinds of document 01 have none
+abbrev pub ownView : Engine → Writes → List Packet
+ownView e w = []
+
 abbrev pub packetsView : Engine → Writes → List Packet
-packetsView e w = packets65 e w ++ (packets62 e (changesView (w .changes) (e .progress)) ++ packets68 e w)
+packetsView e w = inOrder (packets65 e w) (packets62 e (changesView (w .changes) (e .progress))) (ownView e w) (packets68 e w)
+
+-- the bytes of a packet 65, where there is one
+abbrev pub receivedSize : Received → ℕ
+receivedSize Received.Nothing = 0
+receivedSize (Received.Journey h) = kindSize kind65
 
 -- their bytes: 29, 25 and 19 each
 abbrev pub sizeView : Writes → ℕ
 sizeView w =
-    kindSize kind65 * flag (w .loaded)
+    receivedSize (w .received)
     + kindSize kind62 * (flag (w .changes .first) + (w .changes .to - w .changes .from) + flag (w .changes .stopped))
     + kindSize kind68 * flag (w .due)
 

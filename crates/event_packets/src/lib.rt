@@ -22,7 +22,7 @@ ghost use Rattle.packets.specs.Packets.{joined};
 ghost use Rattle.position.specs.Position.{point, known};
 ghost use Rattle.timing.specs.Changes.{change, passings, statusStopped};
 ghost use Rattle.call.specs.Packets.{header, timingPoint, jpReceived, atoStatus, statusDue};
-ghost use Rattle.event_packets.specs.View.{statusView, firstView, stoppedView, timingPointView, packets62, packets65, packets68, packetsView, sizeView, Put};
+ghost use Rattle.event_packets.specs.View.{statusView, firstView, stoppedView, timingPointView, packets62, packets65, packets68, packetsView, receivedSize, sizeView, Put};
 
 // What an event changes of the points: first, perhaps, a departure, a skip or its revocation; then the points from `from` to `to`, without that one,
 // pass; last, perhaps, the first point not passed becomes reached.
@@ -36,8 +36,31 @@ pub struct Changes {
     pub stopped: bool,
 }
 
+// The statuses of a packet 62.
+pub const PASSED: u8 = 0;
+
+pub const STOPPED: u8 = 1;
+
+pub const DEPARTED: u8 = 2;
+
+pub const SKIPPED: u8 = 5;
+
+pub const REVOKED: u8 = 6;
+
+// The code of the state EG.
+const EG: u8 = 5;
+
+// The status of a packet 65.
+const RECEIVED: u8 = 0;
+
+// The head of a journey that was loaded.
+pub enum Received {
+    Nothing,
+    Journey(Head),
+}
+
 // State, conditions and speed: a packet 68 is written when they change.
-pub struct Shown {
+pub struct Status {
     pub state: u8,
     pub conditions: u16,
     pub speed: u16,
@@ -45,8 +68,7 @@ pub struct Shown {
 
 // What an event writes, beside the values of the engine after it.
 pub struct Writes {
-    pub loaded: bool,
-    pub head: Head,
+    pub received: Received,
     pub changes: Changes,
     pub due: bool,
     pub conditions: u16,
@@ -89,7 +111,7 @@ fn bit_of(b: bool) -> u8
 fn stopping_of(p: Point, status: u8) -> u8
     ensures { λ r. ⌜ r ≡ (if eqb status statusStopped then p .stopping else 0) ⌝ }
 {
-    if status == 1 { p.stopping } else { 0 }
+    if status == STOPPED { p.stopping } else { 0 }
 }
 
 // Packet 62 for a change of point p.
@@ -151,7 +173,7 @@ pub fn jp_received(e: Engine, head: Head) -> Packet
         date: head.date,
         seconds: head.seconds,
         counter: head.counter,
-        status: 0,
+        status: RECEIVED,
     })
 }
 
@@ -168,7 +190,7 @@ pub fn ato_status(e: Engine, conditions: u16) -> Packet
 }
 
 // A packet 68 is written.
-pub fn status_due(before: Shown, after: Shown) -> bool
+pub fn status_due(before: Status, after: Status) -> bool
     ensures { λ r. ⌜ r ≡ statusDue (statusView before) (statusView after) ⌝ }
 {
     if after.state != before.state {
@@ -177,7 +199,7 @@ pub fn status_due(before: Shown, after: Shown) -> bool
     if after.conditions != before.conditions {
         return true;
     }
-    (before.speed == 0) & ((after.speed != 0) & (after.state != 5))
+    (before.speed == 0) & ((after.speed != 0) & (after.state != EG))
 }
 
 // ---- how many bytes they take
@@ -194,12 +216,22 @@ fn count_of(from: u8, to: u8) -> usize
     if from < to { (to - from) as usize } else { 0 }
 }
 
+fn received_size(r: Received) -> usize
+    ensures { λ n. ⌜ (n ≡ receivedSize r) × (n ≤ 29) ⌝ }
+{
+    match r {
+        Received::Nothing => 0,
+        Received::Journey(_) => packets::JP_RECEIVED_SIZE,
+    }
+}
+
 pub fn size(w: Writes) -> usize
     ensures { λ r. ⌜ r ≡ sizeView w ⌝ }
 {
     let c = w.changes;
     let changed = one_if(c.first) + count_of(c.from, c.to) + one_if(c.stopped);
-    packets::JP_RECEIVED_SIZE * one_if(w.loaded)
+    let received = w.received;
+    received_size(received)
         + packets::TIMING_POINT_SIZE * changed
         + packets::ATO_STATUS_SIZE * one_if(w.due)
 }
@@ -209,10 +241,11 @@ pub fn size(w: Writes) -> usize
 fn put_received(e: Engine, w: Writes, out: &mut [u8]) -> usize
     ensures { λ r. ⌜ Put 0 (packets65 e w) (now (out .entry)) (now (out .exit)) r ⌝ }
 {
-    if !w.loaded {
+    let received = w.received;
+    let Received::Journey(head) = received else {
         return 0;
-    }
-    let p = jp_received(e, w.head);
+    };
+    let p = jp_received(e, head);
     packet_writer::put_packet(p, out, 0);
     packets::JP_RECEIVED_SIZE
 }
@@ -248,7 +281,7 @@ fn put_passings(e: Engine, from: u8, to: u8, out: &mut [u8], at: usize) -> usize
         };
         let i = k as usize;
         let point = if i < MAX_POINTS { points[i] } else { blank };
-        let packet = timing_point_of(header, e.load, point, 0, after);
+        let packet = timing_point_of(header, e.load, point, PASSED, after);
         packet_writer::put_packet(packet, out, p);
         p += packets::TIMING_POINT_SIZE;
         k += 1;
@@ -263,7 +296,7 @@ fn put_stopped(e: Engine, c: Changes, out: &mut [u8], at: usize) -> usize
     if !c.stopped {
         return at;
     }
-    let p = timing_point(e, e.progress.next, 1, e.progress);
+    let p = timing_point(e, e.progress.next, STOPPED, e.progress);
     packet_writer::put_packet(p, out, at);
     at + packets::TIMING_POINT_SIZE
 }

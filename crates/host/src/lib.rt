@@ -5,8 +5,8 @@ use packet_fields::PacketFields;
 ghost use mathlib.Core.Path.{_≡_};
 ghost use Prim.Native.Nat.{_≤_};
 ghost use Rattle.engine_value.specs.Engine.{fresh};
-ghost use Rattle.call.specs.Call.{answerOf, stepOf};
-ghost use Rattle.call.specs.View.{shownView};
+ghost use Rattle.call.specs.Call.{stepOf};
+ghost use Rattle.call.specs.View.{shownView, answerView as call·answerView};
 ghost use Rattle.engine.specs.View.{call};
 ghost use Rattle.packets.specs.Packets.{packetOf};
 ghost use Rattle.packet_fields.specs.View.{fieldsView};
@@ -28,7 +28,7 @@ pub struct Stepped {
 }
 
 fn plain(a: call::Answer) -> Answer
-    ensures { λ r. ⌜ r ≡ answerView (answerOf a) ⌝ }
+    ensures { λ r. ⌜ r ≡ answerView (call·answerView a) ⌝ }
 {
     match a {
         call::Answer::Accepted {

@@ -2,7 +2,7 @@
 ghost use Prim.Native.Nat.{_+_, _%_};
 ghost use mathlib.Core.Path.{_≡_};
 ghost use mathlib.Core.List.{[], _∷_};
-ghost use Rattle.call.specs.Call.{answerOf};
+ghost use Rattle.call.specs.View.{answerView};
 ghost use Rattle.player_text.specs.Lines.{hexByte, hexLine, packetText, decimal, spaced, refusedLine, acceptedLine, zeroSign};
 ghost use Rattle.player_text.specs.View.{Put};
 ghost use Rattle.player_text.specs.Lines.{digit as Lines·digit, lines as Lines·lines};
@@ -116,7 +116,7 @@ fn put_accepted(text: &mut [u8], at: usize, state: u8, request: bool, bytes: usi
 
 // An answer, and the packets in the output memory.
 pub fn put_answer(text: &mut [u8], at: usize, a: Answer, memory: &[u8]) -> usize
-    ensures { λ r. ⌜ Put (now (text .entry)) at (Lines·lines (answerOf a) (now (memory .entry))) (now (text .exit)) r ⌝ }
+    ensures { λ r. ⌜ Put (now (text .entry)) at (Lines·lines (answerView a) (now (memory .entry))) (now (text .exit)) r ⌝ }
 {
     match a {
         Answer::Refused(n) => put_refused(text, at, n),

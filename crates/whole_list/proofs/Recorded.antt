@@ -56,16 +56,18 @@ module _ (j : Route) (x : Position) where
   newest-68 o true s c = refl
   newest-68 o false s c = refl
 
-  pub newest-is : (o : Option (List ℕ)) (loaded : Option Head) (changes : List Change) (before after : Status)
-      → newest o (bytesOfEach (packetsOf j x loaded changes before after)) ≡ (if statusDue before after then some (packetBytes (atoStatus j x (after .state) (after .conditions))) else o)
+  pub newest-is : (o : Option (List ℕ)) (loaded : Option Head) (changes : List Change) (own : List Packet) (before after : Status) → ((o : Option (List ℕ)) → newest o (bytesOfEach own) ≡ o)
+      → newest o (bytesOfEach (packetsOf j x loaded changes own before after)) ≡ (if statusDue before after then some (packetBytes (atoStatus j x (after .state) (after .conditions))) else o)
   unfolding packetsOf
-  newest-is o loaded changes before after =
+  newest-is o loaded changes own before after other =
       let last = when (statusDue before after) (atoStatus j x (after .state) (after .conditions)) in
       let points = map (timingPoint j x) changes in
-      newest-split o (received j x loaded) (points ++ last)
-      ∙ ap (λ (p : Option (List ℕ)). newest p (bytesOfEach (points ++ last))) (newest-65 o loaded)
-      ∙ newest-split o points last
-      ∙ ap (λ (p : Option (List ℕ)). newest p (bytesOfEach last)) (newest-62 o changes)
+      newest-split o (received j x loaded) (points ++ (own ++ last))
+      ∙ ap (λ (p : Option (List ℕ)). newest p (bytesOfEach (points ++ (own ++ last)))) (newest-65 o loaded)
+      ∙ newest-split o points (own ++ last)
+      ∙ ap (λ (p : Option (List ℕ)). newest p (bytesOfEach (own ++ last))) (newest-62 o changes)
+      ∙ newest-split o own last
+      ∙ ap (λ (p : Option (List ℕ)). newest p (bytesOfEach last)) (other o)
       ∙ newest-68 o (statusDue before after) (after .state) (after .conditions)
 
 -- ---- what a packet 68 tells

@@ -17,7 +17,7 @@ use Rattle.call.specs.Call.{Call}
 use Rattle.call.specs.Packets.{Status, atoStatus, statusDue}
 use Rattle.whole_list.specs.Values.{History, positionBy, routeBy}
 use Rattle.whole_list.specs.Rules.{conditionsBy, stateBy, machineBy}
-use Rattle.whole_list.specs.Table.{headOfCall, changesBy, statusBy, packetsBy}
+use Rattle.whole_list.specs.Table.{headOfCall, changesBy, ownBy, statusBy, packetsBy}
 use Rattle.whole_list.specs.Recorded.{newest}
 use Rattle.whole_list.specs.WholeList.{bytesOfEach, StatusPacket}
 use Rattle.whole_list.proofs.Recorded.{newest-is, status-tells}
@@ -52,8 +52,8 @@ packet-tells h = status-tells (routeBy h) (positionBy h) (code (stateBy h)) (con
 
 module _ (o : Option (List ℕ)) (h : History) (c : Call) where
   pub newest-by : newest o (bytesOfEach (packetsBy h c)) ≡ (if statusDue (statusBy h) (statusBy (c ∷ h)) then some (statusPacket (c ∷ h)) else o)
-  unfolding packetsBy
-  newest-by = newest-is (routeBy (c ∷ h)) (positionBy (c ∷ h)) o (headOfCall c) (changesBy h c) (statusBy h) (statusBy (c ∷ h))
+  unfolding packetsBy newest
+  newest-by = newest-is (routeBy (c ∷ h)) (positionBy (c ∷ h)) o (headOfCall c) (changesBy h c) (ownBy h c) (statusBy h) (statusBy (c ∷ h)) (λ o. refl)
 
 -- the last packet 68 names the state and the conditions of a history
 pub record Names (o : Option (List ℕ)) (h : History) : Type 0 where

@@ -19,7 +19,7 @@ use Rattle.call.specs.Effect.{Effect, effect}
 use Rattle.call.specs.Call.{Call, Step, statusIn, stepTo, stepBy, judged}
 use Rattle.whole_list.specs.Values.{History, eventOfCall, positionBy, routeBy}
 use Rattle.whole_list.specs.Rules.{stateBy}
-use Rattle.whole_list.specs.Table.{changesBy, headOfCall, statusBy, packetsBy, kindRows, tableBy}
+use Rattle.whole_list.specs.Table.{changesBy, headOfCall, ownBy, statusBy, packetsBy, kindRows, tableBy}
 use Rattle.whole_list.proofs.Fields.{engineOf}
 use Rattle.whole_list.proofs.FieldsEffect.{effectOf, effect-is}
 use Rattle.whole_list.proofs.FieldsControl.{conditions-in, engine-is}
@@ -39,8 +39,8 @@ status-is h = λ i. record { state = code (stateBy h); conditions = conditions-i
 step-is : (h : History) (c : Call) → stepBy (engineOf h) (eventOfCall c) (effectOf h c) ≡ ruled h c
 unfolding packetsBy
 step-is h c =
-    ap (λ m. stepTo (engineOf h) (effectOf h c) m) (engine-is h c)
-    ∙ λ i. record { engine = engineOf (c ∷ h); packets = packetsOf (routeBy (c ∷ h)) (positionBy (c ∷ h)) (headOfCall c) (changesBy h c) (status-is h i) (status-is (c ∷ h) i) }
+    ap (λ m. stepTo (engineOf h) (eventOfCall c) (effectOf h c) m) (engine-is h c)
+    ∙ λ i. record { engine = engineOf (c ∷ h); packets = packetsOf (routeBy (c ∷ h)) (positionBy (c ∷ h)) (headOfCall c) (changesBy h c) (ownBy h c) (status-is h i) (status-is (c ∷ h) i) }
 
 -- the rows one after the other
 rows-on : (power state kind : Judged (Unit {0})) (f : Effect) (test : Effect → Bool) (step : Effect → Step)

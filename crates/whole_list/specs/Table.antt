@@ -89,8 +89,12 @@ headOfCall c = elim (roleOfCall c) [ off ↦ none | load ↦ headOf (loadOfCall 
 abbrev pub statusBy : History → Status
 statusBy h = record { state = code (stateBy h); conditions = conditionsBy h; speed = positionBy h .speed }
 
+-- the packets that one kind of event alone writes; the kinds of document 01 have none
+abbrev pub ownBy : History → Call → List Packet
+ownBy h c = []
+
 unfoldable pub packetsBy : History → Call → List Packet
-packetsBy h c = packetsOf (routeBy (c ∷ h)) (positionBy (c ∷ h)) (headOfCall c) (changesBy h c) (statusBy h) (statusBy (c ∷ h))
+packetsBy h c = packetsOf (routeBy (c ∷ h)) (positionBy (c ∷ h)) (headOfCall c) (changesBy h c) (ownBy h c) (statusBy h) (statusBy (c ∷ h))
 
 abbrev pub answerBy : History → Call → Accepted
 answerBy h c = record { state = code (stateBy (c ∷ h)); request = requestBy (c ∷ h); bytes = length (joined (packetsBy h c)) }

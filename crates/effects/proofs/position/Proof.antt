@@ -37,9 +37,6 @@ returns c =
     let a = p .before .args in
     gives-number (a .e) 13 (a .looked) _ _ (c .plain .ensures) (sym (position-13 (p .with-value .result) (sym (tested t) ∙ c .before .if1 .taken)) ∙ ap positionEffect (p .with-value .ensures))
 
-no-head-requires : tie.Need-no-head-requires
-no-head-requires c κs = search needs
-
 changes-of-requires : tie.Need-changes-of-requires
 changes-of-requires c κs = search needs
 
@@ -51,14 +48,14 @@ look-up-requires c κs = search needs
 
 returns-2 : tie.Need-returns-2
 returns-2 c =
-    let i = c .before .before .before .before .before in
+    let i = c .before .before .before .before in
     let t = i .before in
     let r = t .before .before in
     let p = r .before in
     let a = p .before .args in
     let m = p .with-value .result in
     gives-by (a .e) (a .looked) _ _ _ (ap positionEffect (sym (p .with-value .ensures)))
-    (position-reported m (a .e) (a .looked) _ (r .report .result) _ (c .before .before .before .before .no-head .result) (sym (tested t) ∙ i .if1 .left) (r .report .ensures) (c .before .before .before .changes-of .ensures)
+    (position-reported m (a .e) (a .looked) _ (r .report .result) _ (sym (tested t) ∙ i .if1 .left) (r .report .ensures) (c .before .before .before .changes-of .ensures)
     (λ h.
     c .look-up .ensures
     ∙ ap₂ (λ s b. lookUp s (m .train .position) b) (ap (λ (t : Reported). t .segment) (r .report .ensures))
@@ -73,7 +70,6 @@ position-spec =
     offset-beyond-requires
     plain-requires
     returns
-    no-head-requires
     changes-of-requires
     profiles-after-requires
     look-up-requires

@@ -39,9 +39,6 @@ returns-2 c =
 with-skip-requires : tie.Need-with-skip-requires
 with-skip-requires c κs = search needs
 
-no-head-requires : tie.Need-no-head-requires
-no-head-requires c κs = search needs
-
 skip-status-requires : tie.Need-skip-status-requires
 skip-status-requires c κs = search needs
 
@@ -51,11 +48,11 @@ one-change-requires c κs = search needs
 returns-3 : tie.Need-returns-3
 returns-3 c =
     let t = c .before in
-    let w = t .before .before in
+    let w = t .before in
     let s = w .before .before in
     let i = s .before .before in
     let b = i .before .before in
-    skip-taken (b .args .e) (b .args .k) (b .args .on) _ _ (t .before .no-head .result) (sym (i .before .is-behind .ensures) ∙ i .if1 .left) (sym (s .same .ensures) ∙ w .before .if2 .left) (w .with-skip .ensures)
+    skip-taken (b .args .e) (b .args .k) (b .args .on) _ _ (sym (i .before .is-behind .ensures) ∙ i .if1 .left) (sym (s .same .ensures) ∙ w .before .if2 .left) (w .with-skip .ensures)
     (c .one-change .ensures ∙ ap (λ (n : ℕ). oneChange (b .args .k) n (b .args .e .progress)) (t .skip-status .ensures)) (b .args .looked)
 
 pub skip-at-spec : {M : Type 1} → statement M
@@ -71,7 +68,6 @@ skip-at-spec =
     plain-requires-2
     returns-2
     with-skip-requires
-    no-head-requires
     skip-status-requires
     one-change-requires
     returns-3)

@@ -14,13 +14,13 @@ known c =
     let s₁ = c₂ .before in
     let c₁ = s₁ .before in
     let a = c₁ .before .before .args in
-    decided (a .e) (a .v) (a .f) _ _ _ _ _ _ _ (c₁ .conditions .ensures) (c₂ .conditions2 .ensures) (m .after-rows .ensures) (s₁ .shown .ensures) (s₂ .shown2 .ensures) (d .status-due .ensures) (w .writes-of .ensures)
+    decided (a .e) (a .v) (a .f) _ _ _ _ _ _ _ (c₁ .conditions .ensures) (c₂ .conditions2 .ensures) (m .after-rows .ensures) (s₁ .status .ensures) (s₂ .status2 .ensures) (d .status-due .ensures) (w .writes-of .ensures)
 
 conditions-requires : tie.Need-conditions-requires
 conditions-requires c κs = search needs
 
-shown-requires : tie.Need-shown-requires
-shown-requires c κs = search needs
+status-requires : tie.Need-status-requires
+status-requires c κs = search needs
 
 conditions-requires-2 : tie.Need-conditions-requires-2
 conditions-requires-2 c κs = search needs
@@ -28,8 +28,8 @@ conditions-requires-2 c κs = search needs
 after-rows-requires : tie.Need-after-rows-requires
 after-rows-requires c κs = search needs
 
-shown-requires-2 : tie.Need-shown-requires-2
-shown-requires-2 c κs = search needs
+status-requires-2 : tie.Need-status-requires-2
+status-requires-2 c κs = search needs
 
 status-due-requires : tie.Need-status-due-requires
 status-due-requires c κs = search needs
@@ -68,10 +68,10 @@ conclude-spec =
     tie.close
     (tie.spec
     conditions-requires
-    shown-requires
+    status-requires
     conditions-requires-2
     after-rows-requires
-    shown-requires-2
+    status-requires-2
     status-due-requires
     writes-of-requires
     size-requires
