@@ -1,5 +1,5 @@
 -- Laws of look-ups among entries and of the tests for doubles, one turn of a loop each.
-use Prim.Native.Nat.{ℕ, zero, suc, _+_, _≤_, _<_}
+use Prim.Native.Nat.{ℕ, zero, suc, _+_, _≤_, _<_, min}
 use mathlib.Core.Path.{_≡_, refl, ap}
 use mathlib.Core.List.{List, [], _∷_, map}
 use mathlib.Core.Bool.{Bool, true, false, cond, _||_}
@@ -8,13 +8,16 @@ use lib.Seq.{drop-cons}
 use native.Mathlib.Numerals.{add-one}
 use native.Mathlib.Omega.{arith}
 use Rattle.wire.specs.Lists.{All, any}
+use Rattle.wire.proofs.ListLaws.{left-more, left-none}
+use Rattle.engine_value.specs.Engine.{maxSegments}
 use Rattle.segment_record.specs.Record.{maxRecordPoints}
 use Rattle.segment_record.specs.View.{pointOf, entryView, blankEntry}
 use Rattle.segment_record.specs.declared.Entry.{Entry}
 use Rattle.segment_record.proofs.Accepted.{SegmentFits}
 use Rattle.segment_record.proofs.ItemLaws.{items-length}
 use Rattle.book.specs.Table.{sameSegment}
-use Rattle.book.specs.View.{isNamed, indexFrom}
+use Rattle.book.specs.View.{entriesView, isNamed, indexFrom}
+use Rattle.book.specs.declared.Book.{Book}
 use Rattle.book.specs.declared.Found.{Found}
 
 -- a list of numbers, i of them behind
@@ -24,13 +27,13 @@ number-step l i h = rw (add-one, drop-cons l i 0 h)
 pub number-end : (l : List ℕ) (i : ℕ) → length l ≤ i → drop i l ≡ []
 number-end l i h = drop-of-length-le l h
 
--- one entry of a look-up
-module _ (c sp i : ℕ) (e : Entry) (es : List Entry) where
-  pub index-found : isNamed c sp e ≡ true → indexFrom c sp i (e ∷ es) ≡ Found.At i
-  index-found t = rw t
+-- what is left of a book's entries, from an index on
+module _ (b : Book) (i : ℕ) where
+  pub entries-more : i < min (b .count) maxSegments → length (b .entries) ≡ maxSegments → drop i (entriesView b) ≡ getD (b .entries) i blankEntry ∷ drop (i + 1) (entriesView b)
+  entries-more h z = left-more blankEntry (min (b .count) maxSegments) i (b .entries) h (omega arith)
 
-  pub index-next : isNamed c sp e ≡ false → indexFrom c sp i (e ∷ es) ≡ indexFrom c sp (i + 1) es
-  index-next t = rw t
+  pub entries-none : min (b .count) maxSegments ≤ i → drop i (entriesView b) ≡ []
+  entries-none h = left-none blankEntry (min (b .count) maxSegments) i (b .entries) h
 
 -- an answer as a test
 abbrev pub isAt : Found → Bool

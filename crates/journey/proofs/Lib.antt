@@ -1,3 +1,4 @@
 pub mod Filling
 pub mod Rows
 pub mod Accepted
+pub mod Left

@@ -1,12 +1,10 @@
-use Prim.Native.Nat.{_+_, _-_, min}
-use lib.ListN.{drop, getD}
-use Rattle.segment_record.specs.View.{blankEntry}
+use Prim.Native.Nat.{_+_, _-_}
+use lib.ListN.{drop}
 use Rattle.book.specs.View.{entriesView, indexFrom}
-use mathlib.Core.Path.{_≡_, refl, _∙_, sym, ap}
+use mathlib.Core.Path.{_≡_, refl, _∙_, sym}
 use native.Mathlib.Omega.{arith}
 use borrow.Author.Needs.{needs}
-use Rattle.wire.proofs.ListLaws.{left-more, left-none}
-use Rattle.book.proofs.Entries.{index-found, index-next}
+use Rattle.book.proofs.Entries.{entries-more, entries-none}
 use Rattle.book.proofs.find_from.Statement.{statement}
 use Rattle.book.proofs.find_from.Tie as tie
 
@@ -33,12 +31,9 @@ is-named-requires c κs = search needs
 
 returns : tie.Need-returns Inv-loop μ-loop
 returns c =
-    let a = c .before .before .before .before .before .before .args in
-    let b = a .t1 in
-    let i = c .before .before .before .before .loop .i in
-    let e = getD (b .entries) i blankEntry in
-    let step = left-more blankEntry (min (b .count) 40) i (b .entries) (omega arith) (omega arith) in
-    sym (c .before .before .before .before .loop .inv ∙ ap (indexFrom (a .nidc) (a .nidsp) i) step ∙ index-found (a .nidc) (a .nidsp) i e (drop (i + 1) (entriesView b)) (sym (c .before .is-named .ensures) ∙ c .if1 .taken))
+    let w = c .before .before .before .before .loop in
+    let b = c .before .before .before .before .before .before .args .t1 in
+    sym (w .inv ∙ rw (entries-more b (w .i) (omega arith) (omega arith), sym (c .before .is-named .ensures) ∙ c .if1 .taken))
 
 add-i : tie.Need-add-i Inv-loop μ-loop
 add-i c = search needs
@@ -48,18 +43,12 @@ loop-less c = search needs
 
 loop-again : tie.Need-loop-again Inv-loop μ-loop
 loop-again c =
-    let a = c .before .before .before .before .before .before .args in
-    let b = a .t1 in
-    let i = c .before .before .before .before .loop .i in
-    let e = getD (b .entries) i blankEntry in
-    let step = left-more blankEntry (min (b .count) 40) i (b .entries) (omega arith) (omega arith) in
-    c .before .before .before .before .loop .inv ∙ ap (indexFrom (a .nidc) (a .nidsp) i) step ∙ index-next (a .nidc) (a .nidsp) i e (drop (i + 1) (entriesView b)) (sym (c .before .is-named .ensures) ∙ c .if1 .left)
+    let w = c .before .before .before .before .loop in
+    let b = c .before .before .before .before .before .before .args .t1 in
+    w .inv ∙ rw (entries-more b (w .i) (omega arith) (omega arith), sym (c .before .is-named .ensures) ∙ c .if1 .left)
 
 returns-2 : tie.Need-returns-2 Inv-loop μ-loop
-returns-2 c =
-    let a = c .before .before .before .args in
-    let b = a .t1 in
-    sym (c .before .loop .inv ∙ ap (indexFrom (a .nidc) (a .nidsp) (c .before .loop .i)) (left-none blankEntry (min (b .count) 40) (c .before .loop .i) (b .entries) (omega arith)))
+returns-2 c = sym (c .before .loop .inv ∙ rw (entries-none (c .before .before .before .args .t1) (c .before .loop .i) (omega arith)))
 
 pub find-from-spec : {M : Type 1} → statement M
 find-from-spec =

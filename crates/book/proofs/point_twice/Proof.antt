@@ -10,8 +10,9 @@ use Rattle.wire.specs.Lists.{any, twice}
 use Rattle.book.specs.Table.{nidtpTwice}
 use Rattle.segment_record.specs.View.{entryView, blankEntry}
 use Rattle.book.specs.View.{entriesView, segmentsView}
-use Rattle.wire.proofs.ListLaws.{left-more, left-none, or-true-left, or-false-left}
+use Rattle.wire.proofs.ListLaws.{or-true-left, or-false-left}
 use Rattle.segment_record.proofs.ItemLaws.{names}
+use Rattle.book.proofs.Entries.{entries-more, entries-none}
 use borrow.Author.Needs.{needs}
 use Rattle.book.proofs.point_twice.Statement.{statement}
 use Rattle.book.proofs.point_twice.Tie as tie
@@ -47,32 +48,25 @@ name-twice-requires c κs =
 
 returns : tie.Need-returns Inv-loop μ-loop
 returns c =
+    let w = c .before .before .before .before .loop in
     let a = c .before .before .before .before .before .before .before .args in
-    let b = a .t2 in
-    let i = c .before .before .before .before .loop .i in
-    let e = getD (b .entries) i blankEntry in
-    let step = left-more blankEntry (min (b .count) 40) i (b .entries) (omega arith) (omega arith) in
-    let same = ap (twice eqb) (names (e .points) (drop (e .«points_at») (now (a .s)))) ∙ sym (c .before .name-twice .ensures) in
-    sym (c .before .before .before .before .loop .inv ∙ ap (λ l. any nidtpTwice (map (entryView (now (a .s))) l)) step ∙ or-true-left _ _ (same ∙ c .if1 .taken))
+    let e = getD (a .t2 .entries) (w .i) blankEntry in
+    let same = ap (twice eqb) (names (e .points) (drop (e .«points_at») (now (a .s)))) ∙ sym (c .before .name-twice .ensures) ∙ c .if1 .taken in
+    sym (w .inv ∙ rw (entries-more (a .t2) (w .i) (omega arith) (omega arith)) (or-true-left _ _ same))
 
 loop-less : tie.Need-loop-less Inv-loop μ-loop
 loop-less c = search needs
 
 loop-again : tie.Need-loop-again Inv-loop μ-loop
 loop-again c =
+    let w = c .before .before .before .before .loop in
     let a = c .before .before .before .before .before .before .before .args in
-    let b = a .t2 in
-    let i = c .before .before .before .before .loop .i in
-    let e = getD (b .entries) i blankEntry in
-    let step = left-more blankEntry (min (b .count) 40) i (b .entries) (omega arith) (omega arith) in
-    let same = ap (twice eqb) (names (e .points) (drop (e .«points_at») (now (a .s)))) ∙ sym (c .before .name-twice .ensures) in
-    c .before .before .before .before .loop .inv ∙ ap (λ l. any nidtpTwice (map (entryView (now (a .s))) l)) step ∙ or-false-left _ _ (same ∙ c .if1 .left)
+    let e = getD (a .t2 .entries) (w .i) blankEntry in
+    let same = ap (twice eqb) (names (e .points) (drop (e .«points_at») (now (a .s)))) ∙ sym (c .before .name-twice .ensures) ∙ c .if1 .left in
+    w .inv ∙ rw (entries-more (a .t2) (w .i) (omega arith) (omega arith)) (or-false-left _ _ same)
 
 returns-2 : tie.Need-returns-2 Inv-loop μ-loop
-returns-2 c =
-    let a = c .before .before .before .before .args in
-    let b = a .t2 in
-    sym (c .before .loop .inv ∙ ap (λ l. any nidtpTwice (map (entryView (now (a .s))) l)) (left-none blankEntry (min (b .count) 40) (c .before .loop .i) (b .entries) (omega arith)))
+returns-2 c = sym (c .before .loop .inv ∙ rw (entries-none (c .before .before .before .before .args .t2) (c .before .loop .i) (omega arith)))
 
 pub point-twice-spec : {M : Type 1} → statement M
 point-twice-spec =

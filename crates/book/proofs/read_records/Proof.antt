@@ -3,10 +3,11 @@ use denote.Ref.{now}
 use mathlib.Core.Path.{_≡_, _∙_, sym, ap}
 use mathlib.Core.List.{List, []}
 use mathlib.Core.Logic.{⊎-elim}
-use lib.ListN.{length, set}
+use lib.ListN.{length, drop, set}
 use lib.Seq.{set-out}
 use native.Mathlib.Omega.{arith}
-use Rattle.segment_record.specs.Record.{BookSegment}
+use Rattle.fields.specs.Parse.Parse.{good}
+use Rattle.segment_record.specs.Record.{BookSegment, segmentRecord}
 use Rattle.segment_record.specs.View.{entryView, segmentView}
 use Rattle.book.proofs.Whole.{ReadTo, closer, read-start, read-step, read-bad, read-end}
 use borrow.Author.Needs.{needs}
@@ -47,33 +48,28 @@ mul-first c = search needs
 array-set-from-first : tie.Need-array-set-from-first Inv-loop μ-loop
 array-set-from-first c = search needs
 
+-- the record of a turn; the next one is 11 bytes further on at least
+one-read : (c : tie.After-known-told Inv-loop μ-loop) → let s = now (c .before .before .before .before .before .before .before .before .args .s) in
+    segmentRecord (drop (c .before .before .before .before .before .loop .at) s) ≡ good (entryView s (c .before .e .given .0 .0)) (drop (c .before .e .given .0 .1 .0) s)
+one-read c = sym (c .before .before .before .read-segment .ensures) ∙ ap (segmentView (now (c .before .before .before .before .before .before .before .before .args .s))) (c .before .e .given .1)
+
+near : (c : tie.After-known-told Inv-loop μ-loop) → let s = now (c .before .before .before .before .before .before .before .before .args .s) in
+    length s - c .before .e .given .0 .1 .0 + 11 ≤ length s - c .before .before .before .before .before .loop .at
+near c = let w = c .before .before .before .before .before in closer (now (w .before .before .before .args .s)) (w .loop .at) (c .before .e .given .0 .1 .0) _ (one-read c)
+
 add-n : tie.Need-add-n Inv-loop μ-loop
-add-n c =
-    let s = now (c .before .before .before .before .before .before .before .before .before .args .s) in
-    let w = c .before .before .before .before .before .before .loop in
-    let v = c .before .before .e .given in
-    let h = sym (c .before .before .before .before .read-segment .ensures) ∙ ap (segmentView s) (v .1) in
-    let near = closer s (w .at) (v .0 .1 .0) (entryView s (v .0 .0)) h in
-    omega arith
+add-n c = let h = near (c .before) in omega arith
 
 loop-less : tie.Need-loop-less Inv-loop μ-loop
-loop-less c =
-    let s = now (c .before .before .before .before .before .before .before .before .before .args .s) in
-    let w = c .before .before .before .before .before .before .loop in
-    let v = c .before .before .e .given in
-    let h = sym (c .before .before .before .before .read-segment .ensures) ∙ ap (segmentView s) (v .1) in
-    let near = closer s (w .at) (v .0 .1 .0) (entryView s (v .0 .0)) h in
-    omega arith
+loop-less c = let h = near (c .before) in omega arith
 
 loop-again : tie.Need-loop-again Inv-loop μ-loop
 loop-again c =
-    let s = now (c .before .before .before .before .before .before .before .before .before .args .s) in
     let w = c .before .before .before .before .before .before .loop in
-    let v = c .before .before .e .given in
-    let h = sym (c .before .before .before .before .read-segment .ensures) ∙ ap (segmentView s) (v .1) in
-    let near = closer s (w .at) (v .0 .1 .0) (entryView s (v .0 .0)) h in
-    let kept : c .if1 .first ≡ set (w .first) (w .n) (v .0 .0) = ⊎-elim (λ x. x .1) (λ x. x .1 ∙ sym (set-out (w .first) (w .n) (v .0 .0) (omega (arith, w .inv .2 .listed .size, x .0 .left)))) (c .if1 .came) in
-    (omega arith, _, read-step s (w .at) (w .n) (w .first) (c .if1 .first) (w .inv .1) (v .0 .0) (v .0 .1 .0) (w .inv .2) h kept)
+    let v = c .before .before .e .given .0 in
+    let h = near (c .before) in
+    let kept : c .if1 .first ≡ set (w .first) (w .n) (v .0) = ⊎-elim (λ x. x .1) (λ x. x .1 ∙ sym (set-out (w .first) (w .n) (v .0) (omega (arith, w .inv .2 .listed .size, x .0 .left)))) (c .if1 .came) in
+    (omega arith, _, read-step _ (w .at) (w .n) (w .first) (c .if1 .first) (w .inv .1) (v .0) (v .1 .0) (w .inv .2) (one-read (c .before)) kept)
 
 returns-2 : tie.Need-returns-2 Inv-loop μ-loop
 returns-2 c =

@@ -1,5 +1,5 @@
-use Prim.Native.Nat.{ℕ, _+_, _-_, min}
-use mathlib.Core.Path.{_≡_, refl, _∙_, sym, ap}
+use Prim.Native.Nat.{ℕ, _+_, _-_}
+use mathlib.Core.Path.{_≡_, refl, _∙_, sym}
 use mathlib.Core.List.{List, map}
 use lib.ListN.{drop, getD}
 use native.Mathlib.Omega.{arith}
@@ -7,8 +7,8 @@ use Rattle.wire.specs.Lists.{twice}
 use Rattle.book.specs.Table.{sameSegment}
 use Rattle.segment_record.specs.View.{entryView, blankEntry}
 use Rattle.book.specs.View.{entriesView, segmentsView}
-use Rattle.wire.proofs.ListLaws.{left-more, left-none, or-true-left, or-false-left}
-use Rattle.book.proofs.Entries.{same-named}
+use Rattle.wire.proofs.ListLaws.{or-true-left, or-false-left}
+use Rattle.book.proofs.Entries.{entries-more, entries-none, same-named}
 use borrow.Author.Needs.{needs}
 use Rattle.book.proofs.segment_twice.Statement.{statement}
 use Rattle.book.proofs.segment_twice.Tie as tie
@@ -39,29 +39,23 @@ has-from-requires c κs = search needs
 
 returns : tie.Need-returns Inv-loop μ-loop
 returns c =
-    let a = c .before .before .before .before .before .before .args in
-    let b = a .t1 in
-    let i = c .before .before .before .before .loop .i in
-    let e = getD (b .entries) i blankEntry in
-    let step = left-more blankEntry (min (b .count) 40) i (b .entries) (omega arith) (omega arith) in
-    λ s. sym (c .before .before .before .before .loop .inv s ∙ ap (λ l. twice sameSegment (map (entryView s) l)) step ∙ or-true-left _ (twice sameSegment (map (entryView s) (drop (i + 1) (entriesView b)))) (same-named s e (drop (i + 1) (entriesView b)) ∙ sym (c .before .has-from .ensures) ∙ c .if1 .taken))
+    let w = c .before .before .before .before .loop in
+    let b = c .before .before .before .before .before .before .args .t1 in
+    let named = sym (c .before .has-from .ensures) ∙ c .if1 .taken in
+    λ s. sym (w .inv s ∙ rw (entries-more b (w .i) (omega arith) (omega arith)) (or-true-left _ _ (same-named s (getD (b .entries) (w .i) blankEntry) (drop (w .i + 1) (entriesView b)) ∙ named)))
 
 loop-less : tie.Need-loop-less Inv-loop μ-loop
 loop-less c = search needs
 
 loop-again : tie.Need-loop-again Inv-loop μ-loop
 loop-again c =
-    let a = c .before .before .before .before .before .before .args in
-    let b = a .t1 in
-    let i = c .before .before .before .before .loop .i in
-    let e = getD (b .entries) i blankEntry in
-    let step = left-more blankEntry (min (b .count) 40) i (b .entries) (omega arith) (omega arith) in
-    λ s. c .before .before .before .before .loop .inv s ∙ ap (λ l. twice sameSegment (map (entryView s) l)) step ∙ or-false-left _ (twice sameSegment (map (entryView s) (drop (i + 1) (entriesView b)))) (same-named s e (drop (i + 1) (entriesView b)) ∙ sym (c .before .has-from .ensures) ∙ c .if1 .left)
+    let w = c .before .before .before .before .loop in
+    let b = c .before .before .before .before .before .before .args .t1 in
+    let named = sym (c .before .has-from .ensures) ∙ c .if1 .left in
+    λ s. w .inv s ∙ rw (entries-more b (w .i) (omega arith) (omega arith)) (or-false-left _ _ (same-named s (getD (b .entries) (w .i) blankEntry) (drop (w .i + 1) (entriesView b)) ∙ named))
 
 returns-2 : tie.Need-returns-2 Inv-loop μ-loop
-returns-2 c =
-    let b = c .before .before .before .args .t1 in
-    λ s. sym (c .before .loop .inv s ∙ ap (λ l. twice sameSegment (map (entryView s) l)) (left-none blankEntry (min (b .count) 40) (c .before .loop .i) (b .entries) (omega arith)))
+returns-2 c = λ s. sym (c .before .loop .inv s ∙ rw (entries-none (c .before .before .before .args .t1) (c .before .loop .i) (omega arith)))
 
 pub segment-twice-spec : {M : Type 1} → statement M
 segment-twice-spec =

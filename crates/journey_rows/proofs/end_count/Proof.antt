@@ -1,12 +1,11 @@
-use Prim.Native.Nat.{_+_, _-_, _≤_, min}
+use Prim.Native.Nat.{_+_, _-_, _≤_}
 use mathlib.Core.Path.{_≡_}
 use lib.ListN.{drop}
 use native.Mathlib.Omega.{arith}
 use borrow.Author.Needs.{needs}
 use Rattle.journey.specs.View.{pointsView}
-use Rattle.journey.specs.Journey.{blankJourneyPoint}
 use Rattle.journey_rows.specs.Rows.{ends}
-use Rattle.wire.proofs.ListLaws.{left-more, left-none}
+use Rattle.journey.proofs.Left.{points-left, points-done}
 use Rattle.journey_rows.proofs.end_count.Statement.{statement}
 use Rattle.journey_rows.proofs.end_count.Tie as tie
 
@@ -44,13 +43,13 @@ loop-again : tie.Need-loop-again Inv-loop μ-loop
 loop-again c =
     let w = c .before .before .before .loop in
     let j = c .before .before .before .before .before .args .t1 in
-    let e : ends (drop (w .i) (pointsView j)) ≡ c .one-if .result + ends (drop (w .i + 1) (pointsView j)) = rw (left-more blankJourneyPoint (min (j .«point_count») 64) (w .i) (j .points) (omega arith) (omega arith), c .one-if .ensures .0) in (omega arith, omega arith)
+    let e : ends (drop (w .i) (pointsView j)) ≡ c .one-if .result + ends (drop (w .i + 1) (pointsView j)) = rw (points-left j (w .i) (omega arith) (omega arith), c .one-if .ensures .0) in (omega arith, omega arith)
 
 returns : tie.Need-returns Inv-loop μ-loop
 returns c =
     let w = c .before .loop in
     let j = c .before .before .before .args .t1 in
-    let e : ends (drop (w .i) (pointsView j)) ≡ 0 = rw (left-none blankJourneyPoint (min (j .«point_count») 64) (w .i) (j .points) (omega arith)) in omega arith
+    let e : ends (drop (w .i) (pointsView j)) ≡ 0 = rw (points-done j (w .i) (omega arith)) in omega arith
 
 pub end-count-spec : {M : Type 1} → statement M
 end-count-spec =

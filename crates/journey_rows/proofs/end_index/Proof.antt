@@ -1,12 +1,11 @@
-use Prim.Native.Nat.{_+_, _-_, _≤_, min}
+use Prim.Native.Nat.{_+_, _-_, _≤_}
 use mathlib.Core.Path.{_≡_}
 use lib.ListN.{drop}
 use native.Mathlib.Omega.{arith}
 use borrow.Author.Needs.{needs}
 use Rattle.journey.specs.View.{pointsView}
-use Rattle.journey.specs.Journey.{blankJourneyPoint}
 use Rattle.journey_rows.specs.Rows.{endingOf}
-use Rattle.wire.proofs.ListLaws.{left-more, left-none}
+use Rattle.journey.proofs.Left.{points-left, points-done}
 use Rattle.journey_rows.proofs.end_index.Statement.{statement}
 use Rattle.journey_rows.proofs.end_index.Tie as tie
 
@@ -35,7 +34,7 @@ returns : tie.Need-returns Inv-loop μ-loop
 returns c =
     let w = c .before .before .before .loop in
     let j = c .before .before .before .before .before .args .t1 in
-    let e : endingOf (drop (w .i) (pointsView j)) ≡ 0 = rw (left-more blankJourneyPoint (min (j .«point_count») 64) (w .i) (j .points) (omega arith) (omega arith), c .if1 .taken) in omega arith
+    let e : endingOf (drop (w .i) (pointsView j)) ≡ 0 = rw (points-left j (w .i) (omega arith) (omega arith), c .if1 .taken) in omega arith
 
 add-i : tie.Need-add-i Inv-loop μ-loop
 add-i c = omega arith
@@ -47,7 +46,7 @@ loop-again : tie.Need-loop-again Inv-loop μ-loop
 loop-again c =
     let w = c .before .before .before .loop in
     let j = c .before .before .before .before .before .args .t1 in
-    let e : endingOf (drop (w .i) (pointsView j)) ≡ endingOf (drop (w .i + 1) (pointsView j)) + 1 = rw (left-more blankJourneyPoint (min (j .«point_count») 64) (w .i) (j .points) (omega arith) (omega arith), c .if1 .left) in (omega arith, omega arith)
+    let e : endingOf (drop (w .i) (pointsView j)) ≡ endingOf (drop (w .i + 1) (pointsView j)) + 1 = rw (points-left j (w .i) (omega arith) (omega arith), c .if1 .left) in (omega arith, omega arith)
 
 cast-result-2 : tie.Need-cast-result-2 Inv-loop μ-loop
 cast-result-2 c = omega arith
@@ -56,7 +55,7 @@ returns-2 : tie.Need-returns-2 Inv-loop μ-loop
 returns-2 c =
     let w = c .before .loop in
     let j = c .before .before .before .args .t1 in
-    let e : endingOf (drop (w .i) (pointsView j)) ≡ 0 = rw (left-none blankJourneyPoint (min (j .«point_count») 64) (w .i) (j .points) (omega arith)) in omega arith
+    let e : endingOf (drop (w .i) (pointsView j)) ≡ 0 = rw (points-done j (w .i) (omega arith)) in omega arith
 
 pub end-index-spec : {M : Type 1} → statement M
 end-index-spec =

@@ -1,4 +1,4 @@
-use Prim.Native.Nat.{ℕ, _-_, _<_, _≤_, min}
+use Prim.Native.Nat.{ℕ, _-_, _<_, _≤_}
 use mathlib.Core.Path.{_≡_, refl, sym, _∙_}
 use lib.ListN.{length, drop, getD, length-take}
 use native.Mathlib.Omega.{arith}
@@ -11,7 +11,7 @@ use mathlib.Core.Bool.{Bool}
 use lib.Dec.{leb}
 use Rattle.wire.specs.Lists.{any}
 use Rattle.journey.specs.declared.JourneyPoint.{JourneyPoint}
-use Rattle.wire.proofs.ListLaws.{left-more, left-none}
+use Rattle.journey.proofs.Left.{points-left, points-done}
 use Rattle.journey_rows.proofs.index_beyond.Statement.{statement}
 use Rattle.journey_rows.proofs.index_beyond.Tie as tie
 
@@ -47,7 +47,7 @@ returns c =
     let w = c .before .before .before .before .loop in
     let j = c .before .before .before .before .before .before .before .args .t1 in
     let e : length (namesView j) ≤ getD (j .points) (w .i) blankJourneyPoint .index = rw length-take (omega arith) in
-    sym (w .inv ∙ rw (left-more blankJourneyPoint (min (j .«point_count») 64) (w .i) (j .points) (omega arith) (omega arith), le-leb _ _ e))
+    sym (w .inv ∙ rw (points-left j (w .i) (omega arith) (omega arith), le-leb _ _ e))
 
 add-i : tie.Need-add-i Inv-loop μ-loop
 add-i c = omega arith
@@ -60,13 +60,13 @@ loop-again c =
     let w = c .before .before .before .before .loop in
     let j = c .before .before .before .before .before .before .before .args .t1 in
     let e : getD (j .points) (w .i) blankJourneyPoint .index < length (namesView j) = rw length-take (omega arith) in
-    w .inv ∙ rw (left-more blankJourneyPoint (min (j .«point_count») 64) (w .i) (j .points) (omega arith) (omega arith), lt-leb _ _ e)
+    w .inv ∙ rw (points-left j (w .i) (omega arith) (omega arith), lt-leb _ _ e)
 
 returns-2 : tie.Need-returns-2 Inv-loop μ-loop
 returns-2 c =
     let w = c .before .loop in
     let j = c .before .before .before .before .args .t1 in
-    sym (w .inv ∙ rw (left-none blankJourneyPoint (min (j .«point_count») 64) (w .i) (j .points) (omega arith)))
+    sym (w .inv ∙ rw (points-done j (w .i) (omega arith)))
 
 pub index-beyond-spec : {M : Type 1} → statement M
 index-beyond-spec =

@@ -1,13 +1,12 @@
-use Prim.Native.Nat.{_-_, min}
+use Prim.Native.Nat.{_-_}
 use lib.ListN.{drop}
 use mathlib.Core.Path.{_≡_, refl, sym, _∙_}
 use native.Mathlib.Omega.{arith}
 use borrow.Author.Needs.{needs}
 use Rattle.journey.specs.View.{namesView}
-use Rattle.journey.specs.Journey.{blankName}
 use Rattle.wire.specs.Lists.{any}
 use Rattle.journey_rows.specs.View.{isNamed}
-use Rattle.wire.proofs.ListLaws.{left-more, left-none}
+use Rattle.journey.proofs.Left.{names-left, names-done}
 use Rattle.journey_rows.proofs.named_from.Statement.{statement}
 use Rattle.journey_rows.proofs.named_from.Tie as tie
 
@@ -36,7 +35,7 @@ returns : tie.Need-returns Inv-loop μ-loop
 returns c =
     let w = c .before .before .before .before .loop in
     let j = c .before .before .before .before .before .before .args .t1 in
-    sym (w .inv ∙ rw (left-more blankName (min (j .«name_count») 40) (w .i) (j .names) (omega arith) (omega arith), sym (c .before .is-named .ensures) ∙ c .if1 .taken))
+    sym (w .inv ∙ rw (names-left j (w .i) (omega arith) (omega arith), sym (c .before .is-named .ensures) ∙ c .if1 .taken))
 
 add-i : tie.Need-add-i Inv-loop μ-loop
 add-i c = omega arith
@@ -48,13 +47,13 @@ loop-again : tie.Need-loop-again Inv-loop μ-loop
 loop-again c =
     let w = c .before .before .before .before .loop in
     let j = c .before .before .before .before .before .before .args .t1 in
-    w .inv ∙ rw (left-more blankName (min (j .«name_count») 40) (w .i) (j .names) (omega arith) (omega arith), sym (c .before .is-named .ensures) ∙ c .if1 .left)
+    w .inv ∙ rw (names-left j (w .i) (omega arith) (omega arith), sym (c .before .is-named .ensures) ∙ c .if1 .left)
 
 returns-2 : tie.Need-returns-2 Inv-loop μ-loop
 returns-2 c =
     let w = c .before .loop in
     let j = c .before .before .before .args .t1 in
-    sym (w .inv ∙ rw (left-none blankName (min (j .«name_count») 40) (w .i) (j .names) (omega arith)))
+    sym (w .inv ∙ rw (names-done j (w .i) (omega arith)))
 
 pub named-from-spec : {M : Type 1} → statement M
 named-from-spec =

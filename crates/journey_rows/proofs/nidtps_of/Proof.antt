@@ -7,7 +7,7 @@ use borrow.Author.Needs.{needs}
 use Rattle.journey.specs.View.{pointsView}
 use Rattle.journey.specs.Journey.{blankJourneyPoint}
 use Rattle.journey_rows.specs.Rows.{nidtps}
-use Rattle.wire.proofs.ListLaws.{left-more, left-none}
+use Rattle.journey.proofs.Left.{points-left, points-done}
 use Rattle.journey_rows.proofs.Names.{nidtps-more, nidtps-all}
 use Rattle.journey_rows.proofs.nidtps_of.Statement.{statement}
 use Rattle.journey_rows.proofs.nidtps_of.Tie as tie
@@ -47,13 +47,13 @@ loop-again c =
     let w = c .before .before .loop in
     let j = c .before .before .before .before .args .t1 in
     let long : length (w .names) ≡ 64 = w .inv .1 in
-    (omega arith, length-set (w .names) (w .i) _ ∙ long, nidtps-more (w .names) (w .i) _ _ (w .inv .2) (getD (j .points) (w .i) blankJourneyPoint) _ (omega arith) (left-more blankJourneyPoint (min (j .«point_count») 64) (w .i) (j .points) (omega arith) (omega arith)))
+    (omega arith, length-set (w .names) (w .i) _ ∙ long, nidtps-more (w .names) (w .i) _ _ (w .inv .2) (getD (j .points) (w .i) blankJourneyPoint) _ (omega arith) (points-left j (w .i) (omega arith) (omega arith)))
 
 returns : tie.Need-returns Inv-loop μ-loop
 returns c =
     let w = c .before .loop in
     let j = c .before .before .before .args .t1 in
-    nidtps-all (w .names) (w .i) _ _ (w .inv .2) (min (j .«point_count») 64) (w .inv .0) (omega arith) (left-none blankJourneyPoint (min (j .«point_count») 64) (w .i) (j .points) (omega arith))
+    nidtps-all (w .names) (w .i) _ _ (w .inv .2) (min (j .«point_count») 64) (w .inv .0) (omega arith) (points-done j (w .i) (omega arith))
 
 pub nidtps-of-spec : {M : Type 1} → statement M
 nidtps-of-spec =

@@ -3,13 +3,14 @@ use mathlib.Core.Path.{_≡_, sym, _∙_}
 use mathlib.Core.List.{List}
 use Prim.Native.Nat.{_≤_}
 use denote.Ref.{now}
-use lib.ListN.{length, length-take}
+use lib.ListN.{length}
 use native.Mathlib.Omega.{arith}
 use borrow.Author.Needs.{needs}
 use Rattle.segment_record.specs.Record.{BookSegment}
 use Rattle.book.specs.View.{segmentsView}
 use Rattle.journey.specs.Journey.{JourneyValue}
 use Rattle.journey.specs.View.{pointsView, valueView}
+use Rattle.journey.proofs.Left.{points-few}
 use Rattle.route.specs.Placing.{pointsOf}
 use Rattle.wire.proofs.ListLaws.{or-false}
 use Rattle.route.proofs.Rows.{eleven, twelve, twelve-same, row-10, row-11, row-12, no-row, told-refused, told-loaded}
@@ -23,7 +24,7 @@ abbrev valueAt : tie.After-row-11 → JourneyValue
 valueAt c = valueView (c .before .before .before .before .args .j)
 
 most : (c : tie.After-row-11) → length (pointsView (c .before .before .before .before .args .j)) ≤ 64
-most c = rw length-take (omega arith)
+most c = points-few (c .before .before .before .before .args .j)
 
 eleven-is : (c : tie.After-row-11) → eleven (bookAt c) (valueAt c) ≡ c .row-11 .result
 eleven-is c = sym (c .row-11 .ensures (bookAt c) (c .before .before .place-segments .ensures))

@@ -1,6 +1,6 @@
-use Prim.Native.Nat.{_-_, _<_, _≤_, min}
+use Prim.Native.Nat.{_-_, _<_, _≤_}
 use mathlib.Core.Path.{_≡_, refl, sym, ap, _∙_}
-use lib.ListN.{length, getD, drop, length-map, length-take}
+use lib.ListN.{length, getD, length-map, length-take}
 use native.Mathlib.Omega.{arith}
 use denote.Ref.{now}
 use borrow.Author.Needs.{needs}
@@ -8,7 +8,8 @@ use Rattle.engine_value.specs.Engine.{blankSegment, blankPoint, filled}
 use Rattle.segment_record.specs.View.{blankEntry}
 use Rattle.journey.specs.View.{namesView, pointsView, valueView}
 use Rattle.journey.specs.Journey.{blankJourneyPoint}
-use Rattle.wire.proofs.ListLaws.{left-more, left-none, getD-there}
+use Rattle.wire.proofs.ListLaws.{getD-there}
+use Rattle.journey.proofs.Left.{names-few, points-few, points-left, points-done}
 use Rattle.route.specs.View.{recordsView}
 use Rattle.route.proofs.Placed.{index-below, entry-point, point-fits, point-is, points-same, PlacedPoints, points-none, points-more, points-end}
 use Rattle.route.proofs.place_points.Statement.{statement}
@@ -37,7 +38,7 @@ loop-holds : tie.Need-loop-holds Inv-loop μ-loop
 loop-holds c =
     let a = c .before .before .before .args in
     let j = a .t1 in
-    let n : length (pointsView j) ≤ 64 = rw length-take (omega arith) in
+    let n : length (pointsView j) ≤ 64 = points-few j in
     rw (c .blank-point .ensures) (points-none (a .t2 .segments) (recordsView (now (a .s)) (a .t2)) (pointsView j) n)
 
 mul-p : tie.Need-mul-p Inv-loop μ-loop
@@ -100,15 +101,15 @@ loop-again c =
     let g = getD-there (m .segments) (p .index) _ blankSegment (omega (arith, k, long (c .before .before .before .before))) in
     let f = c .before .find-point .ensures ∙ entry-point s m p (getD (m .entries) (p .index) blankEntry) refl in
     let n : w .i < length (pointsView j) = rw length-take (omega arith) in
-    points-more (m .segments) (recordsView s m) (pointsView j) (w .i) (w .points) p _ n (left-more blankJourneyPoint (min (j .«point_count») 64) (w .i) (j .points) (omega arith) (omega arith)) (c .point-of .ensures ∙ point-is s m p _ _ g f) (w .inv)
+    points-more (m .segments) (recordsView s m) (pointsView j) (w .i) (w .points) p _ n (points-left j (w .i) (omega arith) (omega arith)) (c .point-of .ensures ∙ point-is s m p _ _ g f) (w .inv)
 
 returns : tie.Need-returns Inv-loop μ-loop
 returns c =
     let w = c .before .loop in
     let a = c .before .before .before .before .before .args in
     let j = a .t1 in
-    let few : length (namesView j) ≤ 40 = rw length-take (omega arith) in
-    λ book h. points-end (a .t2 .segments) (recordsView (now (a .s)) (a .t2)) (pointsView j) (w .i) (w .points) (left-none blankJourneyPoint (min (j .«point_count») 64) (w .i) (j .points) (omega arith)) (w .inv)
+    let few : length (namesView j) ≤ 40 = names-few j in
+    λ book h. points-end (a .t2 .segments) (recordsView (now (a .s)) (a .t2)) (pointsView j) (w .i) (w .points) (points-done j (w .i) (omega arith)) (w .inv)
     ∙ ap (filled 64 blankPoint) (points-same (now (a .s)) book (valueView j) (a .t2) few h (c .before .before .before .before .before .pre .0))
 
 pub place-points-spec : {M : Type 1} → statement M

@@ -6,7 +6,7 @@ use native.Mathlib.Omega.{arith}
 use borrow.Author.Needs.{needs}
 use Rattle.journey.specs.View.{namesView}
 use Rattle.journey.specs.Journey.{blankName}
-use Rattle.wire.proofs.ListLaws.{left-more, left-none}
+use Rattle.journey.proofs.Left.{names-few, names-left, names-done}
 use denote.Ref.{now}
 use Rattle.book.specs.View.{segmentsView}
 use Rattle.route.proofs.Placed.{Placed, placed-none, placed-more, placed-end, next-length}
@@ -29,7 +29,7 @@ loop-holds : tie.Need-loop-holds Inv-loop μ-loop
 loop-holds c =
     let a = c .before .before .before .args in
     let j = a .t1 in
-    let n : length (namesView j) ≤ 40 = rw length-take (omega arith) in
+    let n : length (namesView j) ≤ 40 = names-few j in
     rw (c .blank-placing .ensures .0, c .blank-placing .ensures .1) (placed-none (now (a .s)) (segmentsView (now (a .s)) (a .b)) (namesView j) n)
 
 mul-name : tie.Need-mul-name Inv-loop μ-loop
@@ -86,7 +86,7 @@ loop-again c =
     let s = now (a .s) in
     let n : w .i < length (namesView j) = rw length-take (omega arith) in
     placed-more s (segmentsView s (a .b)) (namesView j) (w .i) (w .m .segments) (w .m .entries) (w .placed) (w .start) (getD (j .names) (w .i) blankName) (c .before .before .before .before .record-of .result) _ _ _ (c .before .before .before .before .before .before .before .before .before .before .before .pre) n
-    (left-more blankName (min (j .«name_count») 40) (w .i) (j .names) (omega arith) (omega arith)) (sym (getD-take (min (j .«name_count») 40) (j .names) (w .i) blankName (omega arith))) (c .before .before .before .before .record-of .ensures s) (c .before .before .before .entry-in .ensures) (c .before .before .goes-on .ensures s) (c .before .segment-of .ensures) (w .inv)
+    (names-left j (w .i) (omega arith) (omega arith)) (sym (getD-take (min (j .«name_count») 40) (j .names) (w .i) blankName (omega arith))) (c .before .before .before .before .record-of .ensures s) (c .before .before .before .entry-in .ensures) (c .before .before .goes-on .ensures s) (c .before .segment-of .ensures) (w .inv)
 
 returns : tie.Need-returns Inv-loop μ-loop
 returns c =
@@ -95,7 +95,7 @@ returns c =
     let j = a .t1 in
     let s = now (a .s) in
     let n : length (namesView j) ≤ w .i = rw length-take (omega arith) in
-    placed-end s (segmentsView s (a .b)) (namesView j) (w .i) (w .m .segments) (w .m .entries) (w .placed) (w .start) (c .before .before .before .before .before .pre) n (left-none blankName (min (j .«name_count») 40) (w .i) (j .names) (omega arith)) (w .inv)
+    placed-end s (segmentsView s (a .b)) (namesView j) (w .i) (w .m .segments) (w .m .entries) (w .placed) (w .start) (c .before .before .before .before .before .pre) n (names-done j (w .i) (omega arith)) (w .inv)
 
 pub place-segments-spec : {M : Type 1} → statement M
 place-segments-spec =

@@ -1,15 +1,16 @@
-use Prim.Native.Nat.{_-_, _<_, _≤_, min}
+use Prim.Native.Nat.{_-_, _<_, _≤_}
 use mathlib.Core.Path.{_≡_, refl, sym, _∙_}
-use lib.ListN.{length, getD, drop, length-map, length-take}
+use lib.ListN.{length, getD, drop, length-map}
 use native.Mathlib.Omega.{arith}
 use denote.Ref.{now}
 use borrow.Author.Needs.{needs}
 use Rattle.engine_value.specs.Engine.{blankSegment}
 use Rattle.segment_record.specs.View.{blankEntry}
-use Rattle.journey.specs.View.{namesView, pointsView, valueView}
+use Rattle.journey.specs.View.{pointsView, valueView}
 use Rattle.journey.specs.Journey.{blankJourneyPoint}
 use Rattle.wire.specs.Lists.{any}
-use Rattle.wire.proofs.ListLaws.{left-more, left-none, getD-there}
+use Rattle.wire.proofs.ListLaws.{getD-there}
+use Rattle.journey.proofs.Left.{names-few, points-left, points-done}
 use Rattle.route.specs.View.{recordsView}
 use Rattle.route.proofs.Placed.{lacks, missing-same, index-below, lacks-is}
 use Rattle.route.proofs.point_missing.Statement.{statement}
@@ -58,18 +59,22 @@ element-copy-out-e c = small (c .before)
 lacks-requires : tie.Need-lacks-requires Inv-loop μ-loop
 lacks-requires c κs = search needs
 
+-- the test of a turn stands for the definition's
+lacks-one : (c : tie.After-lacks Inv-loop μ-loop)
+    → let w = c .before .before .before .before .before .before .loop in let a = c .before .before .before .before .before .before .before .before .before .args in
+    lacks (a .t2 .segments) (recordsView (now (a .s)) (a .t2)) (getD (a .t1 .points) (w .i) blankJourneyPoint) ≡ c .lacks .result
+lacks-one c =
+    let a = c .before .before .before .before .before .before .before .before .before .args in
+    let p = getD (a .t1 .points) (c .before .before .before .before .before .before .loop .i) blankJourneyPoint in
+    let k = c .before .before .before in
+    let g = getD-there (a .t2 .segments) (p .index) _ blankSegment (omega (arith, small k, long k)) in
+    sym (c .lacks .ensures ∙ lacks-is (now (a .s)) (a .t2) p _ (getD (a .t2 .entries) (p .index) blankEntry) g refl)
+
 returns : tie.Need-returns Inv-loop μ-loop
 returns c =
     let w = c .before .before .before .before .before .before .before .loop in
-    let a = c .before .before .before .before .before .before .before .before .before .before .args in
-    let j = a .t1 in
-    let m = a .t2 in
-    let p = getD (j .points) (w .i) blankJourneyPoint in
-    let k = small (c .before .before .before .before) in
-    let g = getD-there (m .segments) (p .index) _ blankSegment (omega (arith, k, long (c .before .before .before .before))) in
-    let e = c .before .lacks .ensures ∙ lacks-is (now (a .s)) m p _ (getD (m .entries) (p .index) blankEntry) g refl in
-    let few : length (namesView j) ≤ 40 = rw length-take (omega arith) in
-    λ book h. sym (w .inv ∙ rw (left-more blankJourneyPoint (min (j .«point_count») 64) (w .i) (j .points) (omega arith) (omega arith), sym e ∙ c .if1 .taken)) ∙ missing-same (now (a .s)) book (valueView j) m few h (c .before .before .before .before .before .before .before .before .before .before .pre)
+    let b = c .before .before .before .before .before .before .before .before .before .before in
+    λ book h. sym (w .inv ∙ rw (points-left (b .args .t1) (w .i) (omega arith) (omega arith), lacks-one (c .before) ∙ c .if1 .taken)) ∙ missing-same (now (b .args .s)) book (valueView (b .args .t1)) (b .args .t2) (names-few (b .args .t1)) h (b .pre)
 
 add-i : tie.Need-add-i Inv-loop μ-loop
 add-i c = omega arith
@@ -80,22 +85,14 @@ loop-less c = omega arith
 loop-again : tie.Need-loop-again Inv-loop μ-loop
 loop-again c =
     let w = c .before .before .before .before .before .before .before .loop in
-    let a = c .before .before .before .before .before .before .before .before .before .before .args in
-    let j = a .t1 in
-    let m = a .t2 in
-    let p = getD (j .points) (w .i) blankJourneyPoint in
-    let k = small (c .before .before .before .before) in
-    let g = getD-there (m .segments) (p .index) _ blankSegment (omega (arith, k, long (c .before .before .before .before))) in
-    let e = c .before .lacks .ensures ∙ lacks-is (now (a .s)) m p _ (getD (m .entries) (p .index) blankEntry) g refl in
-    w .inv ∙ rw (left-more blankJourneyPoint (min (j .«point_count») 64) (w .i) (j .points) (omega arith) (omega arith), sym e ∙ c .if1 .left)
+    let j = c .before .before .before .before .before .before .before .before .before .before .args .t1 in
+    w .inv ∙ rw (points-left j (w .i) (omega arith) (omega arith), lacks-one (c .before) ∙ c .if1 .left)
 
 returns-2 : tie.Need-returns-2 Inv-loop μ-loop
 returns-2 c =
     let w = c .before .loop in
-    let a = c .before .before .before .before .args in
-    let j = a .t1 in
-    let few : length (namesView j) ≤ 40 = rw length-take (omega arith) in
-    λ book h. sym (w .inv ∙ rw (left-none blankJourneyPoint (min (j .«point_count») 64) (w .i) (j .points) (omega arith))) ∙ missing-same (now (a .s)) book (valueView j) (a .t2) few h (c .before .before .before .before .pre)
+    let b = c .before .before .before .before in
+    λ book h. sym (w .inv ∙ rw (points-done (b .args .t1) (w .i) (omega arith))) ∙ missing-same (now (b .args .s)) book (valueView (b .args .t1)) (b .args .t2) (names-few (b .args .t1)) h (b .pre)
 
 pub point-missing-spec : {M : Type 1} → statement M
 point-missing-spec =
