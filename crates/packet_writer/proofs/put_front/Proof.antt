@@ -1,8 +1,3 @@
-use denote.Ref.{now}
-use mathlib.Core.Path.{_∙_, sym, ap}
-use lib.Seq.{sets}
-use Rattle.packets.specs.Packets.{packetBytes}
-use Rattle.packets.specs.declared.Packet.{Packet}
 use borrow.Author.Needs.{needs}
 use Rattle.packet_writer.proofs.put_front.Statement.{statement}
 use Rattle.packet_writer.proofs.put_front.Tie as tie
@@ -29,28 +24,19 @@ same-length : tie.Need-same-length
 same-length c = search needs
 
 returns : tie.Need-returns
-returns c =
-    let b = c .before .before in
-    let a = b .before .before .before .before .before .before .args in
-    b .put-timing-point .ensures ∙ ap (λ (p : Packet). sets (now (a .out)) 0 (packetBytes p)) (sym (b .before .before .before .p .given .1))
+returns c = let b = c .before .before in rw (b .before .before .before .p .given .1) (b .put-timing-point .ensures)
 
 same-length-2 : tie.Need-same-length-2
 same-length-2 c = search needs
 
 returns-2 : tie.Need-returns-2
-returns-2 c =
-    let b = c .before .before in
-    let a = b .before .before .before .before .before .before .args in
-    b .put-jp-received .ensures ∙ ap (λ (p : Packet). sets (now (a .out)) 0 (packetBytes p)) (sym (b .before .before .before .p2 .given .1))
+returns-2 c = let b = c .before .before in rw (b .before .before .before .p2 .given .1) (b .put-jp-received .ensures)
 
 same-length-3 : tie.Need-same-length-3
 same-length-3 c = search needs
 
 returns-3 : tie.Need-returns-3
-returns-3 c =
-    let b = c .before .before in
-    let a = b .before .before .before .before .before .before .args in
-    b .put-ato-status .ensures ∙ ap (λ (p : Packet). sets (now (a .out)) 0 (packetBytes p)) (sym (b .before .before .before .p3 .given .1))
+returns-3 c = let b = c .before .before in rw (b .before .before .before .p3 .given .1) (b .put-ato-status .ensures)
 
 pub put-front-spec : {M : Type 1} → statement M
 put-front-spec =
