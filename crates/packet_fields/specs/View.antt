@@ -1,6 +1,8 @@
 -- What the packet reader answers, as one struct: a field that the kind does not have is 0.
 use Prim.Native.Nat.{ℕ}
+use mathlib.Core.List.{List, [], _∷_}
 use mathlib.Core.Bool.{Bool, true, false}
+use lib.ListN.{getD}
 use Rattle.wire.specs.Judged.{Judged}
 use Rattle.wire.specs.Judged.Judged.{refuse, accept}
 use Rattle.packets.specs.declared.Header.{Header}
@@ -12,43 +14,43 @@ use Rattle.packet_fields.specs.declared.PacketFields.{PacketFields}
 abbrev noHeader : Header
 noHeader = record { nidc = 0; nidsp = 0; offset = 0; speed = 0; operational = 0 }
 
--- accepted, number, kind and size; header; NID_C and NID_TP; Q_EOJ_REACHED, alignment, status, stopping data; NID_ATOTS, date, seconds, counter; state
--- and conditions
-abbrev fields : Bool → ℕ → ℕ → ℕ → Header → ℕ → ℕ → ℕ → ℕ → ℕ → ℕ → ℕ → ℕ → ℕ → ℕ → ℕ → ℕ → PacketFields
-fields accepted number kind size h c tp eoj al st sd ts da se co state word = record {
+-- accepted, number, kind and size; header; then the values of the contents by place, 0 behind the last one given
+abbrev fields : Bool → ℕ → ℕ → ℕ → Header → List ℕ → PacketFields
+fields accepted number kind size h v = record {
   accepted = accepted;
   number = number;
   kind = kind;
   size = size;
   header = h;
-  nidc = c;
-  nidtp = tp;
-  «q_eoj_reached» = eoj;
-  alignment = al;
-  status = st;
-  stopping = sd;
-  atots = ts;
-  date = da;
-  seconds = se;
-  counter = co;
-  state = state;
-  conditions = word;
+  nidc = getD v 0 0;
+  nidtp = getD v 1 0;
+  «q_eoj_reached» = getD v 2 0;
+  alignment = getD v 3 0;
+  status = getD v 4 0;
+  stopping = getD v 5 0;
+  atots = getD v 6 0;
+  date = getD v 7 0;
+  seconds = getD v 8 0;
+  counter = getD v 9 0;
+  state = getD v 10 0;
+  conditions = getD v 11 0;
 }
 
 -- "The packet reader returns the packet's fields"
-abbrev read : Packet → Header → ℕ → ℕ → ℕ → ℕ → ℕ → ℕ → ℕ → ℕ → ℕ → ℕ → ℕ → ℕ → PacketFields
+abbrev read : Packet → Header → List ℕ → PacketFields
 read p = fields true 0 (packetView p .kind .number) (sizeOf p)
 
 abbrev pub packetFieldsView : Packet → PacketFields
 packetFieldsView (Packet.TimingPoint p) =
-    read (Packet.TimingPoint p) (p .header) (p .nidc) (p .nidtp) (p .«q_eoj_reached») (p .alignment) (p .status) (p .stopping) 0 0 0 0 0 0
+    read (Packet.TimingPoint p) (p .header) (p .nidc ∷ p .nidtp ∷ p .«q_eoj_reached» ∷ p .alignment ∷ p .status ∷ p .stopping ∷ [])
 packetFieldsView (Packet.JpReceived p) =
-    read (Packet.JpReceived p) (p .header) (p .nidc) 0 0 0 (p .status) 0 (p .atots) (p .date) (p .seconds) (p .counter) 0 0
-packetFieldsView (Packet.AtoStatus p) = read (Packet.AtoStatus p) (p .header) 0 0 0 0 0 0 0 0 0 0 (p .state) (p .conditions)
+    read (Packet.JpReceived p) (p .header) (p .nidc ∷ 0 ∷ 0 ∷ 0 ∷ p .status ∷ 0 ∷ p .atots ∷ p .date ∷ p .seconds ∷ p .counter ∷ [])
+packetFieldsView (Packet.AtoStatus p) =
+    read (Packet.AtoStatus p) (p .header) (0 ∷ 0 ∷ 0 ∷ 0 ∷ 0 ∷ 0 ∷ 0 ∷ 0 ∷ 0 ∷ 0 ∷ p .state ∷ p .conditions ∷ [])
 
 -- "Every refusal returns the number only"
 abbrev pub refusedView : ℕ → PacketFields
-refusedView n = fields false n 0 0 noHeader 0 0 0 0 0 0 0 0 0 0 0 0
+refusedView n = fields false n 0 0 noHeader []
 
 abbrev pub fieldsView : Judged Packet → PacketFields
 fieldsView (accept p) = packetFieldsView p
