@@ -7,11 +7,11 @@ use lib.ListN.{getD, set}
 use Rattle.wire.specs.Numbers.{if_then_else_}
 use Rattle.wire.specs.Judged.{Judged, thenJudge, row, _>>=_, _>>_}
 use Rattle.wire.specs.Judged.Judged.{refuse, accept}
-use Rattle.engine_value.specs.Engine.{routeIn, progress, fresh, withRoute, withSkips, withProgress, withTrain}
+use Rattle.engine_value.specs.Engine.{routeIn, numberIn, trainOf, progress, fresh, withRoute, withSkips, withProgress, withTrain}
 use Rattle.engine_value.specs.declared.Position.{Position}
 use Rattle.engine_value.specs.declared.Engine.{Engine}
 use Rattle.event.specs.declared.Event.{Event}
-use Rattle.event.specs.Kinds.{Role, off, load, report, other, skip, mode, lever, reports, trainLength, Carried, newer, roleOf, carried}
+use Rattle.event.specs.Kinds.{Role, off, load, report, other, skip, Carried, newer, roleOf, carried}
 use Rattle.journey.specs.declared.Head.{Head}
 use Rattle.route.specs.Route.{LoadValue, loadOf}
 use Rattle.position.specs.Position.{segmentNamed, offsetDefined}
@@ -39,13 +39,7 @@ valuesOnly m = record { engine = m; loaded = none; changes = []; reached = false
 
 -- the engine with the values that an event brings
 abbrev pub taking : Engine → Carried → Engine
-taking e c = withTrain e (record {
-  position = newer (c .position) (e .train .position);
-  length = newer (c .number trainLength) (e .train .length);
-  mode = newer (c .number mode) (e .train .mode);
-  lever = newer (c .number lever) (e .train .lever);
-  reports = newer (c .number reports) (e .train .reports);
-})
+taking e c = withTrain e (trainOf (newer (c .position) (e .train .position)) (λ v. newer (c .number v) (numberIn (e .train) v)))
 
 -- position: "13 journey segment that is in the book, offset defined and beyond its length"
 unfoldable pub offsetBeyond : Named → Position → Bool

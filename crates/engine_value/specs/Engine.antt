@@ -65,6 +65,28 @@ blankSegment = record { nidc = 0; nidsp = 0; booked = false; placed = false; sta
 abbrev pub blankPoint : Point
 blankPoint = record { nidtp = 0; nidc = 0; alignment = 0; stopping = 0; stop = false; trackside = false; placed = false; place = 0; reach = 0 }
 
+-- ---- the train's values
+
+-- the values that the engine keeps from an event, each a number; the position beside them
+pub data Value : Type 0 where
+  mode lever reports trainLength : Value
+
+abbrev pub place : Value → ℕ
+place mode = 0
+place lever = 1
+place reports = 2
+place trainLength = 3
+
+abbrev pub numberIn : Train → Value → ℕ
+numberIn t mode = t .mode
+numberIn t lever = t .lever
+numberIn t reports = t .reports
+numberIn t trainLength = t .length
+
+-- the train with that position and these numbers
+abbrev pub trainOf : Position → (Value → ℕ) → Train
+trainOf x n = record { position = x; length = n trainLength; mode = n mode; lever = n lever; reports = n reports }
+
 -- ---- "Fresh: NP, mode other, lever neutral, reports 0, length 0, speed 0, NID_C and NID_SP 0, offset undefined, no journey, no press, no request."
 
 abbrev pub progress : ℕ → Bool → Progress
@@ -78,7 +100,7 @@ abbrev pub freshPosition : Position
 freshPosition = record { nidc = 0; nidsp = 0; offset = undefined; speed = 0 }
 
 abbrev pub freshTrain : Train
-freshTrain = record { position = freshPosition; length = 0; mode = 0; lever = 0; reports = 0 }
+freshTrain = trainOf freshPosition (λ v. 0)
 
 abbrev pub freshControl : Control
 freshControl = record { state = 0; press = false; request = false }
@@ -129,4 +151,4 @@ abbrev pub withControl : Engine → Control → Engine
 withControl e c = record { points = e .points; skips = e .skips; segments = e .segments; load = e .load; progress = e .progress; train = e .train; control = c }
 
 abbrev pub withPosition : Engine → Position → Engine
-withPosition e p = withTrain e (record { position = p; length = e .train .length; mode = e .train .mode; lever = e .train .lever; reports = e .train .reports })
+withPosition e p = withTrain e (trainOf p (numberIn (e .train)))

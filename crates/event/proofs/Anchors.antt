@@ -7,8 +7,9 @@ use Rattle.wire.specs.Numbers.{number as numberOf}
 use Rattle.wire.specs.Judged.{Judged}
 use Rattle.wire.specs.Judged.Judged.{refuse, accept}
 use Rattle.layout.specs.Layout.{valuesAt}
+use Rattle.engine_value.specs.Engine.{mode, lever, reports, trainLength}
 use Rattle.engine_value.specs.declared.Position.{Position}
-use Rattle.event.specs.Kinds.{Role, off, load, report, other, skip, mode, lever, reports, trainLength, Brings, nothing, number, position, kind, kindOf, rowOf, roleOf}
+use Rattle.event.specs.Kinds.{Role, off, load, report, other, skip, Brings, nothing, number, position, kind, kindOf, rowOf, roleOf}
 use Rattle.event.specs.Events.{eventRows, eventWith, contentAmong, eventOfKind, eventOf}
 use Rattle.event.specs.declared.Event.{Event}
 use Rattle.event.specs.declared.Row.{Row}

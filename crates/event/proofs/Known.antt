@@ -4,8 +4,9 @@ use mathlib.Core.Path.{_≡_, refl}
 use mathlib.Core.Bool.{Bool, true, false}
 use mathlib.Core.Option.{Option, none, some}
 use lib.Dec.{eqb}
+use Rattle.engine_value.specs.Engine.{mode}
 use Rattle.engine_value.specs.declared.Position.{Position}
-use Rattle.event.specs.Kinds.{Role, off, load, report, other, skip, mode, Kind, kind, bringing, carried}
+use Rattle.event.specs.Kinds.{Role, off, load, report, other, skip, Kind, kind, bringing, carried}
 use Rattle.event.specs.declared.Event.{Event}
 use Rattle.event.specs.declared.Row.{Row}
 use Rattle.event.specs.declared.Row.the-variants.{SwitchOn, Configure, SwitchOff, Fail, EngagePress, ByState}

@@ -8,7 +8,7 @@ use lib.Dec.{eqb}
 use Rattle.wire.specs.Numbers.{if_then_else_}
 use Rattle.layout.specs.Layout.{Field, Layout, Value as ValueOf, Values, field}
 use Rattle.layout.specs.Layout.Content.{free, upTo, between}
-use Rattle.engine_value.specs.Engine.{max2, max4, maxNidc, undefined, freshPosition}
+use Rattle.engine_value.specs.Engine.{max2, max4, maxNidc, undefined, freshPosition, Value, mode, lever, reports, trainLength, place}
 use Rattle.engine_value.specs.declared.Position.{Position}
 use Rattle.event.specs.declared.Event.{Event}
 use Rattle.event.specs.declared.Event.the-variants.{PowerOn, Configured, PowerOff, Fault, Reports, Mode, Lever, Press, PositionReport, Length, Load, Skip, Revoke}
@@ -32,16 +32,6 @@ one f event = record { fields = f ∷ []; event = λ v. event (v .0) }
 pub data Role : Type 0 where
   off load report other : Role
   skip : ℕ → Bool → Role
-
--- the values that the engine keeps from an event, each a number; the position beside them
-pub data Value : Type 0 where
-  mode lever reports trainLength : Value
-
-abbrev pub place : Value → ℕ
-place mode = 0
-place lever = 1
-place reports = 2
-place trainLength = 3
 
 -- what an event brings
 pub data Brings : Type 0 where

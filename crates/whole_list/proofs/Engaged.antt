@@ -11,8 +11,9 @@ use lib.Seq.{drop-cons, drop-length}
 use Rattle.wire.specs.Numbers.{if_then_else_}
 use Rattle.wire.specs.Judged.{Judged, thenJudge}
 use Rattle.wire.specs.Judged.Judged.{refuse, accept}
+use Rattle.engine_value.specs.Engine.{mode}
 use Rattle.event.specs.Events.{eventOf}
-use Rattle.event.specs.Kinds.{kindOf, mode, carried, Role, off, load, report, other, skip, roleOf, newer}
+use Rattle.event.specs.Kinds.{kindOf, carried, Role, off, load, report, other, skip, roleOf, newer}
 use Rattle.event.specs.declared.Event.{Event}
 use Rattle.event.specs.declared.Event.the-variants.{PowerOff, Mode, PositionReport}
 use Rattle.event.proofs.Known.{OfRole, OfMode, known, mode-of}

@@ -9,7 +9,7 @@ use lib.ListN.{length, getD, set, replicate, length-set}
 use lib.Seq.{getD-set-same, getD-set-other}
 use borrow.Author.Tests.{eqb-true, eqb-false}
 use Rattle.wire.specs.Numbers.{if_then_else_}
-use Rattle.engine_value.specs.Engine.{Route, noSkips, progress, blankPoint}
+use Rattle.engine_value.specs.Engine.{trainOf, Route, noSkips, progress, blankPoint}
 use Rattle.engine_value.specs.declared.Point.{Point}
 use Rattle.engine_value.specs.declared.Position.{Position}
 use Rattle.engine_value.specs.declared.Progress.{Progress}
@@ -28,7 +28,7 @@ use Rattle.timing.proofs.Steps.{InRange, started, run-range, target-most}
 use Rattle.timing.proofs.Rule.{as-rule}
 use Rattle.state_codes.specs.Codes.{code}
 use Rattle.conditions.specs.Conditions.{endAhead, lastAhead, firstAhead, profilesThere, lookedUp, nine, conditions, wordOf}
-use Rattle.whole_list.specs.Values.{History, roleOfCall, modeBy, leverBy, reportsBy, positionBy, lengthBy, routeBy, isPoint, skippedBy, reportsSince, behindAtLoad}
+use Rattle.whole_list.specs.Values.{History, roleOfCall, numberBy, reportsBy, positionBy, lengthBy, routeBy, isPoint, skippedBy, reportsSince, behindAtLoad}
 use Rattle.whole_list.specs.Rules.{standingBy, conditionsBy, machineBy, stateBy, requestBy}
 use Rattle.whole_list.proofs.Decoded.{RouteIn, route-in}
 
@@ -53,7 +53,7 @@ unfoldable pub progressRun : History → Progress
 progressRun h = run (routeBy h) (progress (behindAtLoad h) false) (reportsSince h)
 
 abbrev pub trainBy : History → Train
-trainBy h = record { position = positionBy h; length = lengthBy h; mode = modeBy h; lever = leverBy h; reports = reportsBy h }
+trainBy h = trainOf (positionBy h) (λ v. numberBy v h)
 
 abbrev pub controlBy : History → Control
 controlBy h = record { state = code (stateBy h); press = machineBy h .press; request = requestBy h }

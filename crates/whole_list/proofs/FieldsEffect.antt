@@ -11,12 +11,12 @@ use borrow.Author.Tests.{ltb-true, ltb-false}
 use Rattle.wire.specs.Numbers.{if_then_else_}
 use Rattle.wire.specs.Judged.{Judged, thenJudge, row}
 use Rattle.wire.specs.Judged.Judged.{refuse, accept}
-use Rattle.engine_value.specs.Engine.{Route, noRoute, progress, freshPosition, withControl, withPosition, withProgress, withSkips, withRoute}
+use Rattle.engine_value.specs.Engine.{trainOf, Route, noRoute, progress, freshPosition, withControl, withPosition, withProgress, withSkips, withRoute}
 use Rattle.engine_value.specs.declared.Position.{Position}
 use Rattle.engine_value.specs.declared.Progress.{Progress}
 use Rattle.event.specs.declared.Event.{Event}
 use Rattle.event.specs.declared.Event.the-variants.{PowerOff, PositionReport, Load}
-use Rattle.event.specs.Kinds.{mode, lever, reports, trainLength, Carried, carried, Role, off, load, report, other, skip, roleOf, newer}
+use Rattle.event.specs.Kinds.{Carried, carried, Role, off, load, report, other, skip, roleOf, newer}
 use Rattle.event.proofs.Known.{OfRole, known}
 use Rattle.route.specs.Route.{LoadValue, loadOf}
 use Rattle.position.specs.Position.{pointCount, segmentNamed}
@@ -33,7 +33,7 @@ use Rattle.position.proofs.Laws.{standing-passed}
 use Rattle.state_codes.specs.Codes.{code}
 use Rattle.call.specs.Effect.{Effect, offsetBeyond, sameBool, reportedIn, positionEffect, loadedIn, loadEffect, skippedIn, skipEffect, taking, effectAs, effect}
 use Rattle.call.specs.Call.{Call}
-use Rattle.whole_list.specs.Values.{History, eventOfCall, loadOfCall, roleOfCall, isOff, latest, modeBy, leverBy, reportsBy, positionBy, lengthBy, routeLoaded, routeBy, skippedBy, reportAt, reportsSince, behindAtLoad}
+use Rattle.whole_list.specs.Values.{History, eventOfCall, loadOfCall, roleOfCall, isOff, latest, numberBy, positionBy, lengthBy, routeLoaded, routeBy, skippedBy, reportAt, reportsSince, behindAtLoad}
 use Rattle.whole_list.specs.Rules.{standingBy, stateBy, machineBy, requestBy, newlyReached, becameReachedBy}
 use Rattle.whole_list.specs.Table.{changesFrom, changesBy, progressBy, skipChange, headOf, headOfCall, skipRows, kindRows}
 use Rattle.whole_list.proofs.Fields.{Below, skipBy, skipsThen, skipsOf, progressRun, engineOf, stop-in, skips-at, stands-at}
@@ -85,13 +85,7 @@ module _ (h : History) (o : Option LoadValue) (t : ℕ) (r : distance.Report) (c
       segments = routeWith q .segments;
       load = routeWith q .load;
       progress = progressThen q;
-      train = record {
-        position = valueThen (λ c. c .position) freshPosition q c (positionBy h);
-        length = valueThen (λ c. c .number trainLength) 0 q c (lengthBy h);
-        mode = valueThen (λ c. c .number mode) 0 q c (modeBy h);
-        lever = valueThen (λ c. c .number lever) 0 q c (leverBy h);
-        reports = valueThen (λ c. c .number reports) 0 q c (reportsBy h);
-      };
+      train = trainOf (valueThen (λ c. c .position) freshPosition q c (positionBy h)) (λ v. valueThen (λ c. c .number v) 0 q c (numberBy v h));
       control = record {
         state = kept q 0 (code (stateBy h));
         press = kept q false (machineBy h .press);

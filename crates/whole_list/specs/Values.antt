@@ -7,12 +7,12 @@ use Prim.Native.Nat.{ℕ}
 use lib.Dec.{eqb}
 use Rattle.wire.specs.Numbers.{if_then_else_}
 use Rattle.wire.specs.Judged.Judged.{refuse, accept}
-use Rattle.engine_value.specs.Engine.{Route, noRoute, freshPosition}
+use Rattle.engine_value.specs.Engine.{Value, mode, lever, reports, trainLength, Route, noRoute, freshPosition}
 use Rattle.engine_value.specs.declared.Position.{Position}
 use Rattle.event.specs.Events.{eventOf}
 use Rattle.event.specs.declared.Event.{Event}
 use Rattle.event.specs.declared.Event.the-variants.{PowerOn}
-use Rattle.event.specs.Kinds.{Role, off, load, report, other, skip, mode, lever, reports, trainLength, Carried, newer, roleOf, carried}
+use Rattle.event.specs.Kinds.{Role, off, load, report, other, skip, Carried, newer, roleOf, carried}
 use Rattle.route.specs.Route.{LoadValue, loadOf}
 use Rattle.timing.specs.Distance as distance
 use Rattle.timing.specs.Load.{target}
@@ -48,20 +48,23 @@ unfoldable pub latest : {A : Type 0} → (Carried → Option A) → A → Histor
 latest f fresh [] = fresh
 latest f fresh (c ∷ h) = if isOff (roleOfCall c) then fresh else newer (f (carried (eventOfCall c))) (latest f fresh h)
 
+abbrev pub numberBy : Value → History → ℕ
+numberBy v = latest (λ c. c .number v) 0
+
 abbrev pub modeBy : History → ℕ
-modeBy = latest (λ c. c .number mode) 0
+modeBy = numberBy mode
 
 abbrev pub leverBy : History → ℕ
-leverBy = latest (λ c. c .number lever) 0
+leverBy = numberBy lever
 
 abbrev pub reportsBy : History → ℕ
-reportsBy = latest (λ c. c .number reports) 0
+reportsBy = numberBy reports
 
 abbrev pub positionBy : History → Position
 positionBy = latest (λ c. c .position) freshPosition
 
 abbrev pub lengthBy : History → ℕ
-lengthBy = latest (λ c. c .number trainLength) 0
+lengthBy = numberBy trainLength
 
 -- "so does the load in force"
 abbrev pub routeLoaded : Option LoadValue → Route → Route
