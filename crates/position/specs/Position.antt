@@ -25,7 +25,7 @@ pointCount j = pointsLoaded (j .load)
 abbrev pub point : Route → ℕ → Point
 point j k = getD (j .points) k blankPoint
 
--- "A point is placed if its segment is": so the load settled it. The term is document 01's.
+-- "A point is placed if its segment is", as the load found it. The term is document 01's.
 abbrev pub placed : Route → ℕ → Bool
 placed j k = point j k .placed
 
