@@ -6,15 +6,6 @@ use borrow.Author.Needs.{needs}
 use Rattle.book.proofs.has_from.Statement.{statement}
 use Rattle.book.proofs.has_from.Tie as tie
 
-find-from-requires : tie.Need-find-from-requires
-find-from-requires c κs = search needs
-
-enum-told : tie.Need-enum-told
-enum-told c = search needs
-
-enum-told-2 : tie.Need-enum-told-2
-enum-told-2 c = search needs
-
 returns : tie.Need-returns
 returns c = sym (named-test (c .before .before .before .args .nidc) (c .before .before .before .args .nidsp) (c .before .before .before .args .from) (drop (c .before .before .before .args .from) (entriesView (c .before .before .before .args .b))) ∙ ap isAt (sym (c .before .before .find-from .ensures) ∙ c .enum-told .given .1))
 
@@ -22,4 +13,4 @@ returns-2 : tie.Need-returns-2
 returns-2 c = sym (named-test (c .before .before .before .args .nidc) (c .before .before .before .args .nidsp) (c .before .before .before .args .from) (drop (c .before .before .before .args .from) (entriesView (c .before .before .before .args .b))) ∙ ap isAt (sym (c .before .before .find-from .ensures) ∙ c .enum-told2 .given .1))
 
 pub has-from-spec : {M : Type 1} → statement M
-has-from-spec = tie.close (tie.spec find-from-requires enum-told enum-told-2 returns returns-2)
+has-from-spec = tie.close (tie.spec (search needs) (search needs) (search needs) returns returns-2)

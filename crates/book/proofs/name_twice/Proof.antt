@@ -9,17 +9,8 @@ use borrow.Author.Needs.{needs}
 use Rattle.book.proofs.name_twice.Statement.{statement}
 use Rattle.book.proofs.name_twice.Tie as tie
 
-names-of-requires : tie.Need-names-of-requires
-names-of-requires c κs = search needs
-
-array-share-prefix-names : tie.Need-array-share-prefix-names
-array-share-prefix-names c = search needs
-
 slice-aggregate-repeated : tie.Need-slice-aggregate-repeated
 slice-aggregate-repeated c = let a = c .before .before .before .args in sym (ap length (c .before .names-of .ensures) ∙ items-length (number 4) 10 (a .n) (drop (a .at) (now (a .s))))
-
-repeated-requires : tie.Need-repeated-requires
-repeated-requires c κs = search needs
 
 returns : tie.Need-returns
 returns c = c .repeated .ensures ∙ ap (twice eqb) (c .before .before .names-of .ensures)
@@ -28,8 +19,8 @@ pub name-twice-spec : {M : Type 1} → statement M
 name-twice-spec =
     tie.close
     (tie.spec
-    names-of-requires
-    array-share-prefix-names
+    (search needs)
+    (search needs)
     slice-aggregate-repeated
-    repeated-requires
+    (search needs)
     returns)

@@ -16,26 +16,11 @@ all-read c =
     let r = c .before .before .before in
     subst (CountedIn (now (r .before .before .args .s)) (r .read-records .result .first)) (c .before .counted .given .1) (r .read-records .ensures)
 
-read-records-requires : tie.Need-read-records-requires
-read-records-requires c κs = search needs
-
-enum-known-counted : tie.Need-enum-known-counted
-enum-known-counted c = search needs
-
-enum-told : tie.Need-enum-told
-enum-told c = search needs
-
-refused-requires : tie.Need-refused-requires
-refused-requires c κs = search needs
-
 returns : tie.Need-returns
 returns c =
     let r = c .before .before .before in
     let s = now (r .before .before .args .s) in
     rw (c .refused .ensures) (book-refused s 7 (book-bad s (subst (CountedIn s (r .read-records .result .first)) (c .before .enum-told .given .1) (r .read-records .ensures))))
-
-refused-requires-2 : tie.Need-refused-requires-2
-refused-requires-2 c κs = search needs
 
 returns-2 : tie.Need-returns-2
 returns-2 c =
@@ -43,15 +28,6 @@ returns-2 c =
     let s = now (k .before .before .before .before .before .args .s) in
     let g = all-read k in
     rw (c .refused2 .ensures) (book-refused s 8 (book-many s _ (g .0) (g .1) (g .2 .count) (c .before .if1 .taken)))
-
-cast-t9 : tie.Need-cast-t9
-cast-t9 c = search needs
-
-segment-twice-requires : tie.Need-segment-twice-requires
-segment-twice-requires c κs = search needs
-
-refused-requires-3 : tie.Need-refused-requires-3
-refused-requires-3 c κs = search needs
 
 returns-3 : tie.Need-returns-3
 returns-3 c =
@@ -67,9 +43,6 @@ point-twice-requires c κs =
     let r = k .before .before .before in
     let g = all-read k in
     few-points (now (r .before .before .args .s)) (take (min (k .before .counted .given .0 .0) 40) (r .read-records .result .first)) (book-fit _ _ _ (g .0) (g .1) (g .2) (c .before .before .before .if1 .left))
-
-refused-requires-4 : tie.Need-refused-requires-4
-refused-requires-4 c κs = search needs
 
 returns-4 : tie.Need-returns-4
 returns-4 c =
@@ -91,18 +64,18 @@ pub read-book-spec : {M : Type 1} → statement M
 read-book-spec =
     tie.close
     (tie.spec
-    read-records-requires
-    enum-known-counted
-    enum-told
-    refused-requires
+    (search needs)
+    (search needs)
+    (search needs)
+    (search needs)
     returns
-    refused-requires-2
+    (search needs)
     returns-2
-    cast-t9
-    segment-twice-requires
-    refused-requires-3
+    (search needs)
+    (search needs)
+    (search needs)
     returns-3
     point-twice-requires
-    refused-requires-4
+    (search needs)
     returns-4
     returns-5)

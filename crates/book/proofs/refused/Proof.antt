@@ -2,11 +2,8 @@ use borrow.Author.Needs.{needs}
 use Rattle.book.proofs.refused.Statement.{statement}
 use Rattle.book.proofs.refused.Tie as tie
 
-blank-entry-requires : tie.Need-blank-entry-requires
-blank-entry-requires c κs = search needs
-
 returns : tie.Need-returns
 returns c = rw (c .blank-entry .ensures)
 
 pub refused-spec : {M : Type 1} → statement M
-refused-spec = tie.close (tie.spec blank-entry-requires returns)
+refused-spec = tie.close (tie.spec (search needs) returns)

@@ -5,18 +5,9 @@ use Rattle.call.specs.View.{shownView}
 use Rattle.call.proofs.show.Statement.{statement}
 use Rattle.call.proofs.show.Tie as tie
 
-conditions-requires : tie.Need-conditions-requires
-conditions-requires c κs = search needs
-
-points-loaded-requires : tie.Need-points-loaded-requires
-points-loaded-requires c κs = search needs
-
-standings-requires : tie.Need-standings-requires
-standings-requires c κs = search needs
-
 returns : tie.Need-returns
 unfolding conditionsIn
 returns c = (rw (c .before .before .conditions .ensures .0, c .before .points-loaded .ensures, c .standings .ensures), c .before .before .conditions .ensures .1)
 
 pub show-spec : {M : Type 1} → statement M
-show-spec = tie.close (tie.spec conditions-requires points-loaded-requires standings-requires returns)
+show-spec = tie.close (tie.spec (search needs) (search needs) (search needs) returns)

@@ -5,16 +5,10 @@ use borrow.Author.Needs.{needs}
 use Rattle.conditions.proofs.conditions.Statement.{statement}
 use Rattle.conditions.proofs.conditions.Tie as tie
 
-looked-up-requires : tie.Need-looked-up-requires
-looked-up-requires c κs = search needs
-
-word-of-requires : tie.Need-word-of-requires
-word-of-requires c κs = search needs
-
 returns : tie.Need-returns
 unfolding conditions
 returns c = let e = c .before .before .args .e in
     (c .word-of .ensures .0 ∙ ap (λ w. wordOf (nine (e .load) (e .train .reports) w (standing (e .progress)))) (c .before .looked-up .ensures), c .word-of .ensures .1)
 
 pub conditions-spec : {M : Type 1} → statement M
-conditions-spec = tie.close (tie.spec looked-up-requires word-of-requires returns)
+conditions-spec = tie.close (tie.spec (search needs) (search needs) returns)

@@ -9,14 +9,8 @@ use Rattle.conditions.proofs.last_ahead.Tie as tie
 returns : tie.Need-returns
 returns c = rw (not-true (c .before .before .args .l .valid) (c .if1 .taken))
 
-points-loaded-requires : tie.Need-points-loaded-requires
-points-loaded-requires c κs = search needs
-
-one-less-requires : tie.Need-one-less-requires
-one-less-requires c κs = search needs
-
 returns-2 : tie.Need-returns-2
 returns-2 c = last-is (c .before .before .before .before .before .args .l) (c .before .before .before .before .before .args .p) (not-false (c .before .before .before .before .before .args .l .valid) (c .before .before .before .if1 .left)) _ (c .before .one-less .ensures ∙ ap (λ n. n - 1) (c .before .before .points-loaded .ensures))
 
 pub last-ahead-spec : {M : Type 1} → statement M
-last-ahead-spec = tie.close (tie.spec returns points-loaded-requires one-less-requires returns-2)
+last-ahead-spec = tie.close (tie.spec returns (search needs) (search needs) returns-2)

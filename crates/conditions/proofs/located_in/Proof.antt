@@ -12,12 +12,9 @@ returns-2 : tie.Need-returns-2
 returns-2 c = let a = c .before .before .before .before .args in
     sym (located-missing (a .s) (a .x) (c .before .before .if1 .left) (not-true _ (c .if2 .taken)))
 
-too-far-requires : tie.Need-too-far-requires
-too-far-requires c κs = search needs
-
 returns-3 : tie.Need-returns-3
 returns-3 c = let a = c .before .before .before .before .before .args in
     located-found (a .s) (a .x) (c .before .before .before .if1 .left) (not-false _ (c .before .if2 .left)) _ (c .too-far .ensures)
 
 pub located-in-spec : {M : Type 1} → statement M
-located-in-spec = tie.close (tie.spec returns returns-2 too-far-requires returns-3)
+located-in-spec = tie.close (tie.spec returns returns-2 (search needs) returns-3)

@@ -5,19 +5,13 @@ use borrow.Author.Needs.{needs}
 use Rattle.conditions.proofs.look_up.Statement.{statement}
 use Rattle.conditions.proofs.look_up.Tie as tie
 
-located-in-requires : tie.Need-located-in-requires
-located-in-requires c κs = search needs
-
 returns : tie.Need-returns
 returns c = let a = c .before .before .args in
     not-located (a .s) (a .x) (a .profiles) (sym (c .before .located-in .ensures) ∙ not-true _ (c .if1 .taken))
-
-in-zones-requires : tie.Need-in-zones-requires
-in-zones-requires c κs = search needs
 
 returns-2 : tie.Need-returns-2
 returns-2 c = let a = c .before .before .before .args in
     is-located (a .s) (a .x) (a .profiles) _ (sym (c .before .before .located-in .ensures) ∙ not-false _ (c .before .if1 .left)) (c .in-zones .ensures)
 
 pub look-up-spec : {M : Type 1} → statement M
-look-up-spec = tie.close (tie.spec located-in-requires returns in-zones-requires returns-2)
+look-up-spec = tie.close (tie.spec (search needs) returns (search needs) returns-2)

@@ -10,15 +10,9 @@ use Rattle.conditions.proofs.profiles_there.Tie as tie
 returns : tie.Need-returns
 returns c = rw (not-true (c .before .args .t1 .load .valid) (c .if1 .taken))
 
-points-loaded-requires : tie.Need-points-loaded-requires
-points-loaded-requires c κs = search needs
-
 returns-2 : tie.Need-returns-2
 returns-2 c = let a = c .before .before .before .before .before .args in
     none-left (routeIn (a .t1)) (a .p) (not-false _ (c .before .before .before .before .if1 .left)) _ (c .before .before .points-loaded .ensures) (c .if2 .taken)
-
-cast-k : tie.Need-cast-k
-cast-k c = search needs
 
 mul-point : tie.Need-mul-point
 mul-point c = omega (arith, c .before .before .before .points-loaded .ensures)
@@ -31,4 +25,4 @@ returns-3 c = let s = c .before .before .before in let a = s .before .before .be
     one-left (routeIn (a .t1)) (a .p) (not-false _ (s .before .before .before .if1 .left)) _ (s .before .points-loaded .ensures) (c .before .before .if2 .left)
 
 pub profiles-there-spec : {M : Type 1} → statement M
-profiles-there-spec = tie.close (tie.spec returns points-loaded-requires returns-2 cast-k mul-point element-copy-out-point returns-3)
+profiles-there-spec = tie.close (tie.spec returns (search needs) returns-2 (search needs) mul-point element-copy-out-point returns-3)

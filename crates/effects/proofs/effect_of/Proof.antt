@@ -9,42 +9,6 @@ use borrow.Author.Needs.{needs}
 use Rattle.effects.proofs.effect_of.Statement.{statement}
 use Rattle.effects.proofs.effect_of.Tie as tie
 
-role-of-requires : tie.Need-role-of-requires
-role-of-requires c κs = search needs
-
-enum-told : tie.Need-enum-told
-enum-told c = search needs
-
-power-off-requires : tie.Need-power-off-requires
-power-off-requires c κs = search needs
-
-enum-told-2 : tie.Need-enum-told-2
-enum-told-2 c = search needs
-
-load-requires : tie.Need-load-requires
-load-requires c κs = search needs
-
-enum-told-3 : tie.Need-enum-told-3
-enum-told-3 c = search needs
-
-position-requires : tie.Need-position-requires
-position-requires c κs = search needs
-
-enum-told-4 : tie.Need-enum-told-4
-enum-told-4 c = search needs
-
-with-value-requires : tie.Need-with-value-requires
-with-value-requires c κs = search needs
-
-plain-requires : tie.Need-plain-requires
-plain-requires c κs = search needs
-
-enum-known-nidtp : tie.Need-enum-known-nidtp
-enum-known-nidtp c = search needs
-
-skip-requires : tie.Need-skip-requires
-skip-requires c κs = search needs
-
 role : (c : tie.After-role-of) (q : code.Role) → c .role-of .result ≡ q → roleOf (c .before .before .before .args .v) ≡ roleView q
 role c q p = sym (c .role-of .ensures) ∙ ap roleView p
 
@@ -83,18 +47,18 @@ pub effect-of-spec : {M : Type 1} → statement M
 effect-of-spec =
     tie.close
     (tie.spec
-    role-of-requires
-    enum-told
-    power-off-requires
-    enum-told-2
-    load-requires
-    enum-told-3
-    position-requires
-    enum-told-4
-    with-value-requires
-    plain-requires
-    enum-known-nidtp
-    skip-requires
+    (search needs)
+    (search needs)
+    (search needs)
+    (search needs)
+    (search needs)
+    (search needs)
+    (search needs)
+    (search needs)
+    (search needs)
+    (search needs)
+    (search needs)
+    (search needs)
     returns
     returns-2
     returns-3

@@ -4,21 +4,6 @@ use borrow.Author.Needs.{needs}
 use Rattle.effects.proofs.is_behind.Statement.{statement}
 use Rattle.effects.proofs.is_behind.Tie as tie
 
-standing-of-requires : tie.Need-standing-of-requires
-standing-of-requires c κs = search needs
-
-enum-told : tie.Need-enum-told
-enum-told c = search needs
-
-enum-told-2 : tie.Need-enum-told-2
-enum-told-2 c = search needs
-
-enum-told-3 : tie.Need-enum-told-3
-enum-told-3 c = search needs
-
-enum-told-4 : tie.Need-enum-told-4
-enum-told-4 c = search needs
-
 returns : tie.Need-returns
 returns c = sym (ap behind (sym (c .before .before .standing-of .ensures) ∙ c .enum-told .given .1))
 
@@ -35,11 +20,11 @@ pub is-behind-spec : {M : Type 1} → statement M
 is-behind-spec =
     tie.close
     (tie.spec
-    standing-of-requires
-    enum-told
-    enum-told-2
-    enum-told-3
-    enum-told-4
+    (search needs)
+    (search needs)
+    (search needs)
+    (search needs)
+    (search needs)
     returns
     returns-2
     returns-3

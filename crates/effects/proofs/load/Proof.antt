@@ -9,15 +9,6 @@ use borrow.Author.Needs.{needs}
 use Rattle.effects.proofs.load.Statement.{statement}
 use Rattle.effects.proofs.load.Tie as tie
 
-load-route-requires : tie.Need-load-route-requires
-load-route-requires c κs = search needs
-
-enum-known-verdict : tie.Need-enum-known-verdict
-enum-known-verdict c = search needs
-
-plain-requires : tie.Need-plain-requires
-plain-requires c κs = search needs
-
 returns : tie.Need-returns
 returns c =
     let l = c .before .before .before .before in
@@ -25,21 +16,6 @@ returns c =
     let a = b .args in
     gives-number (a .e) _ (a .looked) _ _ (c .plain .ensures)
     (load-number (a .e) (now (a .journey)) (now (a .book)) (l .load-route .result) (l .load-route .ensures .seen) _ (c .before .before .verdict .given .1))
-
-enum-told : tie.Need-enum-told
-enum-told c = search needs
-
-with-route-requires : tie.Need-with-route-requires
-with-route-requires c κs = search needs
-
-with-target-requires : tie.Need-with-target-requires
-with-target-requires c κs = search needs
-
-no-changes-requires : tie.Need-no-changes-requires
-no-changes-requires c κs = search needs
-
-looked-up-requires : tie.Need-looked-up-requires
-looked-up-requires c κs = search needs
 
 returns-2 : tie.Need-returns-2
 returns-2 c =
@@ -58,13 +34,13 @@ pub load-spec : {M : Type 1} → statement M
 load-spec =
     tie.close
     (tie.spec
-    load-route-requires
-    enum-known-verdict
-    plain-requires
+    (search needs)
+    (search needs)
+    (search needs)
     returns
-    enum-told
-    with-route-requires
-    with-target-requires
-    no-changes-requires
-    looked-up-requires
+    (search needs)
+    (search needs)
+    (search needs)
+    (search needs)
+    (search needs)
     returns-2)

@@ -18,33 +18,12 @@ tested c =
     let m = r .before .with-value .result in
     c .offset-beyond .ensures ∙ ap (λ (t : Reported). offsetBeyond (t .segment) (m .train .position)) (r .report .ensures)
 
-with-value-requires : tie.Need-with-value-requires
-with-value-requires c κs = search needs
-
-report-requires : tie.Need-report-requires
-report-requires c κs = search needs
-
-offset-beyond-requires : tie.Need-offset-beyond-requires
-offset-beyond-requires c κs = search needs
-
-plain-requires : tie.Need-plain-requires
-plain-requires c κs = search needs
-
 returns : tie.Need-returns
 returns c =
     let t = c .before .before in
     let p = t .before .before .before in
     let a = p .before .args in
     gives-number (a .e) 13 (a .looked) _ _ (c .plain .ensures) (sym (position-13 (p .with-value .result) (sym (tested t) ∙ c .before .if1 .taken)) ∙ ap positionEffect (p .with-value .ensures))
-
-changes-of-requires : tie.Need-changes-of-requires
-changes-of-requires c κs = search needs
-
-profiles-after-requires : tie.Need-profiles-after-requires
-profiles-after-requires c κs = search needs
-
-look-up-requires : tie.Need-look-up-requires
-look-up-requires c κs = search needs
 
 returns-2 : tie.Need-returns-2
 returns-2 c =
@@ -65,12 +44,12 @@ pub position-spec : {M : Type 1} → statement M
 position-spec =
     tie.close
     (tie.spec
-    with-value-requires
-    report-requires
-    offset-beyond-requires
-    plain-requires
+    (search needs)
+    (search needs)
+    (search needs)
+    (search needs)
     returns
-    changes-of-requires
-    profiles-after-requires
-    look-up-requires
+    (search needs)
+    (search needs)
+    (search needs)
     returns-2)

@@ -7,18 +7,6 @@ use borrow.Author.Needs.{needs}
 use Rattle.effects.proofs.skip.Statement.{statement}
 use Rattle.effects.proofs.skip.Tie as tie
 
-find-stop-requires : tie.Need-find-stop-requires
-find-stop-requires c κs = search needs
-
-enum-known-k : tie.Need-enum-known-k
-enum-known-k c = search needs
-
-enum-told : tie.Need-enum-told
-enum-told c = search needs
-
-plain-requires : tie.Need-plain-requires
-plain-requires c κs = search needs
-
 returns : tie.Need-returns
 unfolding skipEffect
 returns c = let s = c .before .before .before in let b = s .before in
@@ -36,10 +24,10 @@ pub skip-spec : {M : Type 1} → statement M
 skip-spec =
     tie.close
     (tie.spec
-    find-stop-requires
-    enum-known-k
-    enum-told
-    plain-requires
+    (search needs)
+    (search needs)
+    (search needs)
+    (search needs)
     returns
     skip-at-requires
     returns-2)

@@ -6,27 +6,9 @@ use borrow.Author.Needs.{needs}
 use Rattle.effects.proofs.skip_at.Statement.{statement}
 use Rattle.effects.proofs.skip_at.Tie as tie
 
-cast-index : tie.Need-cast-index
-cast-index c = search needs
-
-is-behind-requires : tie.Need-is-behind-requires
-is-behind-requires c κs = search needs
-
-plain-requires : tie.Need-plain-requires
-plain-requires c κs = search needs
-
 returns : tie.Need-returns
 returns c = let b = c .before .before in let s = b .before in
     gives-number (s .args .e) 15 (s .args .looked) _ _ (c .plain .ensures) (sym (skip-behind _ _ _ (sym (b .is-behind .ensures) ∙ c .before .if1 .taken)))
-
-array-read-given : tie.Need-array-read-given
-array-read-given c = search needs
-
-same-requires : tie.Need-same-requires
-same-requires c κs = search needs
-
-plain-requires-2 : tie.Need-plain-requires-2
-plain-requires-2 c κs = search needs
 
 returns-2 : tie.Need-returns-2
 returns-2 c =
@@ -35,15 +17,6 @@ returns-2 c =
     let b = i .before .before in
     gives-number (b .args .e) 15 (b .args .looked) _ _ (c .plain2 .ensures)
     (sym (skip-same _ _ _ (sym (i .before .is-behind .ensures) ∙ i .if1 .left) (sym (s .same .ensures) ∙ c .before .if2 .taken)))
-
-with-skip-requires : tie.Need-with-skip-requires
-with-skip-requires c κs = search needs
-
-skip-status-requires : tie.Need-skip-status-requires
-skip-status-requires c κs = search needs
-
-one-change-requires : tie.Need-one-change-requires
-one-change-requires c κs = search needs
 
 returns-3 : tie.Need-returns-3
 returns-3 c =
@@ -59,15 +32,15 @@ pub skip-at-spec : {M : Type 1} → statement M
 skip-at-spec =
     tie.close
     (tie.spec
-    cast-index
-    is-behind-requires
-    plain-requires
+    (search needs)
+    (search needs)
+    (search needs)
     returns
-    array-read-given
-    same-requires
-    plain-requires-2
+    (search needs)
+    (search needs)
+    (search needs)
     returns-2
-    with-skip-requires
-    skip-status-requires
-    one-change-requires
+    (search needs)
+    (search needs)
+    (search needs)
     returns-3)

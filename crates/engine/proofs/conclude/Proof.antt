@@ -16,44 +16,8 @@ known c =
     let a = c₁ .before .before .args in
     decided (a .e) (a .v) (a .f) _ _ _ _ _ _ _ (c₁ .conditions .ensures) (c₂ .conditions2 .ensures) (m .after-rows .ensures) (s₁ .status .ensures) (s₂ .status2 .ensures) (d .status-due .ensures) (w .writes-of .ensures)
 
-conditions-requires : tie.Need-conditions-requires
-conditions-requires c κs = search needs
-
-status-requires : tie.Need-status-requires
-status-requires c κs = search needs
-
-conditions-requires-2 : tie.Need-conditions-requires-2
-conditions-requires-2 c κs = search needs
-
-after-rows-requires : tie.Need-after-rows-requires
-after-rows-requires c κs = search needs
-
-status-requires-2 : tie.Need-status-requires-2
-status-requires-2 c κs = search needs
-
-status-due-requires : tie.Need-status-due-requires
-status-due-requires c κs = search needs
-
-writes-of-requires : tie.Need-writes-of-requires
-writes-of-requires c κs = search needs
-
-size-requires : tie.Need-size-requires
-size-requires c κs = search needs
-
-refused-requires : tie.Need-refused-requires
-refused-requires c κs = search needs
-
 returns : tie.Need-returns
 returns c = let s = c .before .before in concluded-16 (known s) _ _ (s .size .ensures) _ (c .before .if1 .taken) (c .refused .ensures)
-
-accepted-requires : tie.Need-accepted-requires
-accepted-requires c κs = search needs
-
-write-requires : tie.Need-write-requires
-write-requires c κs = search needs
-
-same-length : tie.Need-same-length
-same-length c = search needs
 
 returns-2 : tie.Need-returns-2
 returns-2 c =
@@ -67,17 +31,17 @@ pub conclude-spec : {M : Type 1} → statement M
 conclude-spec =
     tie.close
     (tie.spec
-    conditions-requires
-    status-requires
-    conditions-requires-2
-    after-rows-requires
-    status-requires-2
-    status-due-requires
-    writes-of-requires
-    size-requires
-    refused-requires
+    (search needs)
+    (search needs)
+    (search needs)
+    (search needs)
+    (search needs)
+    (search needs)
+    (search needs)
+    (search needs)
+    (search needs)
     returns
-    accepted-requires
-    write-requires
-    same-length
+    (search needs)
+    (search needs)
+    (search needs)
     returns-2)

@@ -20,47 +20,11 @@ found c =
     let e = s .before .before .before .before .before .before .before .before .before .args .e in
     c .look-up .ensures ∙ ap₂ (λ g b. lookUp g (e .train .position) b) (s .segment-named .ensures) (c .before .profiles-there .ensures)
 
-state-at-requires : tie.Need-state-at-requires
-state-at-requires c κs = search needs
-
-kind-of-requires : tie.Need-kind-of-requires
-kind-of-requires c κs = search needs
-
-state-rows-requires : tie.Need-state-rows-requires
-state-rows-requires c κs = search needs
-
-enum-known-n : tie.Need-enum-known-n
-enum-known-n c = search needs
-
-refused-requires : tie.Need-refused-requires
-refused-requires c κs = search needs
-
 returns : tie.Need-returns
 returns c =
     let p = c .before .before .before .before in
     let a = p .before .before .before .before .before .before .args in
     steps-refused (a .e) (now (a .out)) _ _ _ (rows-number (a .e) (a .v) (now (a .journey)) (now (a .book)) (now (a .out)) _ (judged p) _ (c .before .before .n .given .1)) (c .refused .ensures)
-
-enum-told : tie.Need-enum-told
-enum-told c = search needs
-
-segment-named-requires : tie.Need-segment-named-requires
-segment-named-requires c κs = search needs
-
-profiles-there-requires : tie.Need-profiles-there-requires
-profiles-there-requires c κs = search needs
-
-look-up-requires : tie.Need-look-up-requires
-look-up-requires c κs = search needs
-
-effect-of-requires : tie.Need-effect-of-requires
-effect-of-requires c κs = search needs
-
-enum-known-verdict : tie.Need-enum-known-verdict
-enum-known-verdict c = search needs
-
-refused-requires-2 : tie.Need-refused-requires-2
-refused-requires-2 c κs = search needs
 
 returns-2 : tie.Need-returns-2
 returns-2 c =
@@ -72,14 +36,8 @@ returns-2 c =
     (rows-effect (a .e) (a .v) (now (a .journey)) (now (a .book)) (now (a .out)) _ (judged p) (f .effect-of .result) (n .enum-told .given .1) (f .effect-of .ensures .effect) _ (c .before .before .verdict .given .1))
     (c .refused2 .ensures)
 
-enum-told-2 : tie.Need-enum-told-2
-enum-told-2 c = search needs
-
 conclude-requires : tie.Need-conclude-requires
 conclude-requires c κs = let f = c .before .before .before in let h = found (f .before) in (h, f .effect-of .ensures .after h)
-
-same-length : tie.Need-same-length
-same-length c = search needs
 
 returns-3 : tie.Need-returns-3
 returns-3 c =
@@ -97,21 +55,21 @@ pub take-spec : {M : Type 1} → statement M
 take-spec =
     tie.close
     (tie.spec
-    state-at-requires
-    kind-of-requires
-    state-rows-requires
-    enum-known-n
-    refused-requires
+    (search needs)
+    (search needs)
+    (search needs)
+    (search needs)
+    (search needs)
     returns
-    enum-told
-    segment-named-requires
-    profiles-there-requires
-    look-up-requires
-    effect-of-requires
-    enum-known-verdict
-    refused-requires-2
+    (search needs)
+    (search needs)
+    (search needs)
+    (search needs)
+    (search needs)
+    (search needs)
+    (search needs)
     returns-2
-    enum-told-2
+    (search needs)
     conclude-requires
-    same-length
+    (search needs)
     returns-3)

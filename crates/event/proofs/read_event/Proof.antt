@@ -13,9 +13,6 @@ returns : tie.Need-returns
 unfolding eventOf
 returns c = rw (eq-eqb _ _ (c .if1 .taken))
 
-shared-slice-read-kind : tie.Need-shared-slice-read-kind
-shared-slice-read-kind c = search needs
-
 power-on : tie.Need-returns-2
 unfolding contentAmong valuesAt
 power-on c = c .event-rows .ensures ∙ of-fields _ (c .before .before .before .before .before .if1 .left) Event.PowerOn (c .before .match .keys1) refl
@@ -83,7 +80,7 @@ read-event-spec =
     returns
     (λ c κs. search needs)
     (λ c κs. search needs)
-    shared-slice-read-kind
+    (search needs)
     (λ c κs. search needs)
     (λ c κs. search needs)
     (λ c κs. search needs)

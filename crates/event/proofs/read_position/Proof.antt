@@ -10,24 +10,6 @@ use borrow.Author.Needs.{needs}
 use Rattle.event.proofs.read_position.Statement.{statement}
 use Rattle.event.proofs.read_position.Tie as tie
 
-be16-requires : tie.Need-be16-requires
-be16-requires c κs = search needs
-
-be32-requires : tie.Need-be32-requires
-be32-requires c κs = search needs
-
-be32-requires-2 : tie.Need-be32-requires-2
-be32-requires-2 c κs = search needs
-
-be16-requires-2 : tie.Need-be16-requires-2
-be16-requires-2 c κs = search needs
-
-cast-if1 : tie.Need-cast-if1
-cast-if1 c = search needs
-
-event-rows-requires : tie.Need-event-rows-requires
-event-rows-requires c κs = search needs
-
 returns : tie.Need-returns
 unfolding valuesAt
 returns c =
@@ -37,9 +19,6 @@ returns c =
     let e3 = b .before .be322 .ensures in
     let e4 = b .be162 .ensures in
     c .event-rows .ensures ∙ rw (← of-tests positionContent, ← e1, ← e2, ← e3, ← e4, lt-leb _ maxNidc (c .before .if1 .taken))
-
-event-rows-requires-2 : tie.Need-event-rows-requires-2
-event-rows-requires-2 c κs = search needs
 
 returns-2 : tie.Need-returns-2
 unfolding valuesAt
@@ -56,12 +35,12 @@ pub read-position-spec : {M : Type 1} → statement M
 read-position-spec =
     tie.close
     (tie.spec
-    be16-requires
-    be32-requires
-    be32-requires-2
-    be16-requires-2
-    cast-if1
-    event-rows-requires
+    (search needs)
+    (search needs)
+    (search needs)
+    (search needs)
+    (search needs)
+    (search needs)
     returns
-    event-rows-requires-2
+    (search needs)
     returns-2)

@@ -3,11 +3,8 @@ use borrow.Author.Needs.{needs}
 use Rattle.event_packets.proofs.ato_status.Statement.{statement}
 use Rattle.event_packets.proofs.ato_status.Tie as tie
 
-header-of-requires : tie.Need-header-of-requires
-header-of-requires c κs = search needs
-
 returns : tie.Need-returns
 returns c = packet-68 _ _ _ (c .header-of .ensures) _ _
 
 pub ato-status-spec : {M : Type 1} → statement M
-ato-status-spec = tie.close (tie.spec header-of-requires returns)
+ato-status-spec = tie.close (tie.spec (search needs) returns)

@@ -3,9 +3,6 @@ use borrow.Author.Needs.{needs}
 use Rattle.event_packets.proofs.country.Statement.{statement}
 use Rattle.event_packets.proofs.country.Tie as tie
 
-is-known-requires : tie.Need-is-known-requires
-is-known-requires c κs = search needs
-
 returns : tie.Need-returns
 returns c = rw (sym (c .before .is-known .ensures) ∙ c .if1 .taken)
 
@@ -13,4 +10,4 @@ returns-2 : tie.Need-returns-2
 returns-2 c = rw (sym (c .before .is-known .ensures) ∙ c .if1 .left)
 
 pub country-spec : {M : Type 1} → statement M
-country-spec = tie.close (tie.spec is-known-requires returns returns-2)
+country-spec = tie.close (tie.spec (search needs) returns returns-2)

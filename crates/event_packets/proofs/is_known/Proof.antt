@@ -4,15 +4,6 @@ use borrow.Author.Needs.{needs}
 use Rattle.event_packets.proofs.is_known.Statement.{statement}
 use Rattle.event_packets.proofs.is_known.Tie as tie
 
-front-position-requires : tie.Need-front-position-requires
-front-position-requires c κs = search needs
-
-enum-told : tie.Need-enum-told
-enum-told c = search needs
-
-enum-told-2 : tie.Need-enum-told-2
-enum-told-2 c = search needs
-
 returns : tie.Need-returns
 returns c = sym (ap isKnown (sym (c .before .before .front-position .ensures .0) ∙ c .enum-told .given .1))
 
@@ -21,4 +12,4 @@ returns-2 c = sym (ap isKnown (sym (c .before .before .front-position .ensures .
 
 pub is-known-spec : {M : Type 1} → statement M
 is-known-spec =
-    tie.close (tie.spec front-position-requires enum-told enum-told-2 returns returns-2)
+    tie.close (tie.spec (search needs) (search needs) (search needs) returns returns-2)

@@ -3,14 +3,8 @@ use borrow.Author.Needs.{needs}
 use Rattle.event_packets.proofs.jp_received.Statement.{statement}
 use Rattle.event_packets.proofs.jp_received.Tie as tie
 
-header-of-requires : tie.Need-header-of-requires
-header-of-requires c κs = search needs
-
-country-requires : tie.Need-country-requires
-country-requires c κs = search needs
-
 returns : tie.Need-returns
 returns c = packet-65 _ _ _ (c .before .header-of .ensures) _ _ (c .country .ensures)
 
 pub jp-received-spec : {M : Type 1} → statement M
-jp-received-spec = tie.close (tie.spec header-of-requires country-requires returns)
+jp-received-spec = tie.close (tie.spec (search needs) (search needs) returns)

@@ -6,17 +6,8 @@ use borrow.Author.Needs.{needs}
 use Rattle.event_packets.proofs.point_at.Statement.{statement}
 use Rattle.event_packets.proofs.point_at.Tie as tie
 
-mul-result : tie.Need-mul-result
-mul-result c = search needs
-
-array-copy-out-result : tie.Need-array-copy-out-result
-array-copy-out-result c = search needs
-
 returns : tie.Need-returns
 returns c = search needs
-
-blank-point-requires : tie.Need-blank-point-requires
-blank-point-requires c κs = search needs
 
 returns-2 : tie.Need-returns-2
 returns-2 c = let b = c .before .before .before in let a = b .args in
@@ -25,4 +16,4 @@ returns-2 c = let b = c .before .before .before in let a = b .args in
 
 pub point-at-spec : {M : Type 1} → statement M
 point-at-spec =
-    tie.close (tie.spec mul-result array-copy-out-result returns blank-point-requires returns-2)
+    tie.close (tie.spec (search needs) (search needs) returns (search needs) returns-2)

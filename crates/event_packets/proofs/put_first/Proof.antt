@@ -7,18 +7,6 @@ use Rattle.event_packets.proofs.put_first.Tie as tie
 returns : tie.Need-returns
 returns c = let a = c .before .before .before .args in none-62 (a .e) (a .at) _ (a .c .first) _ (not-true (a .c .first) (c .if1 .taken))
 
-timing-point-requires : tie.Need-timing-point-requires
-timing-point-requires c κs = search needs
-
-put-packet-requires : tie.Need-put-packet-requires
-put-packet-requires c κs = search needs
-
-add-result : tie.Need-add-result
-add-result c = search needs
-
-same-length : tie.Need-same-length
-same-length c = search needs
-
 returns-2 : tie.Need-returns-2
 returns-2 c = let b = c .before .before in
     let s = b .before .before .before in
@@ -28,4 +16,4 @@ returns-2 c = let b = c .before .before in
 pub put-first-spec : {M : Type 1} → statement M
 put-first-spec =
     tie.close
-    (tie.spec returns timing-point-requires put-packet-requires add-result same-length returns-2)
+    (tie.spec returns (search needs) (search needs) (search needs) (search needs) returns-2)

@@ -3,23 +3,8 @@ use borrow.Author.Needs.{needs}
 use Rattle.event_packets.proofs.put_received.Statement.{statement}
 use Rattle.event_packets.proofs.put_received.Tie as tie
 
-enum-known-received : tie.Need-enum-known-received
-enum-known-received c = search needs
-
-enum-told : tie.Need-enum-told
-enum-told c = search needs
-
 returns : tie.Need-returns
 returns c = let a = c .before .before .before .args in none-65 (a .e) 0 _ (a .w) (c .enum-told .given .1)
-
-jp-received-requires : tie.Need-jp-received-requires
-jp-received-requires c κs = search needs
-
-put-packet-requires : tie.Need-put-packet-requires
-put-packet-requires c κs = search needs
-
-same-length : tie.Need-same-length
-same-length c = search needs
 
 returns-2 : tie.Need-returns-2
 returns-2 c = let b = c .before .before in
@@ -31,10 +16,10 @@ pub put-received-spec : {M : Type 1} → statement M
 put-received-spec =
     tie.close
     (tie.spec
-    enum-known-received
-    enum-told
+    (search needs)
+    (search needs)
     returns
-    jp-received-requires
-    put-packet-requires
-    same-length
+    (search needs)
+    (search needs)
+    (search needs)
     returns-2)

@@ -7,15 +7,6 @@ use Rattle.event_packets.proofs.put_status.Tie as tie
 returns : tie.Need-returns
 returns c = let a = c .before .before .before .args in none-68 (a .e) (a .at) _ (a .w) (not-true (a .w .due) (c .if1 .taken))
 
-ato-status-requires : tie.Need-ato-status-requires
-ato-status-requires c κs = search needs
-
-put-packet-requires : tie.Need-put-packet-requires
-put-packet-requires c κs = search needs
-
-same-length : tie.Need-same-length
-same-length c = search needs
-
 returns-2 : tie.Need-returns-2
 returns-2 c = let b = c .before .before in
     let s = b .before .before .before in
@@ -24,4 +15,4 @@ returns-2 c = let b = c .before .before in
 
 pub put-status-spec : {M : Type 1} → statement M
 put-status-spec =
-    tie.close (tie.spec returns ato-status-requires put-packet-requires same-length returns-2)
+    tie.close (tie.spec returns (search needs) (search needs) (search needs) returns-2)

@@ -5,19 +5,10 @@ use borrow.Author.Needs.{needs}
 use Rattle.event_packets.proofs.timing_point_of.Statement.{statement}
 use Rattle.event_packets.proofs.timing_point_of.Tie as tie
 
-end-ahead-requires : tie.Need-end-ahead-requires
-end-ahead-requires c κs = search needs
-
-bit-of-requires : tie.Need-bit-of-requires
-bit-of-requires c κs = search needs
-
-stopping-of-requires : tie.Need-stopping-of-requires
-stopping-of-requires c κs = search needs
-
 returns : tie.Need-returns
 returns c = let a = c .before .before .before .args in
     point-of (a .header) (a .l) (a .p) (a .status) (a .after) _ _ (c .before .bit-of .ensures ∙ ap flag (c .before .before .end-ahead .ensures)) (c .stopping-of .ensures)
 
 pub timing-point-of-spec : {M : Type 1} → statement M
 timing-point-of-spec =
-    tie.close (tie.spec end-ahead-requires bit-of-requires stopping-of-requires returns)
+    tie.close (tie.spec (search needs) (search needs) (search needs) returns)

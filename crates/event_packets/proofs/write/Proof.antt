@@ -3,24 +3,6 @@ use borrow.Author.Needs.{needs}
 use Rattle.event_packets.proofs.write.Statement.{statement}
 use Rattle.event_packets.proofs.write.Tie as tie
 
-put-received-requires : tie.Need-put-received-requires
-put-received-requires c κs = search needs
-
-put-first-requires : tie.Need-put-first-requires
-put-first-requires c κs = search needs
-
-put-passings-requires : tie.Need-put-passings-requires
-put-passings-requires c κs = search needs
-
-put-stopped-requires : tie.Need-put-stopped-requires
-put-stopped-requires c κs = search needs
-
-put-status-requires : tie.Need-put-status-requires
-put-status-requires c κs = search needs
-
-same-length : tie.Need-same-length
-same-length c = search needs
-
 returns : tie.Need-returns
 returns c =
     let s₅ = c .before .before in
@@ -35,10 +17,10 @@ pub write-spec : {M : Type 1} → statement M
 write-spec =
     tie.close
     (tie.spec
-    put-received-requires
-    put-first-requires
-    put-passings-requires
-    put-stopped-requires
-    put-status-requires
-    same-length
+    (search needs)
+    (search needs)
+    (search needs)
+    (search needs)
+    (search needs)
+    (search needs)
     returns)

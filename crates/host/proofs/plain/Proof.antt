@@ -6,12 +6,6 @@ use Rattle.host.specs.View.{answerView}
 use Rattle.host.proofs.plain.Statement.{statement}
 use Rattle.host.proofs.plain.Tie as tie
 
-enum-known-a : tie.Need-enum-known-a
-enum-known-a c = search needs
-
-enum-known-a-2 : tie.Need-enum-known-a-2
-enum-known-a-2 c = search needs
-
 returns : tie.Need-returns
 returns c = sym (ap (λ (x : model.Answer). answerView (call·answerView x)) (c .before .a .given .1))
 
@@ -19,4 +13,4 @@ returns-2 : tie.Need-returns-2
 returns-2 c = sym (ap (λ (x : model.Answer). answerView (call·answerView x)) (c .before .a2 .given .1))
 
 pub plain-spec : {M : Type 1} → statement M
-plain-spec = tie.close (tie.spec enum-known-a enum-known-a-2 returns returns-2)
+plain-spec = tie.close (tie.spec (search needs) (search needs) returns returns-2)

@@ -10,33 +10,12 @@ use borrow.Author.Needs.{needs}
 use Rattle.journey.proofs.read_head.Statement.{statement}
 use Rattle.journey.proofs.read_head.Tie as tie
 
-read-field-requires : tie.Need-read-field-requires
-read-field-requires c κs = search needs
-
-enum-known-map : tie.Need-enum-known-map
-enum-known-map c = search needs
-
-enum-told : tie.Need-enum-told
-enum-told c = search needs
-
 returns : tie.Need-returns
 unfolding headRecord bitMap
 returns c =
     let s = now (c .before .before .before .before .args .s) in
     let e1 = sym (c .before .before .read-field .ensures) ∙ ap (fieldView s) (c .enum-told .given .1) in
     rw (e1)
-
-head-map-requires : tie.Need-head-map-requires
-head-map-requires c κs = search needs
-
-read-optional-requires : tie.Need-read-optional-requires
-read-optional-requires c κs = search needs
-
-enum-known-operational : tie.Need-enum-known-operational
-enum-known-operational c = search needs
-
-enum-told-2 : tie.Need-enum-told-2
-enum-told-2 c = search needs
 
 returns-2 : tie.Need-returns-2
 unfolding headRecord bitMap
@@ -47,15 +26,6 @@ returns-2 c =
     let e3 = sym (c .before .before .read-optional .ensures) ∙ ap (fieldView s) (c .enum-told2 .given .1) in
     rw (e1, e2, e3)
 
-read-field-requires-2 : tie.Need-read-field-requires-2
-read-field-requires-2 c κs = search needs
-
-enum-known-date : tie.Need-enum-known-date
-enum-known-date c = search needs
-
-enum-told-3 : tie.Need-enum-told-3
-enum-told-3 c = search needs
-
 returns-3 : tie.Need-returns-3
 unfolding headRecord bitMap
 returns-3 c =
@@ -65,15 +35,6 @@ returns-3 c =
     let e3 = sym (c .before .before .before .before .before .before .read-optional .ensures) ∙ ap (fieldView s) (c .before .before .before .before .operational .given .1) in
     let e4 = sym (c .before .before .read-field2 .ensures) ∙ ap (fieldView s) (c .enum-told3 .given .1) in
     rw (e1, e2, e3, e4)
-
-read-field-requires-3 : tie.Need-read-field-requires-3
-read-field-requires-3 c κs = search needs
-
-enum-known-seconds : tie.Need-enum-known-seconds
-enum-known-seconds c = search needs
-
-enum-told-4 : tie.Need-enum-told-4
-enum-told-4 c = search needs
 
 returns-4 : tie.Need-returns-4
 unfolding headRecord bitMap
@@ -86,15 +47,6 @@ returns-4 c =
     let e5 = sym (c .before .before .read-field3 .ensures) ∙ ap (fieldView s) (c .enum-told4 .given .1) in
     rw (e1, e2, e3, e4, e5)
 
-read-field-requires-4 : tie.Need-read-field-requires-4
-read-field-requires-4 c κs = search needs
-
-enum-known-counter : tie.Need-enum-known-counter
-enum-known-counter c = search needs
-
-enum-told-5 : tie.Need-enum-told-5
-enum-told-5 c = search needs
-
 returns-5 : tie.Need-returns-5
 unfolding headRecord bitMap
 returns-5 c =
@@ -106,15 +58,6 @@ returns-5 c =
     let e5 = sym (c .before .before .before .before .before .before .read-field3 .ensures) ∙ ap (fieldView s) (c .before .before .before .before .seconds .given .1) in
     let e6 = sym (c .before .before .read-field4 .ensures) ∙ ap (fieldView s) (c .enum-told5 .given .1) in
     rw (e1, e2, e3, e4, e5, e6)
-
-read-optional-requires-2 : tie.Need-read-optional-requires-2
-read-optional-requires-2 c κs = search needs
-
-enum-known-atots : tie.Need-enum-known-atots
-enum-known-atots c = search needs
-
-enum-told-6 : tie.Need-enum-told-6
-enum-told-6 c = search needs
 
 returns-6 : tie.Need-returns-6
 unfolding headRecord bitMap
@@ -169,30 +112,30 @@ pub read-head-spec : {M : Type 1} → statement M
 read-head-spec =
     tie.close
     (tie.spec
-    read-field-requires
-    enum-known-map
-    enum-told
+    (search needs)
+    (search needs)
+    (search needs)
     returns
-    head-map-requires
-    read-optional-requires
-    enum-known-operational
-    enum-told-2
+    (search needs)
+    (search needs)
+    (search needs)
+    (search needs)
     returns-2
-    read-field-requires-2
-    enum-known-date
-    enum-told-3
+    (search needs)
+    (search needs)
+    (search needs)
     returns-3
-    read-field-requires-3
-    enum-known-seconds
-    enum-told-4
+    (search needs)
+    (search needs)
+    (search needs)
     returns-4
-    read-field-requires-4
-    enum-known-counter
-    enum-told-5
+    (search needs)
+    (search needs)
+    (search needs)
     returns-5
-    read-optional-requires-2
-    enum-known-atots
-    enum-told-6
+    (search needs)
+    (search needs)
+    (search needs)
     returns-6
     cast-t28
     cast-t29

@@ -30,60 +30,21 @@ points-read : (c : tie.After-known-told3)
     (counted 64 pointRecord (drop (g .before .names-listed .given .0 .1 .0) s) ≡ good (take n xs) (drop (c .before .points-listed .given .0 .1 .0) s)) × (n ≤ 64) × (xs ≡ filled 64 blankJourneyPoint (take n xs))
 points-read c = list-read pointRecord blankJourneyPoint 64 _ _ _ _ (c .before .before .before .read-points .ensures) _ _ (c .before .points-listed .given .1)
 
-read-head-requires : tie.Need-read-head-requires
-read-head-requires c κs = search needs
-
-enum-known-head : tie.Need-enum-known-head
-enum-known-head c = search needs
-
-enum-told : tie.Need-enum-told
-enum-told c = search needs
-
-refused-requires : tie.Need-refused-requires
-refused-requires c κs = search needs
-
 returns : tie.Need-returns
 returns c =
     let s = now (c .before .before .before .before .before .args .s) in
     told-refused s _ (c .refused .ensures) (headless s (sym (c .before .before .before .read-head .ensures) ∙ ap (headView s) (c .before .enum-told .given .1)))
-
-read-names-requires : tie.Need-read-names-requires
-read-names-requires c κs = search needs
-
-enum-known-names-listed : tie.Need-enum-known-names-listed
-enum-known-names-listed c = search needs
-
-enum-told-2 : tie.Need-enum-told-2
-enum-told-2 c = search needs
-
-refused-requires-2 : tie.Need-refused-requires-2
-refused-requires-2 c κs = search needs
 
 returns-2 : tie.Need-returns-2
 returns-2 c =
     let k = c .before .before .before in
     told-refused _ _ (c .refused2 .ensures) (nameless _ _ _ (head-read (k .before)) (list-unread nameRecord blankName 40 _ _ _ _ (k .read-names .ensures) (c .before .enum-told2 .given .1)))
 
-read-points-requires : tie.Need-read-points-requires
-read-points-requires c κs = search needs
-
-enum-known-points-listed : tie.Need-enum-known-points-listed
-enum-known-points-listed c = search needs
-
-enum-told-3 : tie.Need-enum-told-3
-enum-told-3 c = search needs
-
-refused-requires-3 : tie.Need-refused-requires-3
-refused-requires-3 c κs = search needs
-
 returns-3 : tie.Need-returns-3
 returns-3 c =
     let k = c .before .before .before in
     let n = k .before in
     told-refused _ _ (c .refused3 .ensures) (pointless _ _ _ (head-read (n .before .before .before .before)) _ _ (names-read n .0) (list-unread pointRecord blankJourneyPoint 64 _ _ _ _ (k .read-points .ensures) (c .before .enum-told3 .given .1)))
-
-refused-requires-4 : tie.Need-refused-requires-4
-refused-requires-4 c κs = search needs
 
 returns-4 : tie.Need-returns-4
 returns-4 c =
@@ -104,21 +65,21 @@ pub read-journey-spec : {M : Type 1} → statement M
 read-journey-spec =
     tie.close
     (tie.spec
-    read-head-requires
-    enum-known-head
-    enum-told
-    refused-requires
+    (search needs)
+    (search needs)
+    (search needs)
+    (search needs)
     returns
-    read-names-requires
-    enum-known-names-listed
-    enum-told-2
-    refused-requires-2
+    (search needs)
+    (search needs)
+    (search needs)
+    (search needs)
     returns-2
-    read-points-requires
-    enum-known-points-listed
-    enum-told-3
-    refused-requires-3
+    (search needs)
+    (search needs)
+    (search needs)
+    (search needs)
     returns-3
-    refused-requires-4
+    (search needs)
     returns-4
     returns-5)

@@ -8,30 +8,12 @@ use borrow.Author.Needs.{needs}
 use Rattle.journey.proofs.read_name.Statement.{statement}
 use Rattle.journey.proofs.read_name.Tie as tie
 
-read-field-requires : tie.Need-read-field-requires
-read-field-requires c κs = search needs
-
-enum-known-c : tie.Need-enum-known-c
-enum-known-c c = search needs
-
-enum-told : tie.Need-enum-told
-enum-told c = search needs
-
 returns : tie.Need-returns
 unfolding nameRecord
 returns c =
     let s = now (c .before .before .before .before .args .s) in
     let e1 = sym (c .before .before .read-field .ensures) ∙ ap (fieldView s) (c .enum-told .given .1) in
     rw (e1)
-
-read-field-requires-2 : tie.Need-read-field-requires-2
-read-field-requires-2 c κs = search needs
-
-enum-known-sp : tie.Need-enum-known-sp
-enum-known-sp c = search needs
-
-enum-told-2 : tie.Need-enum-told-2
-enum-told-2 c = search needs
 
 returns-2 : tie.Need-returns-2
 unfolding nameRecord
@@ -58,13 +40,13 @@ pub read-name-spec : {M : Type 1} → statement M
 read-name-spec =
     tie.close
     (tie.spec
-    read-field-requires
-    enum-known-c
-    enum-told
+    (search needs)
+    (search needs)
+    (search needs)
     returns
-    read-field-requires-2
-    enum-known-sp
-    enum-told-2
+    (search needs)
+    (search needs)
+    (search needs)
     returns-2
     cast-t11
     returns-3)

@@ -11,33 +11,12 @@ use borrow.Author.Needs.{needs}
 use Rattle.journey.proofs.read_point.Statement.{statement}
 use Rattle.journey.proofs.read_point.Tie as tie
 
-read-field-requires : tie.Need-read-field-requires
-read-field-requires c κs = search needs
-
-enum-known-map : tie.Need-enum-known-map
-enum-known-map c = search needs
-
-enum-told : tie.Need-enum-told
-enum-told c = search needs
-
 returns : tie.Need-returns
 unfolding pointRecord bitMap
 returns c =
     let s = now (c .before .before .before .before .args .s) in
     let e1 = sym (c .before .before .read-field .ensures) ∙ ap (fieldView s) (c .enum-told .given .1) in
     rw (e1)
-
-point-map-requires : tie.Need-point-map-requires
-point-map-requires c κs = search needs
-
-read-field-requires-2 : tie.Need-read-field-requires-2
-read-field-requires-2 c κs = search needs
-
-enum-known-tp : tie.Need-enum-known-tp
-enum-known-tp c = search needs
-
-enum-told-2 : tie.Need-enum-told-2
-enum-told-2 c = search needs
 
 returns-2 : tie.Need-returns-2
 unfolding pointRecord bitMap
@@ -47,15 +26,6 @@ returns-2 c =
     let e2 = map-stands (c .before .before .before .before .before .before .map .given .0 .0) (sym (c .before .before .before .before .point-map .ensures) ∙ c .before .before .before .if1 .taken) in
     let e3 = sym (c .before .before .read-field2 .ensures) ∙ ap (fieldView s) (c .enum-told2 .given .1) in
     rw (e1, e2 .0, e2 .1, e3)
-
-read-field-requires-3 : tie.Need-read-field-requires-3
-read-field-requires-3 c κs = search needs
-
-enum-known-index : tie.Need-enum-known-index
-enum-known-index c = search needs
-
-enum-told-3 : tie.Need-enum-told-3
-enum-told-3 c = search needs
 
 returns-3 : tie.Need-returns-3
 unfolding pointRecord bitMap
@@ -67,15 +37,6 @@ returns-3 c =
     let e4 = sym (c .before .before .read-field3 .ensures) ∙ ap (fieldView s) (c .enum-told3 .given .1) in
     rw (e1, e2 .0, e2 .1, e3, e4)
 
-read-optional-requires : tie.Need-read-optional-requires
-read-optional-requires c κs = search needs
-
-enum-known-alignment : tie.Need-enum-known-alignment
-enum-known-alignment c = search needs
-
-enum-told-4 : tie.Need-enum-told-4
-enum-told-4 c = search needs
-
 returns-4 : tie.Need-returns-4
 unfolding pointRecord bitMap
 returns-4 c =
@@ -86,15 +47,6 @@ returns-4 c =
     let e4 = sym (c .before .before .before .before .before .before .read-field3 .ensures) ∙ ap (fieldView s) (c .before .before .before .before .index .given .1) in
     let e5 = sym (c .before .before .read-optional .ensures) ∙ ap (fieldView s) (c .enum-told4 .given .1) in
     rw (e1, e2 .0, e2 .1, e3, e4, e5)
-
-read-optional-requires-2 : tie.Need-read-optional-requires-2
-read-optional-requires-2 c κs = search needs
-
-enum-known-stopping : tie.Need-enum-known-stopping
-enum-known-stopping c = search needs
-
-enum-told-5 : tie.Need-enum-told-5
-enum-told-5 c = search needs
 
 returns-5 : tie.Need-returns-5
 unfolding pointRecord bitMap
@@ -147,26 +99,26 @@ pub read-point-spec : {M : Type 1} → statement M
 read-point-spec =
     tie.close
     (tie.spec
-    read-field-requires
-    enum-known-map
-    enum-told
+    (search needs)
+    (search needs)
+    (search needs)
     returns
-    point-map-requires
-    read-field-requires-2
-    enum-known-tp
-    enum-told-2
+    (search needs)
+    (search needs)
+    (search needs)
+    (search needs)
     returns-2
-    read-field-requires-3
-    enum-known-index
-    enum-told-3
+    (search needs)
+    (search needs)
+    (search needs)
     returns-3
-    read-optional-requires
-    enum-known-alignment
-    enum-told-4
+    (search needs)
+    (search needs)
+    (search needs)
     returns-4
-    read-optional-requires-2
-    enum-known-stopping
-    enum-told-5
+    (search needs)
+    (search needs)
+    (search needs)
     returns-5
     cast-t26
     cast-t27

@@ -9,9 +9,6 @@ use Rattle.journey_rows.proofs.name_count.Tie as tie
 long : (c : tie.Start) → length (c .args .j .names) ≡ 40
 long c = sym (length-map (c .args .j .names) _) ∙ c .good .0 .1 .1 .1 .1 .1 .0 .1 .0 .1
 
-cast-n : tie.Need-cast-n
-cast-n c = search needs
-
 returns : tie.Need-returns
 returns c = (omega arith, long (c .before .before))
 
@@ -19,4 +16,4 @@ returns-2 : tie.Need-returns-2
 returns-2 c = (omega arith, long (c .before .before))
 
 pub name-count-spec : {M : Type 1} → statement M
-name-count-spec = tie.close (tie.spec cast-n returns returns-2)
+name-count-spec = tie.close (tie.spec (search needs) returns returns-2)

@@ -9,9 +9,6 @@ use Rattle.journey_rows.proofs.point_count.Tie as tie
 long : (c : tie.Start) → length (c .args .j .points) ≡ 64
 long c = sym (length-map (c .args .j .points) _) ∙ c .good .0 .1 .1 .1 .1 .1 .1 .1 .0 .1 .0 .1
 
-cast-n : tie.Need-cast-n
-cast-n c = search needs
-
 returns : tie.Need-returns
 returns c = (omega arith, long (c .before .before))
 
@@ -19,4 +16,4 @@ returns-2 : tie.Need-returns-2
 returns-2 c = (omega arith, long (c .before .before))
 
 pub point-count-spec : {M : Type 1} → statement M
-point-count-spec = tie.close (tie.spec cast-n returns returns-2)
+point-count-spec = tie.close (tie.spec (search needs) returns returns-2)

@@ -10,24 +10,12 @@ use borrow.Author.Needs.{needs}
 use Rattle.journey_rows.proofs.point_twice.Statement.{statement}
 use Rattle.journey_rows.proofs.point_twice.Tie as tie
 
-point-count-requires : tie.Need-point-count-requires
-point-count-requires c κs = search needs
-
-nidtps-of-requires : tie.Need-nidtps-of-requires
-nidtps-of-requires c κs = search needs
-
-array-share-prefix-names : tie.Need-array-share-prefix-names
-array-share-prefix-names c = search needs
-
 slice-aggregate-repeated : tie.Need-slice-aggregate-repeated
 slice-aggregate-repeated c =
     let j = c .before .before .before .args .j in
     let n = c .before .before .point-count in
     let e = ap (λ (k : ℕ). take k (c .before .nidtps-of .result)) (n .ensures .0) ∙ c .before .nidtps-of .ensures in
     omega (arith, ap length e, length-map (pointsView j) (λ (p : JourneyPoint). p .nidtp), length-take (min (j .«point_count») 64) (j .points), n .ensures .0, n .ensures .1)
-
-repeated-requires : tie.Need-repeated-requires
-repeated-requires c κs = search needs
 
 returns : tie.Need-returns
 returns c =
@@ -38,9 +26,9 @@ pub point-twice-spec : {M : Type 1} → statement M
 point-twice-spec =
     tie.close
     (tie.spec
-    point-count-requires
-    nidtps-of-requires
-    array-share-prefix-names
+    (search needs)
+    (search needs)
+    (search needs)
     slice-aggregate-repeated
-    repeated-requires
+    (search needs)
     returns)

@@ -6,21 +6,6 @@ use Rattle.packet_fields.specs.View.{fieldsView}
 use Rattle.packet_fields.proofs.read_fields.Statement.{statement}
 use Rattle.packet_fields.proofs.read_fields.Tie as tie
 
-read-packet-requires : tie.Need-read-packet-requires
-read-packet-requires c κs = search needs
-
-enum-known-answer : tie.Need-enum-known-answer
-enum-known-answer c = search needs
-
-packet-fields-requires : tie.Need-packet-fields-requires
-packet-fields-requires c κs = search needs
-
-enum-known-answer-2 : tie.Need-enum-known-answer-2
-enum-known-answer-2 c = search needs
-
-refused-requires : tie.Need-refused-requires
-refused-requires c κs = search needs
-
 returns : tie.Need-returns
 returns c = c .packet-fields .ensures ∙ ap (λ (x : PacketRead). fieldsView (readView x)) (sym (c .before .before .answer .given .1)) ∙ ap fieldsView (c .before .before .before .before .read-packet .ensures)
 
@@ -31,10 +16,10 @@ pub read-fields-spec : {M : Type 1} → statement M
 read-fields-spec =
     tie.close
     (tie.spec
-    read-packet-requires
-    enum-known-answer
-    packet-fields-requires
-    enum-known-answer-2
-    refused-requires
+    (search needs)
+    (search needs)
+    (search needs)
+    (search needs)
+    (search needs)
     returns
     returns-2)

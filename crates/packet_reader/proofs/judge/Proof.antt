@@ -7,18 +7,12 @@ use borrow.Author.Needs.{needs}
 use Rattle.packet_reader.proofs.judge.Statement.{statement}
 use Rattle.packet_reader.proofs.judge.Tie as tie
 
-packet-size-requires : tie.Need-packet-size-requires
-packet-size-requires c κs = search needs
-
 returns : tie.Need-returns
 unfolding judgedPacket
 returns c =
     let a = c .before .before .args in
     let other : a .n ≡ sizeOf (a .p) → ⊥ = λ e. omega arith in
     rw (ne-eqb _ _ other)
-
-packet-fits-requires : tie.Need-packet-fits-requires
-packet-fits-requires c κs = search needs
 
 returns-2 : tie.Need-returns-2
 unfolding judgedPacket
@@ -38,4 +32,4 @@ returns-3 c =
 
 pub judge-spec : {M : Type 1} → statement M
 judge-spec =
-    tie.close (tie.spec packet-size-requires returns packet-fits-requires returns-2 returns-3)
+    tie.close (tie.spec (search needs) returns (search needs) returns-2 returns-3)

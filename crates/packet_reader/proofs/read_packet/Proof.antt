@@ -14,27 +14,6 @@ returns c =
     let none : length (now (c .before .before .args .s)) ≡ 0 = omega arith in
     rw (eq-eqb _ _ none)
 
-shared-slice-read-number : tie.Need-shared-slice-read-number
-shared-slice-read-number c = search needs
-
-get-timing-point-requires : tie.Need-get-timing-point-requires
-get-timing-point-requires c κs = search needs
-
-judge-requires : tie.Need-judge-requires
-judge-requires c κs = search needs
-
-get-jp-received-requires : tie.Need-get-jp-received-requires
-get-jp-received-requires c κs = search needs
-
-judge-requires-2 : tie.Need-judge-requires-2
-judge-requires-2 c κs = search needs
-
-get-ato-status-requires : tie.Need-get-ato-status-requires
-get-ato-status-requires c κs = search needs
-
-judge-requires-3 : tie.Need-judge-requires-3
-judge-requires-3 c κs = search needs
-
 returns-2 : tie.Need-returns-2
 unfolding packetOf
 returns-2 c = rw (ne-eqb _ _ (c .before .before .before .before .if1 .left), c .before .before .match .keys1, ← c .before .get-timing-point .ensures) (c .judge .ensures)
@@ -58,13 +37,13 @@ read-packet-spec =
     tie.close
     (tie.spec
     returns
-    shared-slice-read-number
-    get-timing-point-requires
-    judge-requires
-    get-jp-received-requires
-    judge-requires-2
-    get-ato-status-requires
-    judge-requires-3
+    (search needs)
+    (search needs)
+    (search needs)
+    (search needs)
+    (search needs)
+    (search needs)
+    (search needs)
     returns-2
     returns-3
     returns-4

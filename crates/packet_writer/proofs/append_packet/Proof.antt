@@ -12,24 +12,6 @@ use borrow.Author.Needs.{needs}
 use Rattle.packet_writer.proofs.append_packet.Statement.{statement}
 use Rattle.packet_writer.proofs.append_packet.Tie as tie
 
-packet-fits-requires : tie.Need-packet-fits-requires
-packet-fits-requires c κs = search needs
-
-packet-size-requires : tie.Need-packet-size-requires
-packet-size-requires c κs = search needs
-
-within-requires : tie.Need-within-requires
-within-requires c κs = search needs
-
-sub-room : tie.Need-sub-room
-sub-room c = search needs
-
-put-packet-requires : tie.Need-put-packet-requires
-put-packet-requires c κs = search needs
-
-same-length : tie.Need-same-length
-same-length c = search needs
-
 returns : tie.Need-returns
 returns c =
     let d = c .before .before .before .before in
@@ -63,12 +45,12 @@ pub append-packet-spec : {M : Type 1} → statement M
 append-packet-spec =
     tie.close
     (tie.spec
-    packet-fits-requires
-    packet-size-requires
-    within-requires
-    sub-room
-    put-packet-requires
-    same-length
+    (search needs)
+    (search needs)
+    (search needs)
+    (search needs)
+    (search needs)
+    (search needs)
     returns
     returns-2
     returns-3)

@@ -13,18 +13,6 @@ use borrow.Author.Needs.{needs}
 use Rattle.packet_writer.proofs.put_ato_status.Statement.{statement}
 use Rattle.packet_writer.proofs.put_ato_status.Tie as tie
 
-put-header-requires : tie.Need-put-header-requires
-put-header-requires c κs = search needs
-
-status-word-requires : tie.Need-status-word-requires
-status-word-requires c κs = search needs
-
-put16-requires : tie.Need-put16-requires
-put16-requires c κs = search needs
-
-same-length : tie.Need-same-length
-same-length c = search needs
-
 returns : tie.Need-returns
 unfolding valueBytes bytes
 returns c =
@@ -40,4 +28,4 @@ returns c =
 pub put-ato-status-spec : {M : Type 1} → statement M
 put-ato-status-spec =
     tie.close
-    (tie.spec put-header-requires status-word-requires put16-requires same-length returns)
+    (tie.spec (search needs) (search needs) (search needs) (search needs) returns)

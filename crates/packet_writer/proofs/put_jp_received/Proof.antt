@@ -9,30 +9,6 @@ use borrow.Author.Needs.{needs}
 use Rattle.packet_writer.proofs.put_jp_received.Statement.{statement}
 use Rattle.packet_writer.proofs.put_jp_received.Tie as tie
 
-put-header-requires : tie.Need-put-header-requires
-put-header-requires c κs = search needs
-
-put16-requires : tie.Need-put16-requires
-put16-requires c κs = search needs
-
-put16-requires-2 : tie.Need-put16-requires-2
-put16-requires-2 c κs = search needs
-
-put16-requires-3 : tie.Need-put16-requires-3
-put16-requires-3 c κs = search needs
-
-put32-requires : tie.Need-put32-requires
-put32-requires c κs = search needs
-
-put8-requires : tie.Need-put8-requires
-put8-requires c κs = search needs
-
-put8-requires-2 : tie.Need-put8-requires-2
-put8-requires-2 c κs = search needs
-
-same-length : tie.Need-same-length
-same-length c = search needs
-
 returns : tie.Need-returns
 unfolding valueBytes bytes bytesOf
 returns c =
@@ -53,12 +29,12 @@ pub put-jp-received-spec : {M : Type 1} → statement M
 put-jp-received-spec =
     tie.close
     (tie.spec
-    put-header-requires
-    put16-requires
-    put16-requires-2
-    put16-requires-3
-    put32-requires
-    put8-requires
-    put8-requires-2
-    same-length
+    (search needs)
+    (search needs)
+    (search needs)
+    (search needs)
+    (search needs)
+    (search needs)
+    (search needs)
+    (search needs)
     returns)

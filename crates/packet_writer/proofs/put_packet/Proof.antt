@@ -10,24 +10,6 @@ use borrow.Author.Needs.{needs}
 use Rattle.packet_writer.proofs.put_packet.Statement.{statement}
 use Rattle.packet_writer.proofs.put_packet.Tie as tie
 
-within-requires : tie.Need-within-requires
-within-requires c κs = search needs
-
-sub-put-front : tie.Need-sub-put-front
-sub-put-front c = search needs
-
-part-put-front-start : tie.Need-part-put-front-start
-part-put-front-start c = search needs
-
-part-put-front-end : tie.Need-part-put-front-end
-part-put-front-end c = search needs
-
-put-front-requires : tie.Need-put-front-requires
-put-front-requires c κs = search needs
-
-same-length : tie.Need-same-length
-same-length c = search needs
-
 returns : tie.Need-returns
 returns c =
     let b = c .before .before in
@@ -44,10 +26,10 @@ pub put-packet-spec : {M : Type 1} → statement M
 put-packet-spec =
     tie.close
     (tie.spec
-    within-requires
-    sub-put-front
-    part-put-front-start
-    part-put-front-end
-    put-front-requires
-    same-length
+    (search needs)
+    (search needs)
+    (search needs)
+    (search needs)
+    (search needs)
+    (search needs)
     returns)

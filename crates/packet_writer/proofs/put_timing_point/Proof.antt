@@ -9,27 +9,6 @@ use borrow.Author.Needs.{needs}
 use Rattle.packet_writer.proofs.put_timing_point.Statement.{statement}
 use Rattle.packet_writer.proofs.put_timing_point.Tie as tie
 
-put-header-requires : tie.Need-put-header-requires
-put-header-requires c κs = search needs
-
-put16-requires : tie.Need-put16-requires
-put16-requires c κs = search needs
-
-put32-requires : tie.Need-put32-requires
-put32-requires c κs = search needs
-
-info-byte-requires : tie.Need-info-byte-requires
-info-byte-requires c κs = search needs
-
-put8-requires : tie.Need-put8-requires
-put8-requires c κs = search needs
-
-put8-requires-2 : tie.Need-put8-requires-2
-put8-requires-2 c κs = search needs
-
-same-length : tie.Need-same-length
-same-length c = search needs
-
 returns : tie.Need-returns
 unfolding valueBytes bytes bytesOf
 returns c =
@@ -47,11 +26,11 @@ pub put-timing-point-spec : {M : Type 1} → statement M
 put-timing-point-spec =
     tie.close
     (tie.spec
-    put-header-requires
-    put16-requires
-    put32-requires
-    info-byte-requires
-    put8-requires
-    put8-requires-2
-    same-length
+    (search needs)
+    (search needs)
+    (search needs)
+    (search needs)
+    (search needs)
+    (search needs)
+    (search needs)
     returns)

@@ -6,9 +6,6 @@ use borrow.Author.Needs.{needs}
 use Rattle.packets.proofs.jp_received_fits.Statement.{statement}
 use Rattle.packets.proofs.jp_received_fits.Tie as tie
 
-header-fits-requires : tie.Need-header-fits-requires
-header-fits-requires c κs = search needs
-
 returns : tie.Need-returns
 returns c =
     let b = c .before .before .before .before in
@@ -16,4 +13,4 @@ returns c =
     rw (b .header-fits .ensures, ← zero-only (p .status)) (tests-alone (packetView (Packet.JpReceived p)) refl)
 
 pub jp-received-fits-spec : {M : Type 1} → statement M
-jp-received-fits-spec = tie.close (tie.spec header-fits-requires returns)
+jp-received-fits-spec = tie.close (tie.spec (search needs) returns)

@@ -13,9 +13,6 @@ returns c =
     let none : getD s 0 0 ≡ 0 = List·getD-eq-default s 0 {n = 0} (omega arith) in
     rw none
 
-shared-slice-read-match : tie.Need-shared-slice-read-match
-shared-slice-read-match c = search needs
-
 returns-2 : tie.Need-returns-2
 returns-2 c = rw (c .match .keys1)
 
@@ -32,4 +29,4 @@ returns-5 c =
 
 pub size-at-spec : {M : Type 1} → statement M
 size-at-spec =
-    tie.close (tie.spec returns shared-slice-read-match returns-2 returns-3 returns-4 returns-5)
+    tie.close (tie.spec returns (search needs) returns-2 returns-3 returns-4 returns-5)

@@ -8,27 +8,6 @@ use Rattle.player.proofs.read_more.Tie as tie
 returns : tie.Need-returns
 returns c = search needs
 
-sub-rest : tie.Need-sub-rest
-sub-rest c = search needs
-
-part-rest-start : tie.Need-part-rest-start
-part-rest-start c = search needs
-
-part-rest-end : tie.Need-part-rest-end
-part-rest-end c = search needs
-
-read-requires : tie.Need-read-requires
-read-requires c κs = search needs
-
-count-requires : tie.Need-count-requires
-count-requires c κs = search needs
-
-add-result : tie.Need-add-result
-add-result c = search needs
-
-same-length : tie.Need-same-length
-same-length c = search needs
-
 returns-2 : tie.Need-returns-2
 returns-2 c =
     let s = now (c .before .before .before .before .before .before .before .before .before .before .before .args .input) in
@@ -40,11 +19,11 @@ read-more-spec =
     tie.close
     (tie.spec
     returns
-    sub-rest
-    part-rest-start
-    part-rest-end
-    read-requires
-    count-requires
-    add-result
-    same-length
+    (search needs)
+    (search needs)
+    (search needs)
+    (search needs)
+    (search needs)
+    (search needs)
+    (search needs)
     returns-2)

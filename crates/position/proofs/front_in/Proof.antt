@@ -22,15 +22,6 @@ returns-4 : tie.Need-returns-4
 returns-4 c = let a = c .before .before .before .before .before .before .before .before .before .args in
     (sym (by-past (a .s) (a .x) (c .before .before .before .before .before .before .before .if1 .left) (not-false _ (c .before .before .before .before .before .if2 .left)) (not-false _ (c .before .before .before .if3 .left)) (c .if4 .taken)), tt)
 
-cast-t4 : tie.Need-cast-t4
-cast-t4 c = search needs
-
-cast-t5 : tie.Need-cast-t5
-cast-t5 c = search needs
-
-add-t6 : tie.Need-add-t6
-add-t6 c = search needs
-
 returns-5 : tie.Need-returns-5
 returns-5 c = let s = c .before .before in
     let a = s .before .before .before .before .before .before .before .before .before .args in
@@ -39,4 +30,4 @@ returns-5 c = let s = c .before .before in
 pub front-in-spec : {M : Type 1} → statement M
 front-in-spec =
     tie.close
-    (tie.spec returns returns-2 returns-3 returns-4 cast-t4 cast-t5 add-t6 returns-5)
+    (tie.spec returns returns-2 returns-3 returns-4 (search needs) (search needs) (search needs) returns-5)

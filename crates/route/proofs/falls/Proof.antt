@@ -2,9 +2,6 @@ use borrow.Author.Needs.{needs}
 use Rattle.route.proofs.falls.Statement.{statement}
 use Rattle.route.proofs.falls.Tie as tie
 
-cast-below : tie.Need-cast-below
-cast-below c = search needs
-
 returns : tie.Need-returns
 returns c = rw (c .if1 .taken)
 
@@ -12,4 +9,4 @@ returns-2 : tie.Need-returns-2
 returns-2 c = rw (c .if1 .left)
 
 pub falls-spec : {M : Type 1} → statement M
-falls-spec = tie.close (tie.spec cast-below returns returns-2)
+falls-spec = tie.close (tie.spec (search needs) returns returns-2)

@@ -11,15 +11,6 @@ use Rattle.route.proofs.lacks.Tie as tie
 returns : tie.Need-returns
 returns c = let a = c .before .before .before .args in unbooked-lacks (a .g) (lookupPoint (a .nidtp) (entryView (now (a .s)) (a .e) .points)) (not-true _ (c .if1 .taken))
 
-find-point-requires : tie.Need-find-point-requires
-find-point-requires c κs = search needs
-
-enum-told : tie.Need-enum-told
-enum-told c = search needs
-
-enum-told-2 : tie.Need-enum-told-2
-enum-told-2 c = search needs
-
 returns-2 : tie.Need-returns-2
 returns-2 c =
     let a = c .before .before .before .before .before .before .args in
@@ -32,4 +23,4 @@ returns-3 c =
 
 pub lacks-spec : {M : Type 1} → statement M
 lacks-spec =
-    tie.close (tie.spec returns find-point-requires enum-told enum-told-2 returns-2 returns-3)
+    tie.close (tie.spec returns (search needs) (search needs) (search needs) returns-2 returns-3)

@@ -2,12 +2,6 @@ use borrow.Author.Needs.{needs}
 use Rattle.route.proofs.least_after.Statement.{statement}
 use Rattle.route.proofs.least_after.Tie as tie
 
-cast-result : tie.Need-cast-result
-cast-result c = search needs
-
-add-result : tie.Need-add-result
-add-result c = search needs
-
 returns : tie.Need-returns
 returns c = rw (c .before .if1 .taken)
 
@@ -15,4 +9,4 @@ returns-2 : tie.Need-returns-2
 returns-2 c = search needs
 
 pub least-after-spec : {M : Type 1} → statement M
-least-after-spec = tie.close (tie.spec cast-result add-result returns returns-2)
+least-after-spec = tie.close (tie.spec (search needs) (search needs) returns returns-2)

@@ -15,32 +15,11 @@ book-read c =
     let b = c .before .before in
     sym (b .read-book .ensures .seen) ∙ book-accepted (now (b .before .before .before .args .book)) (b .read-book .result) (c .enum-told .given .1)
 
-read-book-requires : tie.Need-read-book-requires
-read-book-requires c κs = search needs
-
-enum-known-of-book : tie.Need-enum-known-of-book
-enum-known-of-book c = search needs
-
-refused-requires : tie.Need-refused-requires
-refused-requires c κs = search needs
-
 returns : tie.Need-returns
 returns c =
     let b = c .before .before .before .before in
     let a = b .before .before .before .args in
     told-refused _ _ _ (c .refused .ensures) (no-book (now (a .journey)) (now (a .book)) _ (sym (b .read-book .ensures .seen) ∙ book-refused (now (a .book)) (b .read-book .result) _ (c .before .before .of-book .given .1)))
-
-enum-told : tie.Need-enum-told
-enum-told c = search needs
-
-read-journey-requires : tie.Need-read-journey-requires
-read-journey-requires c κs = search needs
-
-enum-known-of-journey : tie.Need-enum-known-of-journey
-enum-known-of-journey c = search needs
-
-refused-requires-2 : tie.Need-refused-requires-2
-refused-requires-2 c κs = search needs
 
 returns-2 : tie.Need-returns-2
 returns-2 c =
@@ -48,9 +27,6 @@ returns-2 c =
     let k = j .before in
     let a = k .before .before .before .before .before .args in
     told-refused _ _ _ (c .refused2 .ensures) (no-journey (now (a .journey)) (now (a .book)) _ _ (book-read k) (sym (j .read-journey .ensures .seen) ∙ journey-refused (j .read-journey .result) _ (c .before .before .of-journey .given .1)))
-
-enum-told-2 : tie.Need-enum-told-2
-enum-told-2 c = search needs
 
 place-requires : tie.Need-place-requires
 place-requires c κs =
@@ -69,15 +45,15 @@ pub load-route-spec : {M : Type 1} → statement M
 load-route-spec =
     tie.close
     (tie.spec
-    read-book-requires
-    enum-known-of-book
-    refused-requires
+    (search needs)
+    (search needs)
+    (search needs)
     returns
-    enum-told
-    read-journey-requires
-    enum-known-of-journey
-    refused-requires-2
+    (search needs)
+    (search needs)
+    (search needs)
+    (search needs)
     returns-2
-    enum-told-2
+    (search needs)
     place-requires
     returns-3)

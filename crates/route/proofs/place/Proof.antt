@@ -37,22 +37,10 @@ twelve-is c =
 place-segments-requires : tie.Need-place-segments-requires
 place-segments-requires c κs = c .before .pre
 
-name-twice-requires : tie.Need-name-twice-requires
-name-twice-requires c κs = search needs
-
-row-11-requires : tie.Need-row-11-requires
-row-11-requires c κs = search needs
-
-refused-requires : tie.Need-refused-requires
-refused-requires c κs = search needs
-
 returns : tie.Need-returns
 returns c =
     let k = c .before .before in
     told-refused _ 10 _ (c .refused .ensures) (row-10 (bookAt k) (valueAt k) (sym (k .before .name-twice .ensures) ∙ c .before .if1 .taken))
-
-refused-requires-2 : tie.Need-refused-requires-2
-refused-requires-2 c κs = search needs
 
 returns-2 : tie.Need-returns-2
 returns-2 c =
@@ -64,20 +52,11 @@ place-points-requires c κs =
     let k = c .before .before in
     (or-false _ _ (eleven-is k ∙ c .if2 .left) .0, k .before .before .place-segments .ensures .fit)
 
-row-12-requires : tie.Need-row-12-requires
-row-12-requires c κs = search needs
-
-refused-requires-3 : tie.Need-refused-requires-3
-refused-requires-3 c κs = search needs
-
 returns-3 : tie.Need-returns-3
 returns-3 c =
     let d = c .before .before in
     let k = d .before .before .before .before in
     told-refused _ 12 _ (c .refused3 .ensures) (row-12 (bookAt k) (valueAt k) (sym (k .before .name-twice .ensures) ∙ d .before .before .before .if1 .left) (eleven-is k ∙ d .before .before .if2 .left) (twelve-is d ∙ c .before .if3 .taken))
-
-load-of-requires : tie.Need-load-of-requires
-load-of-requires c κs = search needs
 
 returns-4 : tie.Need-returns-4
 returns-4 c =
@@ -92,15 +71,15 @@ place-spec =
     tie.close
     (tie.spec
     place-segments-requires
-    name-twice-requires
-    row-11-requires
-    refused-requires
+    (search needs)
+    (search needs)
+    (search needs)
     returns
-    refused-requires-2
+    (search needs)
     returns-2
     place-points-requires
-    row-12-requires
-    refused-requires-3
+    (search needs)
+    (search needs)
     returns-3
-    load-of-requires
+    (search needs)
     returns-4)

@@ -5,12 +5,6 @@ use borrow.Author.Needs.{needs}
 use Rattle.route.proofs.point_of.Statement.{statement}
 use Rattle.route.proofs.point_of.Tie as tie
 
-place-in-requires : tie.Need-place-in-requires
-place-in-requires c κs = search needs
-
-reach-in-requires : tie.Need-reach-in-requires
-reach-in-requires c κs = search needs
-
 add-t7 : tie.Need-add-t7
 add-t7 c =
     let a = c .before .before .before .before .args in
@@ -27,4 +21,4 @@ returns-2 c =
     unplaced-point (a .p) (a .g) (pointView (a .p .nidtp) (a .f)) 0 0 (c .if1 .left)
 
 pub point-of-spec : {M : Type 1} → statement M
-point-of-spec = tie.close (tie.spec place-in-requires reach-in-requires add-t7 returns returns-2)
+point-of-spec = tie.close (tie.spec (search needs) (search needs) add-t7 returns returns-2)

@@ -5,15 +5,6 @@ use borrow.Author.Needs.{needs}
 use Rattle.route.proofs.record_of.Statement.{statement}
 use Rattle.route.proofs.record_of.Tie as tie
 
-find-segment-requires : tie.Need-find-segment-requires
-find-segment-requires c κs = search needs
-
-enum-known-k : tie.Need-enum-known-k
-enum-known-k c = search needs
-
-enum-told : tie.Need-enum-told
-enum-told c = search needs
-
 returns : tie.Need-returns
 returns c =
     let a = c .before .before .before .args in
@@ -38,9 +29,9 @@ pub record-of-spec : {M : Type 1} → statement M
 record-of-spec =
     tie.close
     (tie.spec
-    find-segment-requires
-    enum-known-k
-    enum-told
+    (search needs)
+    (search needs)
+    (search needs)
     returns
     mul-t7
     element-copy-out-t10

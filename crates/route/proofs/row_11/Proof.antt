@@ -4,20 +4,11 @@ use borrow.Author.Needs.{needs}
 use Rattle.route.proofs.row_11.Statement.{statement}
 use Rattle.route.proofs.row_11.Tie as tie
 
-index-beyond-requires : tie.Need-index-beyond-requires
-index-beyond-requires c κs = search needs
-
 returns : tie.Need-returns
 returns c = λ book h. rw (sym (c .before .index-beyond .ensures) ∙ c .if1 .taken)
 
-point-twice-requires : tie.Need-point-twice-requires
-point-twice-requires c κs = search needs
-
 returns-2 : tie.Need-returns-2
 returns-2 c = λ book h. rw (sym (c .before .before .before .index-beyond .ensures) ∙ c .before .before .if1 .left, sym (c .before .point-twice .ensures) ∙ c .if2 .taken)
-
-end-count-requires : tie.Need-end-count-requires
-end-count-requires c κs = search needs
 
 returns-3 : tie.Need-returns-3
 returns-3 c = λ book h. rw (sym (c .before .before .before .before .before .index-beyond .ensures) ∙ c .before .before .before .before .if1 .left, sym (c .before .before .before .point-twice .ensures) ∙ c .before .before .if2 .left, sym (c .before .end-count .ensures), ne-eqb (c .before .end-count .result) 1 (c .if3 .taken))
@@ -32,11 +23,11 @@ pub row-11-spec : {M : Type 1} → statement M
 row-11-spec =
     tie.close
     (tie.spec
-    index-beyond-requires
+    (search needs)
     returns
-    point-twice-requires
+    (search needs)
     returns-2
-    end-count-requires
+    (search needs)
     returns-3
     point-missing-requires
     returns-4)

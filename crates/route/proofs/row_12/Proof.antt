@@ -7,17 +7,8 @@ use borrow.Author.Needs.{needs}
 use Rattle.route.proofs.row_12.Statement.{statement}
 use Rattle.route.proofs.row_12.Tie as tie
 
-index-falls-requires : tie.Need-index-falls-requires
-index-falls-requires c κs = search needs
-
 returns : tie.Need-returns
 returns c = rw (sym (c .before .index-falls .ensures) ∙ c .if1 .taken)
-
-point-count-requires : tie.Need-point-count-requires
-point-count-requires c κs = search needs
-
-place-falls-requires : tie.Need-place-falls-requires
-place-falls-requires c κs = search needs
 
 returns-2 : tie.Need-returns-2
 returns-2 c =
@@ -28,4 +19,4 @@ returns-2 c =
 pub row-12-spec : {M : Type 1} → statement M
 row-12-spec =
     tie.close
-    (tie.spec index-falls-requires returns point-count-requires place-falls-requires returns-2)
+    (tie.spec (search needs) returns (search needs) (search needs) returns-2)

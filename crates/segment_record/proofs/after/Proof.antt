@@ -9,17 +9,11 @@ use Rattle.segment_record.proofs.after.Tie as tie
 returns : tie.Need-returns
 returns c = let a = c .before .args in after-past (now (a .s)) (a .p) (a .k) (c .if1 .taken)
 
-sub-if2 : tie.Need-sub-if2
-sub-if2 c = search needs
-
 returns-2 : tie.Need-returns-2
 returns-2 c = let a = c .before .before .args in after-end (now (a .s)) (a .p) (a .k) (c .if2 .taken)
-
-add-result : tie.Need-add-result
-add-result c = search needs
 
 returns-3 : tie.Need-returns-3
 returns-3 c = let a = c .before .before .args in sym (drop-drop (a .k) (a .p) (now (a .s)))
 
 pub after-spec : {M : Type 1} → statement M
-after-spec = tie.close (tie.spec returns sub-if2 returns-2 add-result returns-3)
+after-spec = tie.close (tie.spec returns (search needs) returns-2 (search needs) returns-3)

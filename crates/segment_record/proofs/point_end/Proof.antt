@@ -6,30 +6,12 @@ use borrow.Author.Needs.{needs}
 use Rattle.segment_record.proofs.point_end.Statement.{statement}
 use Rattle.segment_record.proofs.point_end.Tie as tie
 
-read-field-requires : tie.Need-read-field-requires
-read-field-requires c κs = search needs
-
-enum-known-a : tie.Need-enum-known-a
-enum-known-a c = search needs
-
-enum-told : tie.Need-enum-told
-enum-told c = search needs
-
 returns : tie.Need-returns
 unfolding bookPoint
 returns c =
     let s = now (c .before .before .before .before .args .s) in
     let e1 = sym (c .before .before .read-field .ensures) ∙ ap (fieldView s) (c .enum-told .given .1) in
     rw (e1)
-
-read-field-requires-2 : tie.Need-read-field-requires-2
-read-field-requires-2 c κs = search needs
-
-enum-known-b : tie.Need-enum-known-b
-enum-known-b c = search needs
-
-enum-told-2 : tie.Need-enum-told-2
-enum-told-2 c = search needs
 
 returns-2 : tie.Need-returns-2
 unfolding bookPoint
@@ -38,15 +20,6 @@ returns-2 c =
     let e1 = sym (c .before .before .before .before .before .before .read-field .ensures) ∙ ap (fieldView s) (c .before .before .before .before .a .given .1) in
     let e2 = sym (c .before .before .read-field2 .ensures) ∙ ap (fieldView s) (c .enum-told2 .given .1) in
     rw (e1, e2)
-
-read-field-requires-3 : tie.Need-read-field-requires-3
-read-field-requires-3 c κs = search needs
-
-enum-known-next : tie.Need-enum-known-next
-enum-known-next c = search needs
-
-enum-told-3 : tie.Need-enum-told-3
-enum-told-3 c = search needs
 
 returns-3 : tie.Need-returns-3
 unfolding bookPoint
@@ -70,16 +43,16 @@ pub point-end-spec : {M : Type 1} → statement M
 point-end-spec =
     tie.close
     (tie.spec
-    read-field-requires
-    enum-known-a
-    enum-told
+    (search needs)
+    (search needs)
+    (search needs)
     returns
-    read-field-requires-2
-    enum-known-b
-    enum-told-2
+    (search needs)
+    (search needs)
+    (search needs)
     returns-2
-    read-field-requires-3
-    enum-known-next
-    enum-told-3
+    (search needs)
+    (search needs)
+    (search needs)
     returns-3
     returns-4)

@@ -9,18 +9,6 @@ use borrow.Author.Needs.{needs}
 use Rattle.segment_record.proofs.read_items.Statement.{statement}
 use Rattle.segment_record.proofs.read_items.Tie as tie
 
-most-of-requires : tie.Need-most-of-requires
-most-of-requires c κs = search needs
-
-read-field-requires : tie.Need-read-field-requires
-read-field-requires c κs = search needs
-
-enum-known-n : tie.Need-enum-known-n
-enum-known-n c = search needs
-
-enum-told : tie.Need-enum-told
-enum-told c = search needs
-
 returns : tie.Need-returns
 unfolding extent
 returns c =
@@ -28,15 +16,6 @@ returns c =
     let s = now (a .s) in
     let e1 = sym (c .before .before .read-field .ensures) ∙ ap (fieldView s) (c .enum-told .given .1) in
     rw (c .before .before .before .before .if1 .taken, ← c .before .before .before .most-of .ensures, e1)
-
-items-end-requires : tie.Need-items-end-requires
-items-end-requires c κs = search needs
-
-enum-known-next : tie.Need-enum-known-next
-enum-known-next c = search needs
-
-enum-told-2 : tie.Need-enum-told-2
-enum-told-2 c = search needs
 
 returns-2 : tie.Need-returns-2
 unfolding extent
@@ -71,14 +50,14 @@ pub read-items-spec : {M : Type 1} → statement M
 read-items-spec =
     tie.close
     (tie.spec
-    most-of-requires
-    read-field-requires
-    enum-known-n
-    enum-told
+    (search needs)
+    (search needs)
+    (search needs)
+    (search needs)
     returns
-    items-end-requires
-    enum-known-next
-    enum-told-2
+    (search needs)
+    (search needs)
+    (search needs)
     returns-2
     cast-t15
     returns-3

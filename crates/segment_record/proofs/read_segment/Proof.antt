@@ -14,15 +14,6 @@ use borrow.Author.Needs.{needs}
 use Rattle.segment_record.proofs.read_segment.Statement.{statement}
 use Rattle.segment_record.proofs.read_segment.Tie as tie
 
-read-field-requires : tie.Need-read-field-requires
-read-field-requires c κs = search needs
-
-enum-known-map : tie.Need-enum-known-map
-enum-known-map c = search needs
-
-enum-told : tie.Need-enum-told
-enum-told c = search needs
-
 returns : tie.Need-returns
 unfolding segmentRecord bitMap
 returns c =
@@ -37,18 +28,6 @@ returns-2 c =
     let e1 = sym (c .before .before .before .before .before .read-field .ensures) ∙ ap (fieldView s) (c .before .before .before .map .given .1) in
     rw (e1, sym (c .before .segment-map .ensures) ∙ not-true _ (c .if1 .taken))
 
-segment-map-requires : tie.Need-segment-map-requires
-segment-map-requires c κs = search needs
-
-read-field-requires-2 : tie.Need-read-field-requires-2
-read-field-requires-2 c κs = search needs
-
-enum-known-nidc : tie.Need-enum-known-nidc
-enum-known-nidc c = search needs
-
-enum-told-2 : tie.Need-enum-told-2
-enum-told-2 c = search needs
-
 returns-3 : tie.Need-returns-3
 unfolding segmentRecord bitMap
 returns-3 c =
@@ -57,15 +36,6 @@ returns-3 c =
     let e2 = sym (c .before .before .before .before .segment-map .ensures) ∙ not-false _ (c .before .before .before .if1 .left) in
     let e3 = sym (c .before .before .read-field2 .ensures) ∙ ap (fieldView s) (c .enum-told2 .given .1) in
     rw (e1, e2, e3)
-
-read-field-requires-3 : tie.Need-read-field-requires-3
-read-field-requires-3 c κs = search needs
-
-enum-known-nidsp : tie.Need-enum-known-nidsp
-enum-known-nidsp c = search needs
-
-enum-told-3 : tie.Need-enum-told-3
-enum-told-3 c = search needs
 
 returns-4 : tie.Need-returns-4
 unfolding segmentRecord bitMap
@@ -77,15 +47,6 @@ returns-4 c =
     let e4 = sym (c .before .before .read-field3 .ensures) ∙ ap (fieldView s) (c .enum-told3 .given .1) in
     rw (e1, e2, e3, e4)
 
-read-field-requires-4 : tie.Need-read-field-requires-4
-read-field-requires-4 c κs = search needs
-
-enum-known-length : tie.Need-enum-known-length
-enum-known-length c = search needs
-
-enum-told-4 : tie.Need-enum-told-4
-enum-told-4 c = search needs
-
 returns-5 : tie.Need-returns-5
 unfolding segmentRecord bitMap
 returns-5 c =
@@ -96,15 +57,6 @@ returns-5 c =
     let e4 = sym (c .before .before .before .before .before .before .read-field3 .ensures) ∙ ap (fieldView s) (c .before .before .before .before .nidsp .given .1) in
     let e5 = sym (c .before .before .read-field4 .ensures) ∙ ap (fieldView s) (c .enum-told4 .given .1) in
     rw (e1, e2, e3, e4, e5)
-
-read-items-requires : tie.Need-read-items-requires
-read-items-requires c κs = search needs
-
-enum-known-points : tie.Need-enum-known-points
-enum-known-points c = search needs
-
-enum-told-5 : tie.Need-enum-told-5
-enum-told-5 c = search needs
 
 returns-6 : tie.Need-returns-6
 unfolding segmentRecord bitMap
@@ -119,15 +71,6 @@ returns-6 c =
     let e5 = sym (c .before .before .before .before .before .before .read-field4 .ensures) ∙ ap (fieldView s) (c .before .before .before .before .length .given .1) in
     let e6 = listed-extent (bookPoint len) pointOf 10 (point-fixed len) (bit 3 m) 16 (drop (c .before .before .before .before .length .given .0 .1 .0) s) _ (sym (c .before .before .read-items .ensures) ∙ ap (itemsView s) (c .enum-told5 .given .1)) in
     rw (e1, e2, e3, e4, e5, e6)
-
-read-items-requires-2 : tie.Need-read-items-requires-2
-read-items-requires-2 c κs = search needs
-
-enum-known-zones : tie.Need-enum-known-zones
-enum-known-zones c = search needs
-
-enum-told-6 : tie.Need-enum-told-6
-enum-told-6 c = search needs
 
 returns-7 : tie.Need-returns-7
 unfolding segmentRecord bitMap
@@ -169,31 +112,31 @@ pub read-segment-spec : {M : Type 1} → statement M
 read-segment-spec =
     tie.close
     (tie.spec
-    read-field-requires
-    enum-known-map
-    enum-told
+    (search needs)
+    (search needs)
+    (search needs)
     returns
-    segment-map-requires
+    (search needs)
     returns-2
-    read-field-requires-2
-    enum-known-nidc
-    enum-told-2
+    (search needs)
+    (search needs)
+    (search needs)
     returns-3
-    read-field-requires-3
-    enum-known-nidsp
-    enum-told-3
+    (search needs)
+    (search needs)
+    (search needs)
     returns-4
-    read-field-requires-4
-    enum-known-length
-    enum-told-4
+    (search needs)
+    (search needs)
+    (search needs)
     returns-5
-    read-items-requires
-    enum-known-points
-    enum-told-5
+    (search needs)
+    (search needs)
+    (search needs)
     returns-6
-    read-items-requires-2
-    enum-known-zones
-    enum-told-6
+    (search needs)
+    (search needs)
+    (search needs)
     returns-7
     cast-t29
     returns-8)

@@ -10,21 +10,6 @@ use borrow.Author.Needs.{needs}
 use Rattle.segment_record.proofs.zone_in.Statement.{statement}
 use Rattle.segment_record.proofs.zone_in.Tie as tie
 
-mul-after : tie.Need-mul-after
-mul-after c = search needs
-
-after-requires : tie.Need-after-requires
-after-requires c κs = search needs
-
-after-requires-2 : tie.Need-after-requires-2
-after-requires-2 c κs = search needs
-
-be32-requires : tie.Need-be32-requires
-be32-requires c κs = search needs
-
-be32-requires-2 : tie.Need-be32-requires-2
-be32-requires-2 c κs = search needs
-
 returns : tie.Need-returns
 unfolding zoneView
 returns c =
@@ -43,10 +28,10 @@ pub zone-in-spec : {M : Type 1} → statement M
 zone-in-spec =
     tie.close
     (tie.spec
-    mul-after
-    after-requires
-    after-requires-2
-    be32-requires
-    be32-requires-2
+    (search needs)
+    (search needs)
+    (search needs)
+    (search needs)
+    (search needs)
     returns
     returns-2)

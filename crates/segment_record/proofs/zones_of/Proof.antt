@@ -6,18 +6,6 @@ use borrow.Author.Needs.{needs}
 use Rattle.segment_record.proofs.zones_of.Statement.{statement}
 use Rattle.segment_record.proofs.zones_of.Tie as tie
 
-zone-in-requires : tie.Need-zone-in-requires
-zone-in-requires c κs = search needs
-
-zone-in-requires-2 : tie.Need-zone-in-requires-2
-zone-in-requires-2 c κs = search needs
-
-zone-in-requires-3 : tie.Need-zone-in-requires-3
-zone-in-requires-3 c κs = search needs
-
-zone-in-requires-4 : tie.Need-zone-in-requires-4
-zone-in-requires-4 c κs = search needs
-
 returns : tie.Need-returns
 unfolding zonesView zoneView
 returns c =
@@ -28,8 +16,8 @@ pub zones-of-spec : {M : Type 1} → statement M
 zones-of-spec =
     tie.close
     (tie.spec
-    zone-in-requires
-    zone-in-requires-2
-    zone-in-requires-3
-    zone-in-requires-4
+    (search needs)
+    (search needs)
+    (search needs)
+    (search needs)
     returns)

@@ -8,9 +8,6 @@ use borrow.Author.Needs.{needs}
 use Rattle.state_codes.proofs.power_rows.Statement.{statement}
 use Rattle.state_codes.proofs.power_rows.Tie as tie
 
-same-requires : tie.Need-same-requires
-same-requires c κs = search needs
-
 returns : tie.Need-returns
 unfolding powerRows
 returns c = sym (ap₂ powerRows (same-state (c .before .before .before .args .s) NP (sym (c .before .before .same .ensures) ∙ c .before .if1 .taken)) (c .if2 .taken))
@@ -22,9 +19,6 @@ returns-2 c = rw (sym (c .before .before .same .ensures) ∙ c .before .if1 .tak
 returns-3 : tie.Need-returns-3
 unfolding powerRows
 returns-3 c = rw (sym (c .before .before .same .ensures) ∙ c .before .if1 .left, eq-eqb _ _ (c .if3 .taken))
-
-same-requires-2 : tie.Need-same-requires-2
-same-requires-2 c κs = search needs
 
 returns-4 : tie.Need-returns-4
 unfolding powerRows
@@ -42,11 +36,11 @@ pub power-rows-spec : {M : Type 1} → statement M
 power-rows-spec =
     tie.close
     (tie.spec
-    same-requires
+    (search needs)
     returns
     returns-2
     returns-3
-    same-requires-2
+    (search needs)
     returns-4
     returns-5
     returns-6)

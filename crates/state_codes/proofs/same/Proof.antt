@@ -4,14 +4,8 @@ use borrow.Author.Needs.{needs}
 use Rattle.state_codes.proofs.same.Statement.{statement}
 use Rattle.state_codes.proofs.same.Tie as tie
 
-code-of-requires : tie.Need-code-of-requires
-code-of-requires c κs = search needs
-
-code-of-requires-2 : tie.Need-code-of-requires-2
-code-of-requires-2 c κs = search needs
-
 returns : tie.Need-returns
 returns c = ap₂ eqb (c .before .code-of .ensures .0) (c .code-of2 .ensures .0)
 
 pub same-spec : {M : Type 1} → statement M
-same-spec = tie.close (tie.spec code-of-requires code-of-requires-2 returns)
+same-spec = tie.close (tie.spec (search needs) (search needs) returns)

@@ -8,9 +8,6 @@ use borrow.Author.Needs.{needs}
 use Rattle.state_codes.proofs.state_row.Statement.{statement}
 use Rattle.state_codes.proofs.state_row.Tie as tie
 
-same-requires : tie.Need-same-requires
-same-requires c κs = search needs
-
 returns : tie.Need-returns
 unfolding stateRow
 returns c = sym (ap₂ stateRow (same-state (c .before .before .before .args .s) CO (sym (c .before .same .ensures) ∙ c .if2 .taken)) (c .before .before .if1 .taken))
@@ -18,9 +15,6 @@ returns c = sym (ap₂ stateRow (same-state (c .before .before .before .args .s)
 returns-2 : tie.Need-returns-2
 unfolding stateRow
 returns-2 c = rw (eq-eqb _ _ (c .before .before .if1 .taken), sym (c .before .same .ensures) ∙ c .if2 .left)
-
-same-requires-2 : tie.Need-same-requires-2
-same-requires-2 c κs = search needs
 
 returns-3 : tie.Need-returns-3
 unfolding stateRow
@@ -37,4 +31,4 @@ returns-5 c = rw (ne-eqb _ _ (c .before .if1 .left), ne-eqb _ _ (c .if3 .left))
 pub state-row-spec : {M : Type 1} → statement M
 state-row-spec =
     tie.close
-    (tie.spec same-requires returns returns-2 same-requires-2 returns-3 returns-4 returns-5)
+    (tie.spec (search needs) returns returns-2 (search needs) returns-3 returns-4 returns-5)

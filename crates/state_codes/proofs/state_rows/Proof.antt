@@ -6,18 +6,6 @@ use borrow.Author.Needs.{needs}
 use Rattle.state_codes.proofs.state_rows.Statement.{statement}
 use Rattle.state_codes.proofs.state_rows.Tie as tie
 
-power-rows-requires : tie.Need-power-rows-requires
-power-rows-requires c κs = search needs
-
-enum-told : tie.Need-enum-told
-enum-told c = search needs
-
-state-row-requires : tie.Need-state-row-requires
-state-row-requires c κs = search needs
-
-enum-known-n : tie.Need-enum-known-n
-enum-known-n c = search needs
-
 returns : tie.Need-returns
 unfolding stateRows
 returns c = let a = c .before .before .before .before .args in
@@ -29,4 +17,4 @@ returns-2 c = let a = c .before .before .before .before .args in
     ap (λ (x : Judged (Unit {0})). thenJudge x (λ t. stateRow (a .s) (a .kind))) (sym (ap verdictView (c .before .n .given .1)) ∙ c .before .before .before .power-rows .ensures)
 
 pub state-rows-spec : {M : Type 1} → statement M
-state-rows-spec = tie.close (tie.spec power-rows-requires enum-told state-row-requires enum-known-n returns returns-2)
+state-rows-spec = tie.close (tie.spec (search needs) (search needs) (search needs) (search needs) returns returns-2)

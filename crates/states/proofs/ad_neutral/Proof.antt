@@ -4,17 +4,11 @@ use borrow.Author.Needs.{needs}
 use Rattle.states.proofs.ad_neutral.Statement.{statement}
 use Rattle.states.proofs.ad_neutral.Tie as tie
 
-is-ad-requires : tie.Need-is-ad-requires
-is-ad-requires c κs = search needs
-
 returns : tie.Need-returns
 returns c = rw (sym (c .before .is-ad .ensures) ∙ not-true _ (c .if1 .taken))
-
-is-neutral-requires : tie.Need-is-neutral-requires
-is-neutral-requires c κs = search needs
 
 returns-2 : tie.Need-returns-2
 returns-2 c = c .is-neutral .ensures ∙ rw (sym (c .before .before .is-ad .ensures) ∙ not-false _ (c .before .if1 .left))
 
 pub ad-neutral-spec : {M : Type 1} → statement M
-ad-neutral-spec = tie.close (tie.spec is-ad-requires returns is-neutral-requires returns-2)
+ad-neutral-spec = tie.close (tie.spec (search needs) returns (search needs) returns-2)

@@ -5,66 +5,6 @@ use borrow.Author.Needs.{needs}
 use Rattle.states.proofs.by_state.Statement.{statement}
 use Rattle.states.proofs.by_state.Tie as tie
 
-enum-told : tie.Need-enum-told
-enum-told c = search needs
-
-at-rest-requires : tie.Need-at-rest-requires
-at-rest-requires c κs = search needs
-
-enum-told-2 : tie.Need-enum-told-2
-enum-told-2 c = search needs
-
-at-rest-requires-2 : tie.Need-at-rest-requires-2
-at-rest-requires-2 c κs = search needs
-
-enum-told-3 : tie.Need-enum-told-3
-enum-told-3 c = search needs
-
-u-requires : tie.Need-u-requires
-u-requires c κs = search needs
-
-at-rest-requires-3 : tie.Need-at-rest-requires-3
-at-rest-requires-3 c κs = search needs
-
-enum-told-4 : tie.Need-enum-told-4
-enum-told-4 c = search needs
-
-u-requires-2 : tie.Need-u-requires-2
-u-requires-2 c κs = search needs
-
-at-rest-requires-4 : tie.Need-at-rest-requires-4
-at-rest-requires-4 c κs = search needs
-
-enum-told-5 : tie.Need-enum-told-5
-enum-told-5 c = search needs
-
-from-re-requires : tie.Need-from-re-requires
-from-re-requires c κs = search needs
-
-enum-told-6 : tie.Need-enum-told-6
-enum-told-6 c = search needs
-
-from-eg-requires : tie.Need-from-eg-requires
-from-eg-requires c κs = search needs
-
-at-rest-requires-5 : tie.Need-at-rest-requires-5
-at-rest-requires-5 c κs = search needs
-
-enum-told-7 : tie.Need-enum-told-7
-enum-told-7 c = search needs
-
-from-de-requires : tie.Need-from-de-requires
-from-de-requires c κs = search needs
-
-at-rest-requires-6 : tie.Need-at-rest-requires-6
-at-rest-requires-6 c κs = search needs
-
-enum-told-8 : tie.Need-enum-told-8
-enum-told-8 c = search needs
-
-at-rest-requires-7 : tie.Need-at-rest-requires-7
-at-rest-requires-7 c κs = search needs
-
 returns : tie.Need-returns
 returns c = c .at-rest .ensures ∙ sym (ap (λ s. byState s (c .before .before .before .args .press) (c .before .before .before .args .reached) (c .before .before .before .args .v)) (c .before .enum-told .given .1))
 
@@ -93,26 +33,26 @@ pub by-state-spec : {M : Type 1} → statement M
 by-state-spec =
     tie.close
     (tie.spec
-    enum-told
-    at-rest-requires
-    enum-told-2
-    at-rest-requires-2
-    enum-told-3
-    u-requires
-    at-rest-requires-3
-    enum-told-4
-    u-requires-2
-    at-rest-requires-4
-    enum-told-5
-    from-re-requires
-    enum-told-6
-    from-eg-requires
-    at-rest-requires-5
-    enum-told-7
-    from-de-requires
-    at-rest-requires-6
-    enum-told-8
-    at-rest-requires-7
+    (search needs)
+    (search needs)
+    (search needs)
+    (search needs)
+    (search needs)
+    (search needs)
+    (search needs)
+    (search needs)
+    (search needs)
+    (search needs)
+    (search needs)
+    (search needs)
+    (search needs)
+    (search needs)
+    (search needs)
+    (search needs)
+    (search needs)
+    (search needs)
+    (search needs)
+    (search needs)
     returns
     returns-2
     returns-3

@@ -7,21 +7,6 @@ use borrow.Author.Needs.{needs}
 use Rattle.states.proofs.control_after.Statement.{statement}
 use Rattle.states.proofs.control_after.Tie as tie
 
-values-in-requires : tie.Need-values-in-requires
-values-in-requires c κs = search needs
-
-machine-in-requires : tie.Need-machine-in-requires
-machine-in-requires c κs = search needs
-
-machine-after-requires : tie.Need-machine-after-requires
-machine-after-requires c κs = search needs
-
-given-requires : tie.Need-given-requires
-given-requires c κs = search needs
-
-code-of-requires : tie.Need-code-of-requires
-code-of-requires c κs = search needs
-
 returns : tie.Need-returns
 unfolding controlAfter
 returns c =
@@ -33,9 +18,9 @@ pub control-after-spec : {M : Type 1} → statement M
 control-after-spec =
     tie.close
     (tie.spec
-    values-in-requires
-    machine-in-requires
-    machine-after-requires
-    given-requires
-    code-of-requires
+    (search needs)
+    (search needs)
+    (search needs)
+    (search needs)
+    (search needs)
     returns)

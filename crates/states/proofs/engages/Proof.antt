@@ -13,14 +13,8 @@ returns-2 c = let press = c .before .before .before .args .press in let v = c .b
 returns-3 : tie.Need-returns-3
 returns-3 c = let press = c .before .before .before .before .before .args .press in let v = c .before .before .before .before .before .args .v in rw (not-false (press) (c .before .before .before .before .if1 .left), not-false (v .O) (c .before .before .if2 .left), not-true (v .T) (c .if3 .taken))
 
-is-neutral-requires : tie.Need-is-neutral-requires
-is-neutral-requires c κs = search needs
-
 returns-4 : tie.Need-returns-4
 returns-4 c = let press = c .before .before .before .before .before .before .before .args .press in let v = c .before .before .before .before .before .before .before .args .v in rw (not-false (press) (c .before .before .before .before .before .before .if1 .left), not-false (v .O) (c .before .before .before .before .if2 .left), not-false (v .T) (c .before .before .if3 .left), sym (c .before .is-neutral .ensures) ∙ not-true _ (c .if4 .taken))
-
-is-ad-requires : tie.Need-is-ad-requires
-is-ad-requires c κs = search needs
 
 returns-5 : tie.Need-returns-5
 returns-5 c = let press = c .before .before .before .before .before .before .before .before .args .press in let v = c .before .before .before .before .before .before .before .before .args .v in c .is-ad .ensures ∙ rw (not-false (press) (c .before .before .before .before .before .before .before .if1 .left), not-false (v .O) (c .before .before .before .before .before .if2 .left), not-false (v .T) (c .before .before .before .if3 .left), sym (c .before .before .is-neutral .ensures) ∙ not-false _ (c .before .if4 .left))
@@ -28,4 +22,4 @@ returns-5 c = let press = c .before .before .before .before .before .before .bef
 pub engages-spec : {M : Type 1} → statement M
 engages-spec =
     tie.close
-    (tie.spec returns returns-2 returns-3 is-neutral-requires returns-4 is-ad-requires returns-5)
+    (tie.spec returns returns-2 returns-3 (search needs) returns-4 (search needs) returns-5)

@@ -4,12 +4,6 @@ use borrow.Author.Needs.{needs}
 use Rattle.states.proofs.from_eg.Statement.{statement}
 use Rattle.states.proofs.from_eg.Tie as tie
 
-leaves-requires : tie.Need-leaves-requires
-leaves-requires c κs = search needs
-
-u-requires : tie.Need-u-requires
-u-requires c κs = search needs
-
 returns : tie.Need-returns
 returns c = c .u .ensures ∙ rw (sym (c .before .before .leaves .ensures) ∙ c .before .if1 .taken)
 
@@ -24,4 +18,4 @@ returns-4 c = let v = c .before .before .before .before .before .args .v in rw (
 
 pub from-eg-spec : {M : Type 1} → statement M
 from-eg-spec =
-    tie.close (tie.spec leaves-requires u-requires returns returns-2 returns-3 returns-4)
+    tie.close (tie.spec (search needs) (search needs) returns returns-2 returns-3 returns-4)

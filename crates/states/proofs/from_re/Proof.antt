@@ -10,26 +10,11 @@ use borrow.Author.Needs.{needs}
 use Rattle.states.proofs.from_re.Statement.{statement}
 use Rattle.states.proofs.from_re.Tie as tie
 
-engages-requires : tie.Need-engages-requires
-engages-requires c κs = search needs
-
-at-rest-requires : tie.Need-at-rest-requires
-at-rest-requires c κs = search needs
-
 returns : tie.Need-returns
 returns c = c .at-rest .ensures ∙ rw (sym (c .before .before .engages .ensures) ∙ c .before .if1 .taken)
 
-u-requires : tie.Need-u-requires
-u-requires c κs = search needs
-
-at-rest-requires-2 : tie.Need-at-rest-requires-2
-at-rest-requires-2 c κs = search needs
-
 returns-2 : tie.Need-returns-2
 returns-2 c = c .at-rest2 .ensures ∙ ap (λ s. machine s false) (c .before .before .u .ensures) ∙ rw (not-true (c .before .before .before .before .before .args .press) (c .before .if2 .taken))
-
-same-requires : tie.Need-same-requires
-same-requires c κs = search needs
 
 returns-3 : tie.Need-returns-3
 returns-3 c = ap₂ machine (c .before .before .u .ensures) (c .same .ensures ∙ ap (λ s. is s RE) (c .before .before .u .ensures)) ∙ press-stays (c .before .before .before .before .before .args .press) (c .before .before .before .before .before .args .v) (sym (c .before .before .before .before .engages .ensures) ∙ c .before .before .before .if1 .left) (not-false (c .before .before .before .before .before .args .press) (c .before .if2 .left))
@@ -38,11 +23,11 @@ pub from-re-spec : {M : Type 1} → statement M
 from-re-spec =
     tie.close
     (tie.spec
-    engages-requires
-    at-rest-requires
+    (search needs)
+    (search needs)
     returns
-    u-requires
-    at-rest-requires-2
+    (search needs)
+    (search needs)
     returns-2
-    same-requires
+    (search needs)
     returns-3)

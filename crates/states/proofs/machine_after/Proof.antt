@@ -12,48 +12,6 @@ use Rattle.states.proofs.machine_after.Tie as tie
 by-rows : (m : Machine) (r : Bool) (v : Values) {z : Machine} {w x y : Row} → z ≡ byRow m y r v → w ≡ x → w ≡ y → z ≡ byRow m x r v
 by-rows m r v z q e = z ∙ ap (λ k. byRow m k r v) (sym e ∙ q)
 
-row-of-requires : tie.Need-row-of-requires
-row-of-requires c κs = search needs
-
-enum-told : tie.Need-enum-told
-enum-told c = search needs
-
-at-rest-requires : tie.Need-at-rest-requires
-at-rest-requires c κs = search needs
-
-enum-told-2 : tie.Need-enum-told-2
-enum-told-2 c = search needs
-
-u-requires : tie.Need-u-requires
-u-requires c κs = search needs
-
-at-rest-requires-2 : tie.Need-at-rest-requires-2
-at-rest-requires-2 c κs = search needs
-
-enum-told-3 : tie.Need-enum-told-3
-enum-told-3 c = search needs
-
-at-rest-requires-3 : tie.Need-at-rest-requires-3
-at-rest-requires-3 c κs = search needs
-
-enum-told-4 : tie.Need-enum-told-4
-enum-told-4 c = search needs
-
-at-rest-requires-4 : tie.Need-at-rest-requires-4
-at-rest-requires-4 c κs = search needs
-
-enum-told-5 : tie.Need-enum-told-5
-enum-told-5 c = search needs
-
-by-state-requires : tie.Need-by-state-requires
-by-state-requires c κs = search needs
-
-enum-told-6 : tie.Need-enum-told-6
-enum-told-6 c = search needs
-
-by-state-requires-2 : tie.Need-by-state-requires-2
-by-state-requires-2 c κs = search needs
-
 returns : tie.Need-returns
 unfolding machineAfter
 returns c = by-rows (c .before .before .before .before .args .m) (c .before .before .before .before .args .reached) (c .before .before .before .before .args .v) (c .at-rest .ensures) (c .before .before .before .row-of .ensures) (c .before .enum-told .given .1)
@@ -82,20 +40,20 @@ pub machine-after-spec : {M : Type 1} → statement M
 machine-after-spec =
     tie.close
     (tie.spec
-    row-of-requires
-    enum-told
-    at-rest-requires
-    enum-told-2
-    u-requires
-    at-rest-requires-2
-    enum-told-3
-    at-rest-requires-3
-    enum-told-4
-    at-rest-requires-4
-    enum-told-5
-    by-state-requires
-    enum-told-6
-    by-state-requires-2
+    (search needs)
+    (search needs)
+    (search needs)
+    (search needs)
+    (search needs)
+    (search needs)
+    (search needs)
+    (search needs)
+    (search needs)
+    (search needs)
+    (search needs)
+    (search needs)
+    (search needs)
+    (search needs)
     returns
     returns-2
     returns-3

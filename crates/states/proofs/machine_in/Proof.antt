@@ -4,11 +4,8 @@ use borrow.Author.Needs.{needs}
 use Rattle.states.proofs.machine_in.Statement.{statement}
 use Rattle.states.proofs.machine_in.Tie as tie
 
-state-at-requires : tie.Need-state-at-requires
-state-at-requires c κs = search needs
-
 returns : tie.Need-returns
 returns c = ap (λ s. machine s (c .before .args .c .press)) (c .state-at .ensures)
 
 pub machine-in-spec : {M : Type 1} → statement M
-machine-in-spec = tie.close (tie.spec state-at-requires returns)
+machine-in-spec = tie.close (tie.spec (search needs) returns)

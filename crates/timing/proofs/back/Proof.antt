@@ -8,9 +8,6 @@ use Rattle.timing.proofs.back.Tie as tie
 returns : tie.Need-returns
 returns c = (sym (rw (eq-eqb _ _ (c .if1 .taken))), search needs)
 
-cast-result : tie.Need-cast-result
-cast-result c = search needs
-
 returns-2 : tie.Need-returns-2
 returns-2 c = (sym (simp (ne-eqb _ _ (c .before .if1 .left), eq-eqb _ _ (c .if2 .taken))), omega arith)
 
@@ -18,4 +15,4 @@ returns-3 : tie.Need-returns-3
 returns-3 c = (sym (simp (ne-eqb _ _ (c .before .if1 .left), ne-eqb _ _ (c .if2 .left))), omega arith)
 
 pub back-spec : {M : Type 1} → statement M
-back-spec = tie.close (tie.spec returns cast-result returns-2 returns-3)
+back-spec = tie.close (tie.spec returns (search needs) returns-2 returns-3)

@@ -8,18 +8,9 @@ use borrow.Author.Needs.{needs}
 use Rattle.timing.proofs.exceeds.Statement.{statement}
 use Rattle.timing.proofs.exceeds.Tie as tie
 
-distance-requires : tie.Need-distance-requires
-distance-requires c κs = search needs
-
-margin-requires : tie.Need-margin-requires
-margin-requires c κs = search needs
-
-cast-result : tie.Need-cast-result
-cast-result c = search needs
-
 returns : tie.Need-returns
 returns c = rw (toZ-pos w64 {n = c .margin .result} (omega arith), toZ-ofZ (record { sfits = c .before .distance .ok }))
     (ap₂ (λ m d. ltZ (pos m) d) (c .margin .ensures) (c .before .distance .ensures))
 
 pub exceeds-spec : {M : Type 1} → statement M
-exceeds-spec = tie.close (tie.spec distance-requires margin-requires cast-result returns)
+exceeds-spec = tie.close (tie.spec (search needs) (search needs) (search needs) returns)

@@ -5,15 +5,9 @@ use borrow.Author.Needs.{needs}
 use Rattle.timing.proofs.look_from.Statement.{statement}
 use Rattle.timing.proofs.look_from.Tie as tie
 
-enum-known-f : tie.Need-enum-known-f
-enum-known-f c = search needs
-
 look-requires : tie.Need-look-requires
 look-requires c κs = let b = c .before .before .before in
     (sym (b .pre .0) ∙ c .before .f .given .1, subst (FrontBelow _) (c .before .f .given .1) (b .pre .1))
-
-enum-told : tie.Need-enum-told
-enum-told c = search needs
 
 returns : tie.Need-returns
 returns c = search needs
@@ -22,4 +16,4 @@ returns-2 : tie.Need-returns-2
 returns-2 c = sym (look-unknown _ _ (sym (c .before .before .pre .0) ∙ c .enum-told .given .1) _ _)
 
 pub look-from-spec : {M : Type 1} → statement M
-look-from-spec = tie.close (tie.spec enum-known-f look-requires enum-told returns returns-2)
+look-from-spec = tie.close (tie.spec (search needs) look-requires (search needs) returns returns-2)

@@ -5,18 +5,9 @@ use borrow.Author.Needs.{needs}
 use Rattle.timing.proofs.report.Statement.{statement}
 use Rattle.timing.proofs.report.Tie as tie
 
-segment-named-requires : tie.Need-segment-named-requires
-segment-named-requires c κs = search needs
-
 returns : tie.Need-returns
 returns c = let g = c .before .before .before .before .segment-named in
     report-stays _ _ _ (g .result) (g .ensures) (c .before .before .if1 .taken) (c .if2 .taken)
-
-following-requires : tie.Need-following-requires
-following-requires c κs = search needs
-
-front-in-requires : tie.Need-front-in-requires
-front-in-requires c κs = search needs
 
 look-from-requires : tie.Need-look-from-requires
 look-from-requires c κs = let s = c .before .before .before .before .before .before in
@@ -25,9 +16,6 @@ look-from-requires c κs = let s = c .before .before .before .before .before .be
 returns-2 : tie.Need-returns-2
 returns-2 c = let s = c .before .before .before in let g = s .before .before .before .before .segment-named in
     report-departs _ _ _ (g .result) (g .ensures) (s .before .before .if1 .taken) (s .if2 .left) _ (c .before .before .following .ensures) _ (c .look-from .ensures)
-
-front-in-requires-2 : tie.Need-front-in-requires-2
-front-in-requires-2 c κs = search needs
 
 look-from-requires-2 : tie.Need-look-from-requires-2
 look-from-requires-2 c κs = let s = c .before .before .before in
@@ -41,12 +29,12 @@ pub report-spec : {M : Type 1} → statement M
 report-spec =
     tie.close
     (tie.spec
-    segment-named-requires
+    (search needs)
     returns
-    following-requires
-    front-in-requires
+    (search needs)
+    (search needs)
     look-from-requires
     returns-2
-    front-in-requires-2
+    (search needs)
     look-from-requires-2
     returns-3)

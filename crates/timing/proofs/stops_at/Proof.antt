@@ -18,15 +18,6 @@ still c =
     (λ w. absurd (false≢true (sym (w .1 ∙ w .0 .left) ∙ c .if2 .taken)))
     (c .before .if1 .came)
 
-unskipped-requires : tie.Need-unskipped-requires
-unskipped-requires c κs = search needs
-
-distance-requires : tie.Need-distance-requires
-distance-requires c κs = search needs
-
-cast-result : tie.Need-cast-result
-cast-result c = search needs
-
 sub-result : tie.Need-sub-result
 sub-result c = sub-fits 0 (c .before .before .before .before .before .args .p .reach) (lit< tt) (omega arith)
 
@@ -43,4 +34,4 @@ returns-2 c = let u = sym (c .before .before .unskipped .ensures) in
 pub stops-at-spec : {M : Type 1} → statement M
 stops-at-spec =
     tie.close
-    (tie.spec unskipped-requires distance-requires cast-result sub-result returns returns-2)
+    (tie.spec (search needs) (search needs) (search needs) sub-result returns returns-2)

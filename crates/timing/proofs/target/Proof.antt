@@ -6,17 +6,8 @@ use borrow.Author.Needs.{needs}
 use Rattle.timing.proofs.target.Statement.{statement}
 use Rattle.timing.proofs.target.Tie as tie
 
-front-position-requires : tie.Need-front-position-requires
-front-position-requires c κs = search needs
-
-enum-known-f : tie.Need-enum-known-f
-enum-known-f c = search needs
-
 first-ahead-requires : tie.Need-first-ahead-requires
 first-ahead-requires c κs = (sym (c .before .before .before .front-position .ensures .0) ∙ c .before .f .given .1, subst (FrontBelow _) (c .before .f .given .1) (c .before .before .before .front-position .ensures .1))
-
-enum-told : tie.Need-enum-told
-enum-told c = search needs
 
 returns : tie.Need-returns
 returns c = search needs
@@ -29,9 +20,9 @@ pub target-spec : {M : Type 1} → statement M
 target-spec =
     tie.close
     (tie.spec
-    front-position-requires
-    enum-known-f
+    (search needs)
+    (search needs)
     first-ahead-requires
-    enum-told
+    (search needs)
     returns
     returns-2)

@@ -11,23 +11,8 @@ use Rattle.player_text.proofs.calls.block_at.Tie as tie
 returns : tie.Need-returns
 returns c = block-missing (now (c .before .before .args .s)) (c .before .before .args .at) (omega arith)
 
-sub-if2 : tie.Need-sub-if2
-sub-if2 c = search needs
-
 returns-2 : tie.Need-returns-2
 returns-2 c = block-missing (now (c .before .before .before .args .s)) (c .before .before .before .args .at) (omega arith)
-
-add-start : tie.Need-add-start
-add-start c = search needs
-
-be16-requires : tie.Need-be16-requires
-be16-requires c κs = search needs
-
-cast-count : tie.Need-cast-count
-cast-count c = search needs
-
-sub-if3 : tie.Need-sub-if3
-sub-if3 c = search needs
 
 returns-3 : tie.Need-returns-3
 returns-3 c =
@@ -36,9 +21,6 @@ returns-3 c =
     let h : number 2 (drop at s) ≤ 65535 = omega arith in
     let g : length s - (at + 2) < number 2 (drop at s) = omega arith in
     block-cut s at (omega arith) h g
-
-add-t5 : tie.Need-add-t5
-add-t5 c = search needs
 
 returns-4 : tie.Need-returns-4
 returns-4 c =
@@ -53,12 +35,12 @@ block-at-spec =
     tie.close
     (tie.spec
     returns
-    sub-if2
+    (search needs)
     returns-2
-    add-start
-    be16-requires
-    cast-count
-    sub-if3
+    (search needs)
+    (search needs)
+    (search needs)
+    (search needs)
     returns-3
-    add-t5
+    (search needs)
     returns-4)

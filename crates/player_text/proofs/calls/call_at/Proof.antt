@@ -6,24 +6,9 @@ use borrow.Author.Needs.{needs}
 use Rattle.player_text.proofs.calls.call_at.Statement.{statement}
 use Rattle.player_text.proofs.calls.call_at.Tie as tie
 
-block-at-requires : tie.Need-block-at-requires
-block-at-requires c κs = search needs
-
-enum-known-event : tie.Need-enum-known-event
-enum-known-event c = search needs
-
-enum-told : tie.Need-enum-told
-enum-told c = search needs
-
 returns : tie.Need-returns
 unfolding call
 returns c = rw (sym (c .before .before .block-at .ensures) ∙ ap (blockView (now (c .before .before .before .before .args .s))) (c .enum-told .given .1))
-
-is-load-requires : tie.Need-is-load-requires
-is-load-requires c κs = search needs
-
-load-at-requires : tie.Need-load-at-requires
-load-at-requires c κs = search needs
 
 returns-2 : tie.Need-returns-2
 unfolding call
@@ -43,11 +28,11 @@ pub call-at-spec : {M : Type 1} → statement M
 call-at-spec =
     tie.close
     (tie.spec
-    block-at-requires
-    enum-known-event
-    enum-told
+    (search needs)
+    (search needs)
+    (search needs)
     returns
-    is-load-requires
-    load-at-requires
+    (search needs)
+    (search needs)
     returns-2
     returns-3)

@@ -6,27 +6,9 @@ use borrow.Author.Needs.{needs}
 use Rattle.player_text.proofs.calls.load_at.Statement.{statement}
 use Rattle.player_text.proofs.calls.load_at.Tie as tie
 
-block-at-requires : tie.Need-block-at-requires
-block-at-requires c κs = search needs
-
-enum-known-journey : tie.Need-enum-known-journey
-enum-known-journey c = search needs
-
-enum-told : tie.Need-enum-told
-enum-told c = search needs
-
 returns : tie.Need-returns
 unfolding profiles
 returns c = rw (sym (c .before .before .block-at .ensures) ∙ ap (blockView (now (c .before .before .before .before .args .s))) (c .enum-told .given .1))
-
-block-at-requires-2 : tie.Need-block-at-requires-2
-block-at-requires-2 c κs = search needs
-
-enum-known-book : tie.Need-enum-known-book
-enum-known-book c = search needs
-
-enum-told-2 : tie.Need-enum-told-2
-enum-told-2 c = search needs
 
 returns-2 : tie.Need-returns-2
 unfolding profiles
@@ -48,12 +30,12 @@ pub load-at-spec : {M : Type 1} → statement M
 load-at-spec =
     tie.close
     (tie.spec
-    block-at-requires
-    enum-known-journey
-    enum-told
+    (search needs)
+    (search needs)
+    (search needs)
     returns
-    block-at-requires-2
-    enum-known-book
-    enum-told-2
+    (search needs)
+    (search needs)
+    (search needs)
     returns-2
     returns-3)

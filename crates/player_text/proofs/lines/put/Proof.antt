@@ -5,15 +5,6 @@ use borrow.Author.Needs.{needs}
 use Rattle.player_text.proofs.lines.put.Statement.{statement}
 use Rattle.player_text.proofs.lines.put.Tie as tie
 
-slice-write-text : tie.Need-slice-write-text
-slice-write-text c = search needs
-
-add-result : tie.Need-add-result
-add-result c = search needs
-
-same-length : tie.Need-same-length
-same-length c = search needs
-
 returns : tie.Need-returns
 returns c = search needs
 
@@ -21,4 +12,4 @@ returns-2 : tie.Need-returns-2
 returns-2 c = record { stored = sym (set-out _ _ _ (c .if1 .left)); behind = omega arith }
 
 pub put-spec : {M : Type 1} → statement M
-put-spec = tie.close (tie.spec slice-write-text add-result same-length returns returns-2)
+put-spec = tie.close (tie.spec (search needs) (search needs) (search needs) returns returns-2)

@@ -4,33 +4,9 @@ use borrow.Author.Needs.{needs}
 use Rattle.player_text.proofs.lines.put_answer.Statement.{statement}
 use Rattle.player_text.proofs.lines.put_answer.Tie as tie
 
-enum-known-a : tie.Need-enum-known-a
-enum-known-a c = search needs
-
-put-refused-requires : tie.Need-put-refused-requires
-put-refused-requires c κs = search needs
-
-enum-known-a-2 : tie.Need-enum-known-a-2
-enum-known-a-2 c = search needs
-
-put-accepted-requires : tie.Need-put-accepted-requires
-put-accepted-requires c κs = search needs
-
-front-requires : tie.Need-front-requires
-front-requires c κs = search needs
-
-put-packets-requires : tie.Need-put-packets-requires
-put-packets-requires c κs = search needs
-
-same-length : tie.Need-same-length
-same-length c = search needs
-
 returns : tie.Need-returns
 unfolding lines
 returns c = rw (c .before .before .before .before .before .a .given .1) (c .before .before .put-refused .ensures)
-
-same-length-2 : tie.Need-same-length-2
-same-length-2 c = search needs
 
 returns-2 : tie.Need-returns-2
 unfolding lines
@@ -42,13 +18,13 @@ pub put-answer-spec : {M : Type 1} → statement M
 put-answer-spec =
     tie.close
     (tie.spec
-    enum-known-a
-    put-refused-requires
-    enum-known-a-2
-    put-accepted-requires
-    front-requires
-    put-packets-requires
-    same-length
+    (search needs)
+    (search needs)
+    (search needs)
+    (search needs)
+    (search needs)
+    (search needs)
+    (search needs)
     returns
-    same-length-2
+    (search needs)
     returns-2)

@@ -3,17 +3,8 @@ use borrow.Author.Needs.{needs}
 use Rattle.player_text.proofs.lines.put_number.Statement.{statement}
 use Rattle.player_text.proofs.lines.put_number.Tie as tie
 
-put-requires : tie.Need-put-requires
-put-requires c κs = search needs
-
-put-decimal-requires : tie.Need-put-decimal-requires
-put-decimal-requires c κs = search needs
-
-same-length : tie.Need-same-length
-same-length c = search needs
-
 returns : tie.Need-returns
 returns c = put-then _ _ (c .before .before .before .before .before .before .put .ensures) (c .before .before .put-decimal .ensures)
 
 pub put-number-spec : {M : Type 1} → statement M
-put-number-spec = tie.close (tie.spec put-requires put-decimal-requires same-length returns)
+put-number-spec = tie.close (tie.spec (search needs) (search needs) (search needs) returns)

@@ -7,11 +7,8 @@ use borrow.Author.Needs.{needs}
 use Rattle.player_text.proofs.parts.front.Statement.{statement}
 use Rattle.player_text.proofs.parts.front.Tie as tie
 
-bytes-of-requires : tie.Need-bytes-of-requires
-bytes-of-requires c κs = search needs
-
 returns : tie.Need-returns
 returns c = c .bytes-of .ensures ∙ ap (λ (k : ℕ). take k (now (c .before .before .args .s))) (sub-zero (c .before .before .args .n))
 
 pub front-spec : {M : Type 1} → statement M
-front-spec = tie.close (tie.spec bytes-of-requires returns)
+front-spec = tie.close (tie.spec (search needs) returns)

@@ -8,13 +8,10 @@ use borrow.Author.Needs.{needs}
 use Rattle.player_text.proofs.parts.rest.Statement.{statement}
 use Rattle.player_text.proofs.parts.rest.Tie as tie
 
-bytes-of-requires : tie.Need-bytes-of-requires
-bytes-of-requires c κs = search needs
-
 returns : tie.Need-returns
 returns c =
     let a = c .before .before .args in
     c .bytes-of .ensures ∙ take-all (length (now (a .s)) - a .at) (drop (a .at) (now (a .s))) (rw length-drop (omega arith))
 
 pub rest-spec : {M : Type 1} → statement M
-rest-spec = tie.close (tie.spec bytes-of-requires returns)
+rest-spec = tie.close (tie.spec (search needs) returns)
