@@ -16,6 +16,12 @@ known c =
     let a = c₁ .before .before .args in
     decided (a .e) (a .v) (a .f) _ _ _ _ _ _ _ (c₁ .conditions .ensures) (c₂ .conditions2 .ensures) (m .after-rows .ensures) (s₁ .status .ensures) (s₂ .status2 .ensures) (d .status-due .ensures) (w .writes-of .ensures)
 
+conditions-requires : tie.Need-conditions-requires
+conditions-requires c κs = search needs
+
+conditions-requires-2 : tie.Need-conditions-requires-2
+conditions-requires-2 c κs = search needs
+
 returns : tie.Need-returns
 returns c = let s = c .before .before in concluded-16 (known s) _ _ (s .size .ensures) _ (c .before .if1 .taken) (c .refused .ensures)
 
@@ -31,9 +37,9 @@ pub conclude-spec : {M : Type 1} → statement M
 conclude-spec =
     tie.close
     (tie.spec
+    conditions-requires
     (search needs)
-    (search needs)
-    (search needs)
+    conditions-requires-2
     (search needs)
     (search needs)
     (search needs)
