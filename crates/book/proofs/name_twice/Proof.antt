@@ -18,9 +18,4 @@ returns c = c .repeated .ensures ∙ ap (twice eqb) (c .before .before .names-of
 pub name-twice-spec : {M : Type 1} → statement M
 name-twice-spec =
     tie.close
-    (tie.spec
-    (search needs)
-    (search needs)
-    slice-aggregate-repeated
-    (search needs)
-    returns)
+    (tie.spec (search needs) (search needs) slice-aggregate-repeated (search needs) returns)

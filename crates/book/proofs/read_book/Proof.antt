@@ -63,19 +63,6 @@ returns-5 c =
 pub read-book-spec : {M : Type 1} → statement M
 read-book-spec =
     tie.close
-    (tie.spec
-    (search needs)
-    (search needs)
-    (search needs)
-    (search needs)
-    returns
-    (search needs)
-    returns-2
-    (search needs)
-    (search needs)
-    (search needs)
-    returns-3
-    point-twice-requires
-    (search needs)
-    returns-4
+    (tie.spec (search needs) (search needs) (search needs) (search needs) returns (search needs) returns-2
+    (search needs) (search needs) (search needs) returns-3 point-twice-requires (search needs) returns-4
     returns-5)

@@ -25,4 +25,5 @@ returns-3 c = let s = c .before .before .before in let a = s .before .before .be
     one-left (routeIn (a .t1)) (a .p) (not-false _ (s .before .before .before .if1 .left)) _ (s .before .points-loaded .ensures) (c .before .before .if2 .left)
 
 pub profiles-there-spec : {M : Type 1} → statement M
-profiles-there-spec = tie.close (tie.spec returns (search needs) returns-2 (search needs) mul-point element-copy-out-point returns-3)
+profiles-there-spec = tie.close (tie.spec returns (search needs) returns-2 (search needs) mul-point
+    element-copy-out-point returns-3)

@@ -19,13 +19,5 @@ returns-4 c = sym (ap behind (sym (c .before .before .standing-of .ensures) ∙ 
 pub is-behind-spec : {M : Type 1} → statement M
 is-behind-spec =
     tie.close
-    (tie.spec
-    (search needs)
-    (search needs)
-    (search needs)
-    (search needs)
-    (search needs)
-    returns
-    returns-2
-    returns-3
-    returns-4)
+    (tie.spec (search needs) (search needs) (search needs) (search needs) (search needs) returns returns-2
+    returns-3 returns-4)

@@ -23,11 +23,4 @@ returns-2 c = let k = c .before .before in
 pub skip-spec : {M : Type 1} → statement M
 skip-spec =
     tie.close
-    (tie.spec
-    (search needs)
-    (search needs)
-    (search needs)
-    (search needs)
-    returns
-    skip-at-requires
-    returns-2)
+    (tie.spec (search needs) (search needs) (search needs) (search needs) returns skip-at-requires returns-2)

@@ -31,16 +31,5 @@ returns-3 c =
 pub skip-at-spec : {M : Type 1} → statement M
 skip-at-spec =
     tie.close
-    (tie.spec
-    (search needs)
-    (search needs)
-    (search needs)
-    returns
-    (search needs)
-    (search needs)
-    (search needs)
-    returns-2
-    (search needs)
-    (search needs)
-    (search needs)
-    returns-3)
+    (tie.spec (search needs) (search needs) (search needs) returns (search needs) (search needs) (search needs)
+    returns-2 (search needs) (search needs) (search needs) returns-3)

@@ -36,18 +36,6 @@ returns-2 c =
 pub conclude-spec : {M : Type 1} → statement M
 conclude-spec =
     tie.close
-    (tie.spec
-    conditions-requires
-    (search needs)
-    conditions-requires-2
-    (search needs)
-    (search needs)
-    (search needs)
-    (search needs)
-    (search needs)
-    (search needs)
-    returns
-    (search needs)
-    (search needs)
-    (search needs)
-    returns-2)
+    (tie.spec conditions-requires (search needs) conditions-requires-2 (search needs) (search needs)
+    (search needs) (search needs) (search needs) (search needs) returns (search needs) (search needs)
+    (search needs) returns-2)

@@ -28,12 +28,5 @@ returns-2 c =
 pub step-spec : {M : Type 1} → statement M
 step-spec =
     tie.close
-    (tie.spec
-    (search needs)
-    (search needs)
-    (search needs)
-    (search needs)
-    (search needs)
-    (search needs)
-    returns
+    (tie.spec (search needs) (search needs) (search needs) (search needs) (search needs) (search needs) returns
     returns-2)

@@ -54,22 +54,6 @@ returns-3 c =
 pub take-spec : {M : Type 1} → statement M
 take-spec =
     tie.close
-    (tie.spec
-    (search needs)
-    (search needs)
-    (search needs)
-    (search needs)
-    (search needs)
-    returns
-    (search needs)
-    (search needs)
-    (search needs)
-    (search needs)
-    (search needs)
-    (search needs)
-    (search needs)
-    returns-2
-    (search needs)
-    conclude-requires
-    (search needs)
-    returns-3)
+    (tie.spec (search needs) (search needs) (search needs) (search needs) (search needs) returns (search needs)
+    (search needs) (search needs) (search needs) (search needs) (search needs) (search needs) returns-2
+    (search needs) conclude-requires (search needs) returns-3)

@@ -34,13 +34,5 @@ returns-2 c =
 pub read-position-spec : {M : Type 1} → statement M
 read-position-spec =
     tie.close
-    (tie.spec
-    (search needs)
-    (search needs)
-    (search needs)
-    (search needs)
-    (search needs)
-    (search needs)
-    returns
-    (search needs)
-    returns-2)
+    (tie.spec (search needs) (search needs) (search needs) (search needs) (search needs) (search needs) returns
+    (search needs) returns-2)

@@ -15,11 +15,4 @@ returns-2 c = let b = c .before .before in
 pub put-received-spec : {M : Type 1} → statement M
 put-received-spec =
     tie.close
-    (tie.spec
-    (search needs)
-    (search needs)
-    returns
-    (search needs)
-    (search needs)
-    (search needs)
-    returns-2)
+    (tie.spec (search needs) (search needs) returns (search needs) (search needs) (search needs) returns-2)

@@ -16,11 +16,4 @@ returns c =
 pub write-spec : {M : Type 1} → statement M
 write-spec =
     tie.close
-    (tie.spec
-    (search needs)
-    (search needs)
-    (search needs)
-    (search needs)
-    (search needs)
-    (search needs)
-    returns)
+    (tie.spec (search needs) (search needs) (search needs) (search needs) (search needs) (search needs) returns)

@@ -111,34 +111,7 @@ returns-8 c =
 pub read-head-spec : {M : Type 1} → statement M
 read-head-spec =
     tie.close
-    (tie.spec
-    (search needs)
-    (search needs)
-    (search needs)
-    returns
-    (search needs)
-    (search needs)
-    (search needs)
-    (search needs)
-    returns-2
-    (search needs)
-    (search needs)
-    (search needs)
-    returns-3
-    (search needs)
-    (search needs)
-    (search needs)
-    returns-4
-    (search needs)
-    (search needs)
-    (search needs)
-    returns-5
-    (search needs)
-    (search needs)
-    (search needs)
-    returns-6
-    cast-t28
-    cast-t29
-    cast-t30
-    returns-7
-    returns-8)
+    (tie.spec (search needs) (search needs) (search needs) returns (search needs) (search needs) (search needs)
+    (search needs) returns-2 (search needs) (search needs) (search needs) returns-3 (search needs)
+    (search needs) (search needs) returns-4 (search needs) (search needs) (search needs) returns-5
+    (search needs) (search needs) (search needs) returns-6 cast-t28 cast-t29 cast-t30 returns-7 returns-8)

@@ -64,22 +64,6 @@ returns-5 c =
 pub read-journey-spec : {M : Type 1} → statement M
 read-journey-spec =
     tie.close
-    (tie.spec
-    (search needs)
-    (search needs)
-    (search needs)
-    (search needs)
-    returns
-    (search needs)
-    (search needs)
-    (search needs)
-    (search needs)
-    returns-2
-    (search needs)
-    (search needs)
-    (search needs)
-    (search needs)
-    returns-3
-    (search needs)
-    returns-4
-    returns-5)
+    (tie.spec (search needs) (search needs) (search needs) (search needs) returns (search needs) (search needs)
+    (search needs) (search needs) returns-2 (search needs) (search needs) (search needs) (search needs)
+    returns-3 (search needs) returns-4 returns-5)

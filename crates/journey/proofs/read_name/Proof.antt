@@ -39,14 +39,5 @@ returns-3 c =
 pub read-name-spec : {M : Type 1} → statement M
 read-name-spec =
     tie.close
-    (tie.spec
-    (search needs)
-    (search needs)
-    (search needs)
-    returns
-    (search needs)
-    (search needs)
-    (search needs)
-    returns-2
-    cast-t11
-    returns-3)
+    (tie.spec (search needs) (search needs) (search needs) returns (search needs) (search needs) (search needs)
+    returns-2 cast-t11 returns-3)

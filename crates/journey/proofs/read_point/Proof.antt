@@ -98,30 +98,7 @@ returns-7 c =
 pub read-point-spec : {M : Type 1} → statement M
 read-point-spec =
     tie.close
-    (tie.spec
-    (search needs)
-    (search needs)
-    (search needs)
-    returns
-    (search needs)
-    (search needs)
-    (search needs)
-    (search needs)
-    returns-2
-    (search needs)
-    (search needs)
-    (search needs)
-    returns-3
-    (search needs)
-    (search needs)
-    (search needs)
-    returns-4
-    (search needs)
-    (search needs)
-    (search needs)
-    returns-5
-    cast-t26
-    cast-t27
-    cast-t28
-    returns-6
-    returns-7)
+    (tie.spec (search needs) (search needs) (search needs) returns (search needs) (search needs) (search needs)
+    (search needs) returns-2 (search needs) (search needs) (search needs) returns-3 (search needs)
+    (search needs) (search needs) returns-4 (search needs) (search needs) (search needs) returns-5 cast-t26
+    cast-t27 cast-t28 returns-6 returns-7)

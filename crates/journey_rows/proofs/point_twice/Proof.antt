@@ -25,10 +25,4 @@ returns c =
 pub point-twice-spec : {M : Type 1} → statement M
 point-twice-spec =
     tie.close
-    (tie.spec
-    (search needs)
-    (search needs)
-    (search needs)
-    slice-aggregate-repeated
-    (search needs)
-    returns)
+    (tie.spec (search needs) (search needs) (search needs) slice-aggregate-repeated (search needs) returns)

@@ -14,12 +14,5 @@ returns-3 c = rw (c .before .before .before .before .refused .ensures, c .before
 pub packet-fields-spec : {M : Type 1} → statement M
 packet-fields-spec =
     tie.close
-    (tie.spec
-    (search needs)
-    (search needs)
-    (search needs)
-    (search needs)
-    (search needs)
-    returns
-    returns-2
+    (tie.spec (search needs) (search needs) (search needs) (search needs) (search needs) returns returns-2
     returns-3)

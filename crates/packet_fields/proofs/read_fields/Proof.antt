@@ -15,11 +15,4 @@ returns-2 c = c .refused .ensures ∙ ap (λ (x : PacketRead). fieldsView (readV
 pub read-fields-spec : {M : Type 1} → statement M
 read-fields-spec =
     tie.close
-    (tie.spec
-    (search needs)
-    (search needs)
-    (search needs)
-    (search needs)
-    (search needs)
-    returns
-    returns-2)
+    (tie.spec (search needs) (search needs) (search needs) (search needs) (search needs) returns returns-2)

@@ -10,12 +10,5 @@ returns c = cc
 pub get-jp-received-spec : {M : Type 1} → statement M
 get-jp-received-spec =
     tie.close
-    (tie.spec
-    (search needs)
-    (search needs)
-    (search needs)
-    (search needs)
-    (search needs)
-    (search needs)
-    (search needs)
-    returns)
+    (tie.spec (search needs) (search needs) (search needs) (search needs) (search needs) (search needs)
+    (search needs) returns)

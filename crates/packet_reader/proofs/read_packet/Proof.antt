@@ -35,16 +35,5 @@ returns-5 c =
 pub read-packet-spec : {M : Type 1} → statement M
 read-packet-spec =
     tie.close
-    (tie.spec
-    returns
-    (search needs)
-    (search needs)
-    (search needs)
-    (search needs)
-    (search needs)
-    (search needs)
-    (search needs)
-    returns-2
-    returns-3
-    returns-4
-    returns-5)
+    (tie.spec returns (search needs) (search needs) (search needs) (search needs) (search needs) (search needs)
+    (search needs) returns-2 returns-3 returns-4 returns-5)

@@ -44,13 +44,5 @@ returns-3 c =
 pub append-packet-spec : {M : Type 1} → statement M
 append-packet-spec =
     tie.close
-    (tie.spec
-    (search needs)
-    (search needs)
-    (search needs)
-    (search needs)
-    (search needs)
-    (search needs)
-    returns
-    returns-2
-    returns-3)
+    (tie.spec (search needs) (search needs) (search needs) (search needs) (search needs) (search needs) returns
+    returns-2 returns-3)

@@ -25,11 +25,4 @@ returns c =
 pub put-packet-spec : {M : Type 1} → statement M
 put-packet-spec =
     tie.close
-    (tie.spec
-    (search needs)
-    (search needs)
-    (search needs)
-    (search needs)
-    (search needs)
-    (search needs)
-    returns)
+    (tie.spec (search needs) (search needs) (search needs) (search needs) (search needs) (search needs) returns)

@@ -25,12 +25,5 @@ returns c =
 pub put-timing-point-spec : {M : Type 1} → statement M
 put-timing-point-spec =
     tie.close
-    (tie.spec
-    (search needs)
-    (search needs)
-    (search needs)
-    (search needs)
-    (search needs)
-    (search needs)
-    (search needs)
-    returns)
+    (tie.spec (search needs) (search needs) (search needs) (search needs) (search needs) (search needs)
+    (search needs) returns)

@@ -44,16 +44,5 @@ returns-3 c =
 pub load-route-spec : {M : Type 1} → statement M
 load-route-spec =
     tie.close
-    (tie.spec
-    (search needs)
-    (search needs)
-    (search needs)
-    returns
-    (search needs)
-    (search needs)
-    (search needs)
-    (search needs)
-    returns-2
-    (search needs)
-    place-requires
-    returns-3)
+    (tie.spec (search needs) (search needs) (search needs) returns (search needs) (search needs) (search needs)
+    (search needs) returns-2 (search needs) place-requires returns-3)

@@ -69,17 +69,5 @@ returns-4 c =
 pub place-spec : {M : Type 1} → statement M
 place-spec =
     tie.close
-    (tie.spec
-    place-segments-requires
-    (search needs)
-    (search needs)
-    (search needs)
-    returns
-    (search needs)
-    returns-2
-    place-points-requires
-    (search needs)
-    (search needs)
-    returns-3
-    (search needs)
-    returns-4)
+    (tie.spec place-segments-requires (search needs) (search needs) (search needs) returns (search needs)
+    returns-2 place-points-requires (search needs) (search needs) returns-3 (search needs) returns-4)

@@ -28,11 +28,4 @@ returns-2 c =
 pub record-of-spec : {M : Type 1} → statement M
 record-of-spec =
     tie.close
-    (tie.spec
-    (search needs)
-    (search needs)
-    (search needs)
-    returns
-    mul-t7
-    element-copy-out-t10
-    returns-2)
+    (tie.spec (search needs) (search needs) (search needs) returns mul-t7 element-copy-out-t10 returns-2)

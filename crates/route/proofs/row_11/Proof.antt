@@ -22,12 +22,5 @@ returns-4 c = λ book h. rw (sym (c .before .before .before .before .before .bef
 pub row-11-spec : {M : Type 1} → statement M
 row-11-spec =
     tie.close
-    (tie.spec
-    (search needs)
-    returns
-    (search needs)
-    returns-2
-    (search needs)
-    returns-3
-    point-missing-requires
+    (tie.spec (search needs) returns (search needs) returns-2 (search needs) returns-3 point-missing-requires
     returns-4)

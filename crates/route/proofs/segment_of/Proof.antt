@@ -11,10 +11,4 @@ returns-2 c = rw (c .before .enum-told .given .1) (c .missing-segment .ensures)
 pub segment-of-spec : {M : Type 1} → statement M
 segment-of-spec =
     tie.close
-    (tie.spec
-    (search needs)
-    (search needs)
-    (search needs)
-    (search needs)
-    returns
-    returns-2)
+    (tie.spec (search needs) (search needs) (search needs) (search needs) returns returns-2)

@@ -42,17 +42,5 @@ returns-4 c =
 pub point-end-spec : {M : Type 1} → statement M
 point-end-spec =
     tie.close
-    (tie.spec
-    (search needs)
-    (search needs)
-    (search needs)
-    returns
-    (search needs)
-    (search needs)
-    (search needs)
-    returns-2
-    (search needs)
-    (search needs)
-    (search needs)
-    returns-3
-    returns-4)
+    (tie.spec (search needs) (search needs) (search needs) returns (search needs) (search needs) (search needs)
+    returns-2 (search needs) (search needs) (search needs) returns-3 returns-4)

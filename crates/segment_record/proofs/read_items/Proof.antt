@@ -49,16 +49,5 @@ returns-4 c = rw (c .if1 .left)
 pub read-items-spec : {M : Type 1} → statement M
 read-items-spec =
     tie.close
-    (tie.spec
-    (search needs)
-    (search needs)
-    (search needs)
-    (search needs)
-    returns
-    (search needs)
-    (search needs)
-    (search needs)
-    returns-2
-    cast-t15
-    returns-3
-    returns-4)
+    (tie.spec (search needs) (search needs) (search needs) (search needs) returns (search needs) (search needs)
+    (search needs) returns-2 cast-t15 returns-3 returns-4)

@@ -111,32 +111,7 @@ returns-8 c =
 pub read-segment-spec : {M : Type 1} → statement M
 read-segment-spec =
     tie.close
-    (tie.spec
-    (search needs)
-    (search needs)
-    (search needs)
-    returns
-    (search needs)
-    returns-2
-    (search needs)
-    (search needs)
-    (search needs)
-    returns-3
-    (search needs)
-    (search needs)
-    (search needs)
-    returns-4
-    (search needs)
-    (search needs)
-    (search needs)
-    returns-5
-    (search needs)
-    (search needs)
-    (search needs)
-    returns-6
-    (search needs)
-    (search needs)
-    (search needs)
-    returns-7
-    cast-t29
-    returns-8)
+    (tie.spec (search needs) (search needs) (search needs) returns (search needs) returns-2 (search needs)
+    (search needs) (search needs) returns-3 (search needs) (search needs) (search needs) returns-4
+    (search needs) (search needs) (search needs) returns-5 (search needs) (search needs) (search needs)
+    returns-6 (search needs) (search needs) (search needs) returns-7 cast-t29 returns-8)

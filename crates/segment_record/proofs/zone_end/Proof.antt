@@ -32,13 +32,5 @@ returns-3 c =
 pub zone-end-spec : {M : Type 1} → statement M
 zone-end-spec =
     tie.close
-    (tie.spec
-    (search needs)
-    (search needs)
-    (search needs)
-    returns
-    (search needs)
-    (search needs)
-    (search needs)
-    returns-2
-    returns-3)
+    (tie.spec (search needs) (search needs) (search needs) returns (search needs) (search needs) (search needs)
+    returns-2 returns-3)

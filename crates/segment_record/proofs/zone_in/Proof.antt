@@ -27,11 +27,4 @@ returns-2 c =
 pub zone-in-spec : {M : Type 1} → statement M
 zone-in-spec =
     tie.close
-    (tie.spec
-    (search needs)
-    (search needs)
-    (search needs)
-    (search needs)
-    (search needs)
-    returns
-    returns-2)
+    (tie.spec (search needs) (search needs) (search needs) (search needs) (search needs) returns returns-2)

@@ -15,9 +15,4 @@ returns c =
 pub zones-of-spec : {M : Type 1} → statement M
 zones-of-spec =
     tie.close
-    (tie.spec
-    (search needs)
-    (search needs)
-    (search needs)
-    (search needs)
-    returns)
+    (tie.spec (search needs) (search needs) (search needs) (search needs) returns)

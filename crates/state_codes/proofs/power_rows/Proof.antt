@@ -35,12 +35,4 @@ returns-6 c = rw (sym (c .before .before .before .before .same .ensures) ∙ c .
 pub power-rows-spec : {M : Type 1} → statement M
 power-rows-spec =
     tie.close
-    (tie.spec
-    (search needs)
-    returns
-    returns-2
-    returns-3
-    (search needs)
-    returns-4
-    returns-5
-    returns-6)
+    (tie.spec (search needs) returns returns-2 returns-3 (search needs) returns-4 returns-5 returns-6)

@@ -17,4 +17,5 @@ returns-2 c = let a = c .before .before .before .before .args in
     ap (λ (x : Judged (Unit {0})). thenJudge x (λ t. stateRow (a .s) (a .kind))) (sym (ap verdictView (c .before .n .given .1)) ∙ c .before .before .before .power-rows .ensures)
 
 pub state-rows-spec : {M : Type 1} → statement M
-state-rows-spec = tie.close (tie.spec (search needs) (search needs) (search needs) (search needs) returns returns-2)
+state-rows-spec = tie.close (tie.spec (search needs) (search needs) (search needs) (search needs) returns
+    returns-2)

@@ -17,10 +17,4 @@ returns c =
 pub control-after-spec : {M : Type 1} → statement M
 control-after-spec =
     tie.close
-    (tie.spec
-    (search needs)
-    (search needs)
-    (search needs)
-    (search needs)
-    (search needs)
-    returns)
+    (tie.spec (search needs) (search needs) (search needs) (search needs) (search needs) returns)

@@ -22,12 +22,5 @@ returns-3 c = ap₂ machine (c .before .before .u .ensures) (c .same .ensures �
 pub from-re-spec : {M : Type 1} → statement M
 from-re-spec =
     tie.close
-    (tie.spec
-    (search needs)
-    (search needs)
-    returns
-    (search needs)
-    (search needs)
-    returns-2
-    (search needs)
+    (tie.spec (search needs) (search needs) returns (search needs) (search needs) returns-2 (search needs)
     returns-3)

@@ -8,9 +8,4 @@ returns c = rw (c .before .before .before .all-nine .ensures, c .before .before 
 pub values-in-spec : {M : Type 1} → statement M
 values-in-spec =
     tie.close
-    (tie.spec
-    (search needs)
-    (search needs)
-    (search needs)
-    (search needs)
-    returns)
+    (tie.spec (search needs) (search needs) (search needs) (search needs) returns)

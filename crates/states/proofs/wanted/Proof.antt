@@ -31,21 +31,6 @@ returns-8 c = sym (ap (λ s. wanted s (c .before .before .args .v)) (c .enum-tol
 pub wanted-spec : {M : Type 1} → statement M
 wanted-spec =
     tie.close
-    (tie.spec
-    (search needs)
-    (search needs)
-    (search needs)
-    (search needs)
-    (search needs)
-    (search needs)
-    (search needs)
-    (search needs)
-    (search needs)
-    returns
-    returns-2
-    returns-3
-    returns-4
-    returns-5
-    returns-6
-    returns-7
-    returns-8)
+    (tie.spec (search needs) (search needs) (search needs) (search needs) (search needs) (search needs)
+    (search needs) (search needs) (search needs) returns returns-2 returns-3 returns-4 returns-5 returns-6
+    returns-7 returns-8)

@@ -17,11 +17,4 @@ returns c = sub-sub-is (c .before .before .args .front) (c .before .back .result
 pub distance-spec : {M : Type 1} → statement M
 distance-spec =
     tie.close
-    (tie.spec
-    (search needs)
-    (search needs)
-    (search needs)
-    sub-result
-    (search needs)
-    sub-result-2
-    returns)
+    (tie.spec (search needs) (search needs) (search needs) sub-result (search needs) sub-result-2 returns)

@@ -28,13 +28,5 @@ returns-3 c = let g = c .before .before .before .before .segment-named in
 pub report-spec : {M : Type 1} → statement M
 report-spec =
     tie.close
-    (tie.spec
-    (search needs)
-    returns
-    (search needs)
-    (search needs)
-    look-from-requires
-    returns-2
-    (search needs)
-    look-from-requires-2
-    returns-3)
+    (tie.spec (search needs) returns (search needs) (search needs) look-from-requires returns-2 (search needs)
+    look-from-requires-2 returns-3)

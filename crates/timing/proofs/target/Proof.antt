@@ -19,10 +19,4 @@ returns-2 c = sym (target-unknown _ _ (sym (c .before .before .front-position .e
 pub target-spec : {M : Type 1} → statement M
 target-spec =
     tie.close
-    (tie.spec
-    (search needs)
-    (search needs)
-    first-ahead-requires
-    (search needs)
-    returns
-    returns-2)
+    (tie.spec (search needs) (search needs) first-ahead-requires (search needs) returns returns-2)

@@ -33,14 +33,5 @@ returns-4 c =
 pub block-at-spec : {M : Type 1} → statement M
 block-at-spec =
     tie.close
-    (tie.spec
-    returns
-    (search needs)
-    returns-2
-    (search needs)
-    (search needs)
-    (search needs)
-    (search needs)
-    returns-3
-    (search needs)
-    returns-4)
+    (tie.spec returns (search needs) returns-2 (search needs) (search needs) (search needs) (search needs)
+    returns-3 (search needs) returns-4)

@@ -27,12 +27,5 @@ returns-3 c =
 pub call-at-spec : {M : Type 1} → statement M
 call-at-spec =
     tie.close
-    (tie.spec
-    (search needs)
-    (search needs)
-    (search needs)
-    returns
-    (search needs)
-    (search needs)
-    returns-2
+    (tie.spec (search needs) (search needs) (search needs) returns (search needs) (search needs) returns-2
     returns-3)
