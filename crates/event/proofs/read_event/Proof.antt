@@ -76,9 +76,7 @@ above c = unknown _ (c .before .before .before .before .if1 .left) (c .match .re
 pub read-event-spec : {M : Type 1} → statement M
 read-event-spec =
     tie.close
-    (tie.spec returns (λ c κs. search needs) (λ c κs. search needs) (search needs) (λ c κs. search needs)
-    (λ c κs. search needs) (λ c κs. search needs) (λ c κs. search needs) (λ c κs. search needs)
-    (λ c κs. search needs) (λ c κs. search needs) (λ c κs. search needs) (λ c κs. search needs)
-    (λ c κs. search needs) (λ c κs. search needs) (λ c κs. search needs) (λ c κs. search needs)
-    (λ c κs. search needs) power-on configured power-off fault reports mode lever press position-report length
-    load skip revoke zero above)
+    (tie.spec returns (search needs) (search needs) (search needs) (search needs) (search needs) (search needs)
+    (search needs) (search needs) (search needs) (search needs) (search needs) (search needs) (search needs)
+    (search needs) (search needs) (search needs) (search needs) power-on configured power-off fault reports mode
+    lever press position-report length load skip revoke zero above)
