@@ -14,32 +14,14 @@ Inv-loop from nidc nidsp b n i₀ i = indexFrom nidc nidsp from (drop from (entr
 abbrev μ-loop : tie.MeasureT-loop
 μ-loop from nidc nidsp b n i₀ i = n - i
 
-entry-count-requires : tie.Need-entry-count-requires Inv-loop μ-loop
-entry-count-requires c κs = search needs
-
 loop-holds : tie.Need-loop-holds Inv-loop μ-loop
 loop-holds c = refl
-
-mul-e : tie.Need-mul-e Inv-loop μ-loop
-mul-e c = search needs
-
-element-copy-out-e : tie.Need-element-copy-out-e Inv-loop μ-loop
-element-copy-out-e c = search needs
-
-is-named-requires : tie.Need-is-named-requires Inv-loop μ-loop
-is-named-requires c κs = search needs
 
 returns : tie.Need-returns Inv-loop μ-loop
 returns c =
     let w = c .before .before .before .before .loop in
     let b = c .before .before .before .before .before .before .args .t1 in
     sym (w .inv ∙ rw (entries-more b (w .i) (omega arith) (omega arith), sym (c .before .is-named .ensures) ∙ c .if1 .taken))
-
-add-i : tie.Need-add-i Inv-loop μ-loop
-add-i c = search needs
-
-loop-less : tie.Need-loop-less Inv-loop μ-loop
-loop-less c = search needs
 
 loop-again : tie.Need-loop-again Inv-loop μ-loop
 loop-again c =
@@ -53,16 +35,5 @@ returns-2 c = sym (c .before .loop .inv ∙ rw (entries-none (c .before .before 
 pub find-from-spec : {M : Type 1} → statement M
 find-from-spec =
     tie.close
-    (tie.spec
-    Inv-loop
-    μ-loop
-    entry-count-requires
-    loop-holds
-    mul-e
-    element-copy-out-e
-    is-named-requires
-    returns
-    add-i
-    loop-less
-    loop-again
-    returns-2)
+    (tie.spec Inv-loop μ-loop (search needs) loop-holds (search needs) (search needs) (search needs) returns
+    (search needs) (search needs) loop-again returns-2)

@@ -21,24 +21,12 @@ abbrev μ-loop : tie.MeasureT-loop
 loop-holds : tie.Need-loop-holds Inv-loop μ-loop
 loop-holds c = refl
 
-mul-if1 : tie.Need-mul-if1 Inv-loop μ-loop
-mul-if1 c = search needs
-
-shared-slice-read-if1 : tie.Need-shared-slice-read-if1 Inv-loop μ-loop
-shared-slice-read-if1 c = search needs
-
 returns : tie.Need-returns Inv-loop μ-loop
 returns c =
     let a = c .before .before .before .before .args in
     let w = c .before .before .before .loop in
     let step = number-step (now (a .names)) (w .i) (omega arith) in
     sym (w .inv ∙ ap (any (λ x. eqb x (a .name))) step ∙ or-true-left _ _ (eq-eqb _ _ (c .if1 .taken)))
-
-add-i : tie.Need-add-i Inv-loop μ-loop
-add-i c = search needs
-
-loop-less : tie.Need-loop-less Inv-loop μ-loop
-loop-less c = search needs
 
 loop-again : tie.Need-loop-again Inv-loop μ-loop
 loop-again c =
@@ -56,14 +44,5 @@ returns-2 c =
 pub has-name-spec : {M : Type 1} → statement M
 has-name-spec =
     tie.close
-    (tie.spec
-    Inv-loop
-    μ-loop
-    loop-holds
-    mul-if1
-    shared-slice-read-if1
-    returns
-    add-i
-    loop-less
-    loop-again
-    returns-2)
+    (tie.spec Inv-loop μ-loop loop-holds (search needs) (search needs) returns (search needs) (search needs)
+    loop-again returns-2)

@@ -20,24 +20,6 @@ abbrev μ-loop : tie.MeasureT-loop
 loop-holds : tie.Need-loop-holds Inv-loop μ-loop
 loop-holds c = let a = c .before .args in (omega arith, refl, items-start (number 4) 10 (a .n) (drop (a .at) (now (a .s))))
 
-be32-requires : tie.Need-be32-requires Inv-loop μ-loop
-be32-requires c κs = search needs
-
-mul-names : tie.Need-mul-names Inv-loop μ-loop
-mul-names c = omega arith
-
-array-write-names : tie.Need-array-write-names Inv-loop μ-loop
-array-write-names c = omega arith
-
-after-requires : tie.Need-after-requires Inv-loop μ-loop
-after-requires c κs = search needs
-
-add-i : tie.Need-add-i Inv-loop μ-loop
-add-i c = search needs
-
-loop-less : tie.Need-loop-less Inv-loop μ-loop
-loop-less c = search needs
-
 loop-again : tie.Need-loop-again Inv-loop μ-loop
 loop-again c =
     let a = c .before .before .before .before .before .args in
@@ -57,15 +39,5 @@ returns c =
 pub names-of-spec : {M : Type 1} → statement M
 names-of-spec =
     tie.close
-    (tie.spec
-    Inv-loop
-    μ-loop
-    loop-holds
-    be32-requires
-    mul-names
-    array-write-names
-    after-requires
-    add-i
-    loop-less
-    loop-again
-    returns)
+    (tie.spec Inv-loop μ-loop loop-holds (search needs) (λ c. omega arith) (λ c. omega arith) (search needs)
+    (search needs) (search needs) loop-again returns)

@@ -23,20 +23,8 @@ Inv-loop s b n i₀ i = any nidtpTwice (segmentsView s b) ≡ any nidtpTwice (ma
 abbrev μ-loop : tie.MeasureT-loop
 μ-loop s b n i₀ i = n - i
 
-entry-count-requires : tie.Need-entry-count-requires Inv-loop μ-loop
-entry-count-requires c κs = search needs
-
 loop-holds : tie.Need-loop-holds Inv-loop μ-loop
 loop-holds c = refl
-
-mul-e : tie.Need-mul-e Inv-loop μ-loop
-mul-e c = search needs
-
-element-copy-out-e : tie.Need-element-copy-out-e Inv-loop μ-loop
-element-copy-out-e c = search needs
-
-add-i : tie.Need-add-i Inv-loop μ-loop
-add-i c = search needs
 
 name-twice-requires : tie.Need-name-twice-requires Inv-loop μ-loop
 name-twice-requires c κs =
@@ -54,9 +42,6 @@ returns c =
     let same = ap (twice eqb) (names (e .points) (drop (e .«points_at») (now (a .s)))) ∙ sym (c .before .name-twice .ensures) ∙ c .if1 .taken in
     sym (w .inv ∙ rw (entries-more (a .t2) (w .i) (omega arith) (omega arith)) (or-true-left _ _ same))
 
-loop-less : tie.Need-loop-less Inv-loop μ-loop
-loop-less c = search needs
-
 loop-again : tie.Need-loop-again Inv-loop μ-loop
 loop-again c =
     let w = c .before .before .before .before .loop in
@@ -71,16 +56,5 @@ returns-2 c = sym (c .before .loop .inv ∙ rw (entries-none (c .before .before 
 pub point-twice-spec : {M : Type 1} → statement M
 point-twice-spec =
     tie.close
-    (tie.spec
-    Inv-loop
-    μ-loop
-    entry-count-requires
-    loop-holds
-    mul-e
-    element-copy-out-e
-    add-i
-    name-twice-requires
-    returns
-    loop-less
-    loop-again
-    returns-2)
+    (tie.spec Inv-loop μ-loop (search needs) loop-holds (search needs) (search needs) (search needs)
+    name-twice-requires returns (search needs) loop-again returns-2)

@@ -20,20 +20,8 @@ Inv-loop s first₀ at₀ n₀ first at n = (n + (length s - at) ≤ length s) �
 abbrev μ-loop : tie.MeasureT-loop
 μ-loop s first₀ at₀ n₀ first at n = length s - at
 
-blank-entry-requires : tie.Need-blank-entry-requires Inv-loop μ-loop
-blank-entry-requires c κs = search needs
-
 loop-holds : tie.Need-loop-holds Inv-loop μ-loop
 loop-holds c = (omega arith, [], read-start (now (c .before .before .args .s)) _ (rw (c .blank-entry .ensures)))
-
-read-segment-requires : tie.Need-read-segment-requires Inv-loop μ-loop
-read-segment-requires c κs = search needs
-
-enum-known-e : tie.Need-enum-known-e Inv-loop μ-loop
-enum-known-e c = search needs
-
-enum-told : tie.Need-enum-told Inv-loop μ-loop
-enum-told c = search needs
 
 returns : tie.Need-returns Inv-loop μ-loop
 returns c =
@@ -41,12 +29,6 @@ returns c =
     let w = c .before .before .before .before .loop in
     let h = sym (c .before .before .read-segment .ensures) ∙ ap (segmentView s) (c .enum-told .given .1) in
     read-bad s (w .at) (w .n) (w .first) (w .inv .1) (w .inv .2) (c .before .before .before .loop-test .taken) h
-
-mul-first : tie.Need-mul-first Inv-loop μ-loop
-mul-first c = search needs
-
-array-set-from-first : tie.Need-array-set-from-first Inv-loop μ-loop
-array-set-from-first c = search needs
 
 -- the record of a turn; the next one is 11 bytes further on at least
 one-read : (c : tie.After-known-told Inv-loop μ-loop) → let s = now (c .before .before .before .before .before .before .before .before .args .s) in
@@ -80,18 +62,5 @@ returns-2 c =
 pub read-records-spec : {M : Type 1} → statement M
 read-records-spec =
     tie.close
-    (tie.spec
-    Inv-loop
-    μ-loop
-    blank-entry-requires
-    loop-holds
-    read-segment-requires
-    enum-known-e
-    enum-told
-    returns
-    mul-first
-    array-set-from-first
-    add-n
-    loop-less
-    loop-again
-    returns-2)
+    (tie.spec Inv-loop μ-loop (search needs) loop-holds (search needs) (search needs) (search needs) returns
+    (search needs) (search needs) add-n loop-less loop-again returns-2)

@@ -20,27 +20,12 @@ abbrev μ-loop : tie.MeasureT-loop
 loop-holds : tie.Need-loop-holds Inv-loop μ-loop
 loop-holds c = refl
 
-mul-name : tie.Need-mul-name Inv-loop μ-loop
-mul-name c = search needs
-
-shared-slice-read-name : tie.Need-shared-slice-read-name Inv-loop μ-loop
-shared-slice-read-name c = search needs
-
-add-i : tie.Need-add-i Inv-loop μ-loop
-add-i c = search needs
-
-has-name-requires : tie.Need-has-name-requires Inv-loop μ-loop
-has-name-requires c κs = search needs
-
 returns : tie.Need-returns Inv-loop μ-loop
 returns c =
     let a = c .before .before .before .before .before .before .args in
     let w = c .before .before .before .before .loop in
     let step = number-step (now (a .names)) (w .i) (omega arith) in
     sym (w .inv ∙ ap (twice eqb) step ∙ or-true-left _ _ (sym (c .before .has-name .ensures) ∙ c .if1 .taken))
-
-loop-less : tie.Need-loop-less Inv-loop μ-loop
-loop-less c = search needs
 
 loop-again : tie.Need-loop-again Inv-loop μ-loop
 loop-again c =
@@ -58,15 +43,5 @@ returns-2 c =
 pub repeated-spec : {M : Type 1} → statement M
 repeated-spec =
     tie.close
-    (tie.spec
-    Inv-loop
-    μ-loop
-    loop-holds
-    mul-name
-    shared-slice-read-name
-    add-i
-    has-name-requires
-    returns
-    loop-less
-    loop-again
-    returns-2)
+    (tie.spec Inv-loop μ-loop loop-holds (search needs) (search needs) (search needs) (search needs) returns
+    (search needs) loop-again returns-2)

@@ -19,23 +19,8 @@ Inv-loop b n i₀ i = (s : List ℕ) → twice sameSegment (segmentsView s b) �
 abbrev μ-loop : tie.MeasureT-loop
 μ-loop b n i₀ i = n - i
 
-entry-count-requires : tie.Need-entry-count-requires Inv-loop μ-loop
-entry-count-requires c κs = search needs
-
 loop-holds : tie.Need-loop-holds Inv-loop μ-loop
 loop-holds c = λ s. refl
-
-mul-e : tie.Need-mul-e Inv-loop μ-loop
-mul-e c = search needs
-
-element-copy-out-e : tie.Need-element-copy-out-e Inv-loop μ-loop
-element-copy-out-e c = search needs
-
-add-i : tie.Need-add-i Inv-loop μ-loop
-add-i c = search needs
-
-has-from-requires : tie.Need-has-from-requires Inv-loop μ-loop
-has-from-requires c κs = search needs
 
 returns : tie.Need-returns Inv-loop μ-loop
 returns c =
@@ -43,9 +28,6 @@ returns c =
     let b = c .before .before .before .before .before .before .args .t1 in
     let named = sym (c .before .has-from .ensures) ∙ c .if1 .taken in
     λ s. sym (w .inv s ∙ rw (entries-more b (w .i) (omega arith) (omega arith)) (or-true-left _ _ (same-named s (getD (b .entries) (w .i) blankEntry) (drop (w .i + 1) (entriesView b)) ∙ named)))
-
-loop-less : tie.Need-loop-less Inv-loop μ-loop
-loop-less c = search needs
 
 loop-again : tie.Need-loop-again Inv-loop μ-loop
 loop-again c =
@@ -60,16 +42,5 @@ returns-2 c = λ s. sym (c .before .loop .inv s ∙ rw (entries-none (c .before 
 pub segment-twice-spec : {M : Type 1} → statement M
 segment-twice-spec =
     tie.close
-    (tie.spec
-    Inv-loop
-    μ-loop
-    entry-count-requires
-    loop-holds
-    mul-e
-    element-copy-out-e
-    add-i
-    has-from-requires
-    returns
-    loop-less
-    loop-again
-    returns-2)
+    (tie.spec Inv-loop μ-loop (search needs) loop-holds (search needs) (search needs) (search needs)
+    (search needs) returns (search needs) loop-again returns-2)

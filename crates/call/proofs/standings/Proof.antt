@@ -19,21 +19,6 @@ loop-holds : tie.Need-loop-holds Inv-loop μ-loop
 unfolding standingsIn
 loop-holds c = (omega arith, refl, refl)
 
-cast-standing : tie.Need-cast-standing Inv-loop μ-loop
-cast-standing c = omega arith
-
-standing-requires : tie.Need-standing-requires Inv-loop μ-loop
-standing-requires c κs = search needs
-
-array-write-codes : tie.Need-array-write-codes Inv-loop μ-loop
-array-write-codes c = omega arith
-
-add-k : tie.Need-add-k Inv-loop μ-loop
-add-k c = omega arith
-
-loop-less : tie.Need-loop-less Inv-loop μ-loop
-loop-less c = omega arith
-
 loop-again : tie.Need-loop-again Inv-loop μ-loop
 loop-again c =
     let w = c .before .before .loop in
@@ -52,14 +37,5 @@ returns c =
 pub standings-spec : {M : Type 1} → statement M
 standings-spec =
     tie.close
-    (tie.spec
-    Inv-loop
-    μ-loop
-    loop-holds
-    cast-standing
-    standing-requires
-    array-write-codes
-    add-k
-    loop-less
-    loop-again
-    returns)
+    (tie.spec Inv-loop μ-loop loop-holds (λ c. omega arith) (search needs) (λ c. omega arith) (λ c. omega arith)
+    (λ c. omega arith) loop-again returns)

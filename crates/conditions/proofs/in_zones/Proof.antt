@@ -18,9 +18,6 @@ Inv-loop offset s n i₀ i = any (inZone offset) (drop i (take n (s .zones))) �
 abbrev μ-loop : tie.MeasureT-loop
 μ-loop offset s n i₀ i = n - i
 
-at-most-requires : tie.Need-at-most-requires Inv-loop μ-loop
-at-most-requires c κs = search needs
-
 loop-holds : tie.Need-loop-holds Inv-loop μ-loop
 loop-holds c = refl
 
@@ -29,9 +26,6 @@ mul-z c = omega (arith, c .before .before .at-most .ensures)
 
 element-copy-out-z : tie.Need-element-copy-out-z Inv-loop μ-loop
 element-copy-out-z c = omega (arith, c .before .before .at-most .ensures)
-
-in-zone-requires : tie.Need-in-zone-requires Inv-loop μ-loop
-in-zone-requires c κs = search needs
 
 -- the array holds 4
 four : (c : tie.After-at-most Inv-loop μ-loop) → length (c .before .args .t1 .zones) ≡ 4
@@ -49,12 +43,6 @@ returns c =
     ∙ s .loop .inv
     ∙ ap (any (inZone (s .before .before .args .offset))) (all-zones (s .before))
 
-add-i : tie.Need-add-i Inv-loop μ-loop
-add-i c = omega arith
-
-loop-less : tie.Need-loop-less Inv-loop μ-loop
-loop-less c = omega arith
-
 loop-again : tie.Need-loop-again Inv-loop μ-loop
 loop-again c = let s = c .before .before .before .before in
     sym (zones-miss _ _ (s .before .at-most .result) (s .loop .i) _ (omega arith) (omega (arith, s .before .at-most .ensures, four (s .before))) (sym (c .before .in-zone .ensures) ∙ c .if1 .left))
@@ -68,4 +56,5 @@ returns-2 c = let s = c .before in
 pub in-zones-spec : {M : Type 1} → statement M
 in-zones-spec =
     tie.close
-    (tie.spec Inv-loop μ-loop at-most-requires loop-holds mul-z element-copy-out-z in-zone-requires returns add-i loop-less loop-again returns-2)
+    (tie.spec Inv-loop μ-loop (search needs) loop-holds mul-z element-copy-out-z (search needs) returns
+    (λ c. omega arith) (λ c. omega arith) loop-again returns-2)

@@ -18,32 +18,8 @@ Inv-loop points₀ segments₀ point segment k₀ points segments k =
 abbrev μ-loop : tie.MeasureT-loop
 μ-loop points₀ segments₀ point segment k₀ points segments k = 64 - k
 
-blank-point-requires : tie.Need-blank-point-requires Inv-loop μ-loop
-blank-point-requires c κs = search needs
-
-blank-segment-requires : tie.Need-blank-segment-requires Inv-loop μ-loop
-blank-segment-requires c κs = search needs
-
 loop-holds : tie.Need-loop-holds Inv-loop μ-loop
 loop-holds c = (omega arith, (refl, refl))
-
-mul-points : tie.Need-mul-points Inv-loop μ-loop
-mul-points c = search needs
-
-array-set-from-points : tie.Need-array-set-from-points Inv-loop μ-loop
-array-set-from-points c = search needs
-
-mul-segments : tie.Need-mul-segments Inv-loop μ-loop
-mul-segments c = search needs
-
-array-set-from-segments : tie.Need-array-set-from-segments Inv-loop μ-loop
-array-set-from-segments c = search needs
-
-add-k : tie.Need-add-k Inv-loop μ-loop
-add-k c = search needs
-
-loop-less : tie.Need-loop-less Inv-loop μ-loop
-loop-less c = omega arith
 
 loop-again : tie.Need-loop-again Inv-loop μ-loop
 loop-again c =
@@ -77,17 +53,5 @@ returns c =
 pub blank-arrays-spec : {M : Type 1} → statement M
 blank-arrays-spec =
     tie.close
-    (tie.spec
-    Inv-loop
-    μ-loop
-    blank-point-requires
-    blank-segment-requires
-    loop-holds
-    mul-points
-    array-set-from-points
-    mul-segments
-    array-set-from-segments
-    add-k
-    loop-less
-    loop-again
-    returns)
+    (tie.spec Inv-loop μ-loop (search needs) (search needs) loop-holds (search needs) (search needs)
+    (search needs) (search needs) (search needs) (λ c. omega arith) loop-again returns)

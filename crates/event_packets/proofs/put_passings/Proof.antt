@@ -31,41 +31,8 @@ returns c = let a = c .before .before .args in
       near = omega arith;
     }
 
-header-of-requires : tie.Need-header-of-requires Inv-loop μ-loop
-header-of-requires c κs = search needs
-
-blank-point-requires : tie.Need-blank-point-requires Inv-loop μ-loop
-blank-point-requires c κs = search needs
-
 loop-holds : tie.Need-loop-holds Inv-loop μ-loop
 loop-holds c = (refl, (refl, refl))
-
-add-t17 : tie.Need-add-t17 Inv-loop μ-loop
-add-t17 c = omega arith
-
-cast-i : tie.Need-cast-i Inv-loop μ-loop
-cast-i c = search needs
-
-mul-point : tie.Need-mul-point Inv-loop μ-loop
-mul-point c = search needs
-
-array-copy-out-point : tie.Need-array-copy-out-point Inv-loop μ-loop
-array-copy-out-point c = search needs
-
-timing-point-of-requires : tie.Need-timing-point-of-requires Inv-loop μ-loop
-timing-point-of-requires c κs = search needs
-
-put-packet-requires : tie.Need-put-packet-requires Inv-loop μ-loop
-put-packet-requires c κs = search needs
-
-add-p : tie.Need-add-p Inv-loop μ-loop
-add-p c = omega arith
-
-add-k : tie.Need-add-k Inv-loop μ-loop
-add-k c = omega arith
-
-loop-less : tie.Need-loop-less Inv-loop μ-loop
-loop-less c = omega arith
 
 loop-again : tie.Need-loop-again Inv-loop μ-loop
 loop-again c =
@@ -96,22 +63,6 @@ returns-2 c = let l = c .before .loop in
 pub put-passings-spec : {M : Type 1} → statement M
 put-passings-spec =
     tie.close
-    (tie.spec
-    Inv-loop
-    μ-loop
-    returns
-    header-of-requires
-    blank-point-requires
-    loop-holds
-    add-t17
-    cast-i
-    mul-point
-    array-copy-out-point
-    timing-point-of-requires
-    put-packet-requires
-    add-p
-    add-k
-    loop-less
-    loop-again
-    same-length
-    returns-2)
+    (tie.spec Inv-loop μ-loop returns (search needs) (search needs) loop-holds (λ c. omega arith) (search needs)
+    (search needs) (search needs) (search needs) (search needs) (λ c. omega arith) (λ c. omega arith)
+    (λ c. omega arith) loop-again same-length returns-2)

@@ -17,18 +17,6 @@ Inv-loop s at names₀ n start p₀ i₀ names p i = ListTo nameRecord blankName
 abbrev μ-loop : tie.MeasureT-loop
 μ-loop s at names₀ n start p₀ i₀ names p i = n - i
 
-cast-read-field : tie.Need-cast-read-field Inv-loop μ-loop
-cast-read-field c = search needs
-
-read-field-requires : tie.Need-read-field-requires Inv-loop μ-loop
-read-field-requires c κs = search needs
-
-enum-known-n : tie.Need-enum-known-n Inv-loop μ-loop
-enum-known-n c = search needs
-
-enum-told : tie.Need-enum-told Inv-loop μ-loop
-enum-told c = search needs
-
 returns : tie.Need-returns Inv-loop μ-loop
 returns c =
     let s = now (c .before .before .before .before .args .s) in
@@ -41,18 +29,6 @@ loop-holds c =
     let e = sym (c .before .before .before .read-field .ensures) ∙ ap (fieldView s) (c .before .n .given .1) in
     list-counted nameRecord blankName 40 s _ _ _ e
 
-cast-loop : tie.Need-cast-loop Inv-loop μ-loop
-cast-loop c = search needs
-
-read-name-requires : tie.Need-read-name-requires Inv-loop μ-loop
-read-name-requires c κs = search needs
-
-enum-known-name : tie.Need-enum-known-name Inv-loop μ-loop
-enum-known-name c = search needs
-
-enum-told-2 : tie.Need-enum-told-2 Inv-loop μ-loop
-enum-told-2 c = search needs
-
 returns-2 : tie.Need-returns-2 Inv-loop μ-loop
 returns-2 c =
     let w = c .before .before .before .before .loop in
@@ -60,27 +36,12 @@ returns-2 c =
     let e = sym (c .before .before .read-name .ensures) ∙ ap (nameView s) (c .enum-told2 .given .1) in
     list-bad nameRecord blankName 40 s _ _ _ _ _ (w .inv) (omega arith) e
 
-mul-names : tie.Need-mul-names Inv-loop μ-loop
-mul-names c = omega arith
-
-array-set-from-names : tie.Need-array-set-from-names Inv-loop μ-loop
-array-set-from-names c = omega arith
-
-add-i : tie.Need-add-i Inv-loop μ-loop
-add-i c = omega arith
-
-loop-less : tie.Need-loop-less Inv-loop μ-loop
-loop-less c = omega arith
-
 loop-again : tie.Need-loop-again Inv-loop μ-loop
 loop-again c =
     let w = c .before .before .before .before .before .loop in
     let s = now (c .before .before .before .before .before .before .before .before .before .before .before .args .s) in
     let e = sym (c .before .before .before .read-name .ensures) ∙ ap (nameView s) (c .before .name .given .1) in
     list-more nameRecord blankName 40 s _ _ _ _ _ (w .inv) _ _ (omega arith) e
-
-cast-count : tie.Need-cast-count Inv-loop μ-loop
-cast-count c = omega arith
 
 returns-3 : tie.Need-returns-3 Inv-loop μ-loop
 returns-3 c =
@@ -90,24 +51,6 @@ returns-3 c =
 pub read-names-spec : {M : Type 1} → statement M
 read-names-spec =
     tie.close
-    (tie.spec
-    Inv-loop
-    μ-loop
-    cast-read-field
-    read-field-requires
-    enum-known-n
-    enum-told
-    returns
-    loop-holds
-    cast-loop
-    read-name-requires
-    enum-known-name
-    enum-told-2
-    returns-2
-    mul-names
-    array-set-from-names
-    add-i
-    loop-less
-    loop-again
-    cast-count
-    returns-3)
+    (tie.spec Inv-loop μ-loop (search needs) (search needs) (search needs) (search needs) returns loop-holds
+    (search needs) (search needs) (search needs) (search needs) returns-2 (λ c. omega arith) (λ c. omega arith)
+    (λ c. omega arith) (λ c. omega arith) loop-again (λ c. omega arith) returns-3)

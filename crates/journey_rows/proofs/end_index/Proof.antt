@@ -15,20 +15,8 @@ Inv-loop j n i₀ i = (i ≤ n) × (endingOf (pointsView j) ≡ i + endingOf (dr
 abbrev μ-loop : tie.MeasureT-loop
 μ-loop j n i₀ i = n - i
 
-point-count-requires : tie.Need-point-count-requires Inv-loop μ-loop
-point-count-requires c κs = search needs
-
 loop-holds : tie.Need-loop-holds Inv-loop μ-loop
 loop-holds c = (omega arith, omega arith)
-
-mul-p : tie.Need-mul-p Inv-loop μ-loop
-mul-p c = omega arith
-
-element-copy-out-p : tie.Need-element-copy-out-p Inv-loop μ-loop
-element-copy-out-p c = omega arith
-
-cast-result : tie.Need-cast-result Inv-loop μ-loop
-cast-result c = omega arith
 
 returns : tie.Need-returns Inv-loop μ-loop
 returns c =
@@ -36,20 +24,11 @@ returns c =
     let j = c .before .before .before .before .before .args .t1 in
     let e : endingOf (drop (w .i) (pointsView j)) ≡ 0 = rw (points-left j (w .i) (omega arith) (omega arith), c .if1 .taken) in omega arith
 
-add-i : tie.Need-add-i Inv-loop μ-loop
-add-i c = omega arith
-
-loop-less : tie.Need-loop-less Inv-loop μ-loop
-loop-less c = omega arith
-
 loop-again : tie.Need-loop-again Inv-loop μ-loop
 loop-again c =
     let w = c .before .before .before .loop in
     let j = c .before .before .before .before .before .args .t1 in
     let e : endingOf (drop (w .i) (pointsView j)) ≡ endingOf (drop (w .i + 1) (pointsView j)) + 1 = rw (points-left j (w .i) (omega arith) (omega arith), c .if1 .left) in (omega arith, omega arith)
-
-cast-result-2 : tie.Need-cast-result-2 Inv-loop μ-loop
-cast-result-2 c = omega arith
 
 returns-2 : tie.Need-returns-2 Inv-loop μ-loop
 returns-2 c =
@@ -60,17 +39,5 @@ returns-2 c =
 pub end-index-spec : {M : Type 1} → statement M
 end-index-spec =
     tie.close
-    (tie.spec
-    Inv-loop
-    μ-loop
-    point-count-requires
-    loop-holds
-    mul-p
-    element-copy-out-p
-    cast-result
-    returns
-    add-i
-    loop-less
-    loop-again
-    cast-result-2
-    returns-2)
+    (tie.spec Inv-loop μ-loop (search needs) loop-holds (λ c. omega arith) (λ c. omega arith) (λ c. omega arith)
+    returns (λ c. omega arith) (λ c. omega arith) loop-again (λ c. omega arith) returns-2)

@@ -24,23 +24,8 @@ Inv-loop j segments n i₀ i = beyond (length (namesView j)) (pointsView j) ≡ 
 abbrev μ-loop : tie.MeasureT-loop
 μ-loop j segments n i₀ i = n - i
 
-name-count-requires : tie.Need-name-count-requires Inv-loop μ-loop
-name-count-requires c κs = search needs
-
-point-count-requires : tie.Need-point-count-requires Inv-loop μ-loop
-point-count-requires c κs = search needs
-
 loop-holds : tie.Need-loop-holds Inv-loop μ-loop
 loop-holds c = refl
-
-mul-p : tie.Need-mul-p Inv-loop μ-loop
-mul-p c = omega arith
-
-element-copy-out-p : tie.Need-element-copy-out-p Inv-loop μ-loop
-element-copy-out-p c = omega arith
-
-cast-if1 : tie.Need-cast-if1 Inv-loop μ-loop
-cast-if1 c = omega arith
 
 returns : tie.Need-returns Inv-loop μ-loop
 returns c =
@@ -48,12 +33,6 @@ returns c =
     let j = c .before .before .before .before .before .before .before .args .t1 in
     let e : length (namesView j) ≤ getD (j .points) (w .i) blankJourneyPoint .index = rw length-take (omega arith) in
     sym (w .inv ∙ rw (points-left j (w .i) (omega arith) (omega arith), le-leb _ _ e))
-
-add-i : tie.Need-add-i Inv-loop μ-loop
-add-i c = omega arith
-
-loop-less : tie.Need-loop-less Inv-loop μ-loop
-loop-less c = omega arith
 
 loop-again : tie.Need-loop-again Inv-loop μ-loop
 loop-again c =
@@ -71,17 +50,5 @@ returns-2 c =
 pub index-beyond-spec : {M : Type 1} → statement M
 index-beyond-spec =
     tie.close
-    (tie.spec
-    Inv-loop
-    μ-loop
-    name-count-requires
-    point-count-requires
-    loop-holds
-    mul-p
-    element-copy-out-p
-    cast-if1
-    returns
-    add-i
-    loop-less
-    loop-again
-    returns-2)
+    (tie.spec Inv-loop μ-loop (search needs) (search needs) loop-holds (λ c. omega arith) (λ c. omega arith)
+    (λ c. omega arith) returns (λ c. omega arith) (λ c. omega arith) loop-again returns-2)

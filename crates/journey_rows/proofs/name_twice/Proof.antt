@@ -16,32 +16,14 @@ Inv-loop j n i₀ i = twice sameName (namesView j) ≡ twice sameName (drop i (n
 abbrev μ-loop : tie.MeasureT-loop
 μ-loop j n i₀ i = n - i
 
-name-count-requires : tie.Need-name-count-requires Inv-loop μ-loop
-name-count-requires c κs = search needs
-
 loop-holds : tie.Need-loop-holds Inv-loop μ-loop
 loop-holds c = refl
-
-mul-name : tie.Need-mul-name Inv-loop μ-loop
-mul-name c = omega arith
-
-element-copy-out-name : tie.Need-element-copy-out-name Inv-loop μ-loop
-element-copy-out-name c = omega arith
-
-add-i : tie.Need-add-i Inv-loop μ-loop
-add-i c = omega arith
-
-named-from-requires : tie.Need-named-from-requires Inv-loop μ-loop
-named-from-requires c κs = search needs
 
 returns : tie.Need-returns Inv-loop μ-loop
 returns c =
     let w = c .before .before .before .before .loop in
     let j = c .before .before .before .before .before .before .args .t1 in
     sym (w .inv ∙ rw (names-left j (w .i) (omega arith) (omega arith), sym (c .before .named-from .ensures) ∙ c .if1 .taken))
-
-loop-less : tie.Need-loop-less Inv-loop μ-loop
-loop-less c = omega arith
 
 loop-again : tie.Need-loop-again Inv-loop μ-loop
 loop-again c =
@@ -58,16 +40,5 @@ returns-2 c =
 pub name-twice-spec : {M : Type 1} → statement M
 name-twice-spec =
     tie.close
-    (tie.spec
-    Inv-loop
-    μ-loop
-    name-count-requires
-    loop-holds
-    mul-name
-    element-copy-out-name
-    add-i
-    named-from-requires
-    returns
-    loop-less
-    loop-again
-    returns-2)
+    (tie.spec Inv-loop μ-loop (search needs) loop-holds (λ c. omega arith) (λ c. omega arith) (λ c. omega arith)
+    (search needs) returns (λ c. omega arith) loop-again returns-2)

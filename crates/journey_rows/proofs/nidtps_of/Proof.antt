@@ -18,29 +18,8 @@ Inv-loop j n names₀ i₀ names i = (i ≤ min (j .«point_count») 64) × (len
 abbrev μ-loop : tie.MeasureT-loop
 μ-loop j n names₀ i₀ names i = n - i
 
-point-count-requires : tie.Need-point-count-requires Inv-loop μ-loop
-point-count-requires c κs = search needs
-
 loop-holds : tie.Need-loop-holds Inv-loop μ-loop
 loop-holds c = (omega arith, refl, refl)
-
-mul-p : tie.Need-mul-p Inv-loop μ-loop
-mul-p c = omega arith
-
-element-copy-out-p : tie.Need-element-copy-out-p Inv-loop μ-loop
-element-copy-out-p c = omega arith
-
-mul-names : tie.Need-mul-names Inv-loop μ-loop
-mul-names c = omega arith
-
-array-write-names : tie.Need-array-write-names Inv-loop μ-loop
-array-write-names c = omega arith
-
-add-i : tie.Need-add-i Inv-loop μ-loop
-add-i c = omega arith
-
-loop-less : tie.Need-loop-less Inv-loop μ-loop
-loop-less c = omega arith
 
 loop-again : tie.Need-loop-again Inv-loop μ-loop
 loop-again c =
@@ -58,16 +37,5 @@ returns c =
 pub nidtps-of-spec : {M : Type 1} → statement M
 nidtps-of-spec =
     tie.close
-    (tie.spec
-    Inv-loop
-    μ-loop
-    point-count-requires
-    loop-holds
-    mul-p
-    element-copy-out-p
-    mul-names
-    array-write-names
-    add-i
-    loop-less
-    loop-again
-    returns)
+    (tie.spec Inv-loop μ-loop (search needs) loop-holds (λ c. omega arith) (λ c. omega arith) (λ c. omega arith)
+    (λ c. omega arith) (λ c. omega arith) (λ c. omega arith) loop-again returns)

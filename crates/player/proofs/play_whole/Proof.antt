@@ -23,18 +23,6 @@ abbrev μ-loop : tie.MeasureT-loop
 loop-holds : tie.Need-loop-holds Inv-loop μ-loop
 loop-holds c = (refl, refl, length (now (c .before .before .before .args .s)), omega arith, refl)
 
-call-at-requires : tie.Need-call-at-requires Inv-loop μ-loop
-call-at-requires c κs = search needs
-
-enum-known-c : tie.Need-enum-known-c Inv-loop μ-loop
-enum-known-c c = search needs
-
-enum-told : tie.Need-enum-told Inv-loop μ-loop
-enum-told c = search needs
-
-flush-requires : tie.Need-flush-requires Inv-loop μ-loop
-flush-requires c κs = search needs
-
 same-length : tie.Need-same-length Inv-loop μ-loop
 same-length c = c .before .before .before .before .before .loop .inv .0
 
@@ -47,12 +35,6 @@ returns c =
     let told = sym (c .before .before .before .before .call-at .ensures) ∙ ap (callView s) (c .before .before .enum-told .given .1) in
     let (m, t, k, f, e) = c .before .before .before .before .before .loop .inv in
     run-end k _ _ _ told ∙ e
-
-with-room-requires : tie.Need-with-room-requires Inv-loop μ-loop
-with-room-requires c κs = search needs
-
-play-requires : tie.Need-play-requires Inv-loop μ-loop
-play-requires c κs = search needs
 
 loop-less : tie.Need-loop-less Inv-loop μ-loop
 loop-less c =
@@ -75,18 +57,5 @@ loop-again c =
 pub play-whole-spec : {M : Type 1} → statement M
 play-whole-spec =
     tie.close
-    (tie.spec
-    Inv-loop
-    μ-loop
-    loop-holds
-    call-at-requires
-    enum-known-c
-    enum-told
-    flush-requires
-    same-length
-    same-length-2
-    returns
-    with-room-requires
-    play-requires
-    loop-less
-    loop-again)
+    (tie.spec Inv-loop μ-loop loop-holds (search needs) (search needs) (search needs) (search needs) same-length
+    same-length-2 returns (search needs) (search needs) loop-less loop-again)

@@ -16,30 +16,12 @@ Inv-loop nidtp e n i₀ i = stopFrom (e .points) (n - i) i nidtp ≡ stopNamed (
 abbrev μ-loop : tie.MeasureT-loop
 μ-loop nidtp e n i₀ i = n - i
 
-points-loaded-requires : tie.Need-points-loaded-requires Inv-loop μ-loop
-points-loaded-requires c κs = search needs
-
-cast-n : tie.Need-cast-n Inv-loop μ-loop
-cast-n c = search needs
-
 loop-holds : tie.Need-loop-holds Inv-loop μ-loop
 loop-holds c = rw (left-all, c .points-loaded .ensures)
-
-mul-p : tie.Need-mul-p Inv-loop μ-loop
-mul-p c = omega arith
-
-element-copy-out-p : tie.Need-element-copy-out-p Inv-loop μ-loop
-element-copy-out-p c = omega arith
 
 returns : tie.Need-returns Inv-loop μ-loop
 returns c = let s = c .before .before .before .before .before in
     (sym (stop-hit _ _ _ _ (omega arith) (rw (c .before .before .if1 .taken, c .if2 .taken))) ∙ s .loop .inv, omega arith)
-
-add-i : tie.Need-add-i Inv-loop μ-loop
-add-i c = omega arith
-
-loop-less : tie.Need-loop-less Inv-loop μ-loop
-loop-less c = omega arith
 
 loop-again : tie.Need-loop-again Inv-loop μ-loop
 loop-again c = let s = c .before .before .before in
@@ -53,16 +35,5 @@ returns-2 c = (sym (stop-none _ _ _ _ (omega arith)) ∙ c .before .loop .inv, t
 pub find-stop-spec : {M : Type 1} → statement M
 find-stop-spec =
     tie.close
-    (tie.spec
-    Inv-loop
-    μ-loop
-    points-loaded-requires
-    cast-n
-    loop-holds
-    mul-p
-    element-copy-out-p
-    returns
-    add-i
-    loop-less
-    loop-again
-    returns-2)
+    (tie.spec Inv-loop μ-loop (search needs) (search needs) loop-holds (λ c. omega arith) (λ c. omega arith)
+    returns (λ c. omega arith) (λ c. omega arith) loop-again returns-2)

@@ -20,17 +20,8 @@ Inv-loop nidc nidsp segments n i₀ i = first (those (bears nidc nidsp) (drop i 
 abbrev μ-loop : tie.MeasureT-loop
 μ-loop nidc nidsp segments n i₀ i = n - i
 
-at-most-requires : tie.Need-at-most-requires Inv-loop μ-loop
-at-most-requires c κs = search needs
-
 loop-holds : tie.Need-loop-holds Inv-loop μ-loop
 loop-holds c = refl
-
-mul-s : tie.Need-mul-s Inv-loop μ-loop
-mul-s c = omega arith
-
-array-copy-out-s : tie.Need-array-copy-out-s Inv-loop μ-loop
-array-copy-out-s c = omega arith
 
 -- the array holds 40
 forty : (c : tie.After-at-most Inv-loop μ-loop) → length (c .before .before .args .e .segments) ≡ 40
@@ -49,20 +40,11 @@ returns c =
     ∙ s .loop .inv
     ∙ ap (λ l. first (those (bears (x .nidc) (x .nidsp)) l)) (all-listed (s .before))
 
-add-i : tie.Need-add-i Inv-loop μ-loop
-add-i c = omega arith
-
-loop-less : tie.Need-loop-less Inv-loop μ-loop
-loop-less c = omega arith
-
 loop-again : tie.Need-loop-again Inv-loop μ-loop
 loop-again c = let s = c .before .before .before .before in
     ⊎-elim (λ w. sym (segment-miss _ _ (s .before .at-most .result) (s .loop .i) _ _ (omega arith) (omega (arith, forty (s .before))) (ap₂ (λ x y. x && y) (eq-eqb _ _ (w .0 .taken)) (w .2 .left))) ∙ s .loop .inv)
     (λ w. sym (segment-miss _ _ (s .before .at-most .result) (s .loop .i) _ _ (omega arith) (omega (arith, forty (s .before))) (and-first (ne-eqb _ _ (w .left)) _)) ∙ s .loop .inv)
     (c .if1 .came)
-
-blank-segment-requires : tie.Need-blank-segment-requires Inv-loop μ-loop
-blank-segment-requires c κs = search needs
 
 returns-2 : tie.Need-returns-2 Inv-loop μ-loop
 returns-2 c =
@@ -75,16 +57,5 @@ returns-2 c =
 pub segment-named-spec : {M : Type 1} → statement M
 segment-named-spec =
     tie.close
-    (tie.spec
-    Inv-loop
-    μ-loop
-    at-most-requires
-    loop-holds
-    mul-s
-    array-copy-out-s
-    returns
-    add-i
-    loop-less
-    loop-again
-    blank-segment-requires
-    returns-2)
+    (tie.spec Inv-loop μ-loop (search needs) loop-holds (λ c. omega arith) (λ c. omega arith) returns
+    (λ c. omega arith) (λ c. omega arith) loop-again (search needs) returns-2)

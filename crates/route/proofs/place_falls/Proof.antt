@@ -25,30 +25,12 @@ returns c =
     let z : length (a .t1) ≡ 64 = c .before .before .before .good .0 .1 .0 .1 in
     sym (w .inv ∙ rw (left-none blankPoint (min (a .n) 64) (w .i) (a .t1) (omega arith))) ∙ places-fall (take (min (a .n) 64) (a .t1))
 
-mul-p : tie.Need-mul-p Inv-loop μ-loop
-mul-p c = omega arith
-
-array-copy-out-p : tie.Need-array-copy-out-p Inv-loop μ-loop
-array-copy-out-p c = omega arith
-
-falls-requires : tie.Need-falls-requires Inv-loop μ-loop
-falls-requires c κs = search needs
-
 returns-2 : tie.Need-returns-2 Inv-loop μ-loop
 returns-2 c =
     let w = c .before .before .before .before .before .loop in
     let a = c .before .before .before .before .before .before .args in
     let z : length (a .t1) ≡ 64 = c .before .before .before .before .before .before .good .0 .1 .0 .1 in
     sym (w .inv ∙ rw (left-more blankPoint (min (a .n) 64) (w .i) (a .t1) (omega arith) (omega arith), sym (c .before .falls .ensures) ∙ c .if2 .taken)) ∙ places-fall (take (min (a .n) 64) (a .t1))
-
-least-after-requires : tie.Need-least-after-requires Inv-loop μ-loop
-least-after-requires c κs = search needs
-
-add-i : tie.Need-add-i Inv-loop μ-loop
-add-i c = omega arith
-
-loop-less : tie.Need-loop-less Inv-loop μ-loop
-loop-less c = omega arith
 
 loop-again : tie.Need-loop-again Inv-loop μ-loop
 loop-again c =
@@ -67,17 +49,5 @@ returns-3 c =
 pub place-falls-spec : {M : Type 1} → statement M
 place-falls-spec =
     tie.close
-    (tie.spec
-    Inv-loop
-    μ-loop
-    loop-holds
-    returns
-    mul-p
-    array-copy-out-p
-    falls-requires
-    returns-2
-    least-after-requires
-    add-i
-    loop-less
-    loop-again
-    returns-3)
+    (tie.spec Inv-loop μ-loop loop-holds returns (λ c. omega arith) (λ c. omega arith) (search needs) returns-2
+    (search needs) (λ c. omega arith) (λ c. omega arith) loop-again returns-3)

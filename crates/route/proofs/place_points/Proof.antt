@@ -28,27 +28,12 @@ small c = index-below (c .before .before .before .before .before .before .before
 long : (c : tie.After-struct-known Inv-loop μ-loop) → length (c .before .before .before .before .before .before .before .args .t2 .segments) ≡ 40
 long c = sym (length-map (c .before .before .before .before .before .before .before .args .t2 .segments) _) ∙ c .before .before .before .before .before .before .before .good .1 .0 .1 .1 .0 .1 .0 .1
 
-point-count-requires : tie.Need-point-count-requires Inv-loop μ-loop
-point-count-requires c κs = search needs
-
-blank-point-requires : tie.Need-blank-point-requires Inv-loop μ-loop
-blank-point-requires c κs = search needs
-
 loop-holds : tie.Need-loop-holds Inv-loop μ-loop
 loop-holds c =
     let a = c .before .before .before .args in
     let j = a .t1 in
     let n : length (pointsView j) ≤ 64 = points-few j in
     rw (c .blank-point .ensures) (points-none (a .t2 .segments) (recordsView (now (a .s)) (a .t2)) (pointsView j) n)
-
-mul-p : tie.Need-mul-p Inv-loop μ-loop
-mul-p c = omega arith
-
-element-copy-out-p : tie.Need-element-copy-out-p Inv-loop μ-loop
-element-copy-out-p c = omega arith
-
-cast-k : tie.Need-cast-k Inv-loop μ-loop
-cast-k c = omega arith
 
 mul-g : tie.Need-mul-g Inv-loop μ-loop
 mul-g c = omega (arith, small c)
@@ -62,9 +47,6 @@ mul-e c = omega (arith, small (c .before))
 element-copy-out-e : tie.Need-element-copy-out-e Inv-loop μ-loop
 element-copy-out-e c = small (c .before)
 
-find-point-requires : tie.Need-find-point-requires Inv-loop μ-loop
-find-point-requires c κs = search needs
-
 point-of-requires : tie.Need-point-of-requires Inv-loop μ-loop
 point-of-requires c κs =
     let w = c .before .before .before .before .before .before .loop in
@@ -76,18 +58,6 @@ point-of-requires c κs =
     let g = getD-there (m .segments) (p .index) _ blankSegment (omega (arith, k, long (c .before .before .before))) in
     let f = c .find-point .ensures ∙ entry-point (now (a .s)) m p (getD (m .entries) (p .index) blankEntry) refl in
     point-fits (now (a .s)) m p _ _ g f (c .before .before .before .before .before .before .before .before .before .before .pre .1)
-
-mul-points : tie.Need-mul-points Inv-loop μ-loop
-mul-points c = omega arith
-
-array-set-from-points : tie.Need-array-set-from-points Inv-loop μ-loop
-array-set-from-points c = omega arith
-
-add-i : tie.Need-add-i Inv-loop μ-loop
-add-i c = omega arith
-
-loop-less : tie.Need-loop-less Inv-loop μ-loop
-loop-less c = omega arith
 
 loop-again : tie.Need-loop-again Inv-loop μ-loop
 loop-again c =
@@ -115,24 +85,6 @@ returns c =
 pub place-points-spec : {M : Type 1} → statement M
 place-points-spec =
     tie.close
-    (tie.spec
-    Inv-loop
-    μ-loop
-    point-count-requires
-    blank-point-requires
-    loop-holds
-    mul-p
-    element-copy-out-p
-    cast-k
-    mul-g
-    element-copy-out-g
-    mul-e
-    element-copy-out-e
-    find-point-requires
-    point-of-requires
-    mul-points
-    array-set-from-points
-    add-i
-    loop-less
-    loop-again
-    returns)
+    (tie.spec Inv-loop μ-loop (search needs) (search needs) loop-holds (λ c. omega arith) (λ c. omega arith)
+    (λ c. omega arith) mul-g element-copy-out-g mul-e element-copy-out-e (search needs) point-of-requires
+    (λ c. omega arith) (λ c. omega arith) (λ c. omega arith) (λ c. omega arith) loop-again returns)

@@ -19,48 +19,12 @@ Inv-loop b s j n m₀ placed₀ start₀ i₀ m placed start i = Placed s (segme
 abbrev μ-loop : tie.MeasureT-loop
 μ-loop b s j n m₀ placed₀ start₀ i₀ m placed start i = n - i
 
-name-count-requires : tie.Need-name-count-requires Inv-loop μ-loop
-name-count-requires c κs = search needs
-
-blank-placing-requires : tie.Need-blank-placing-requires Inv-loop μ-loop
-blank-placing-requires c κs = search needs
-
 loop-holds : tie.Need-loop-holds Inv-loop μ-loop
 loop-holds c =
     let a = c .before .before .before .args in
     let j = a .t1 in
     let n : length (namesView j) ≤ 40 = names-few j in
     rw (c .blank-placing .ensures .0, c .blank-placing .ensures .1) (placed-none (now (a .s)) (segmentsView (now (a .s)) (a .b)) (namesView j) n)
-
-mul-name : tie.Need-mul-name Inv-loop μ-loop
-mul-name c = omega arith
-
-element-copy-out-name : tie.Need-element-copy-out-name Inv-loop μ-loop
-element-copy-out-name c = omega arith
-
-record-of-requires : tie.Need-record-of-requires Inv-loop μ-loop
-record-of-requires c κs = search needs
-
-entry-in-requires : tie.Need-entry-in-requires Inv-loop μ-loop
-entry-in-requires c κs = search needs
-
-goes-on-requires : tie.Need-goes-on-requires Inv-loop μ-loop
-goes-on-requires c κs = search needs
-
-segment-of-requires : tie.Need-segment-of-requires Inv-loop μ-loop
-segment-of-requires c κs = search needs
-
-mul-g : tie.Need-mul-g Inv-loop μ-loop
-mul-g c = omega arith
-
-element-set-from-g : tie.Need-element-set-from-g Inv-loop μ-loop
-element-set-from-g c = omega arith
-
-mul-e : tie.Need-mul-e Inv-loop μ-loop
-mul-e c = omega arith
-
-element-set-from-e : tie.Need-element-set-from-e Inv-loop μ-loop
-element-set-from-e c = omega arith
 
 add-start : tie.Need-add-start Inv-loop μ-loop
 add-start c =
@@ -71,12 +35,6 @@ add-start c =
     let e = next-length s (segmentsView s (a .b)) (namesView j) (getD (j .names) (w .i) blankName) (c .before .before .before .before .record-of .result) (c .before .before .before .before .before .before .before .before .before .before .before .pre) (c .before .before .before .before .record-of .ensures s) in
     let f : c .before .before .before .entry-in .result .length ≤ 16777214 = rw (c .before .before .before .entry-in .ensures) e in
     omega (arith, f, w .inv .sum)
-
-add-i : tie.Need-add-i Inv-loop μ-loop
-add-i c = omega arith
-
-loop-less : tie.Need-loop-less Inv-loop μ-loop
-loop-less c = omega arith
 
 loop-again : tie.Need-loop-again Inv-loop μ-loop
 loop-again c =
@@ -100,24 +58,6 @@ returns c =
 pub place-segments-spec : {M : Type 1} → statement M
 place-segments-spec =
     tie.close
-    (tie.spec
-    Inv-loop
-    μ-loop
-    name-count-requires
-    blank-placing-requires
-    loop-holds
-    mul-name
-    element-copy-out-name
-    record-of-requires
-    entry-in-requires
-    goes-on-requires
-    segment-of-requires
-    mul-g
-    element-set-from-g
-    mul-e
-    element-set-from-e
-    add-start
-    add-i
-    loop-less
-    loop-again
-    returns)
+    (tie.spec Inv-loop μ-loop (search needs) (search needs) loop-holds (λ c. omega arith) (λ c. omega arith)
+    (search needs) (search needs) (search needs) (search needs) (λ c. omega arith) (λ c. omega arith)
+    (λ c. omega arith) (λ c. omega arith) add-start (λ c. omega arith) (λ c. omega arith) loop-again returns)

@@ -29,20 +29,8 @@ small c = index-below (c .before .before .before .before .before .before .args .
 long : (c : tie.After-struct-known Inv-loop μ-loop) → length (c .before .before .before .before .before .before .args .t2 .segments) ≡ 40
 long c = sym (length-map (c .before .before .before .before .before .before .args .t2 .segments) _) ∙ c .before .before .before .before .before .before .good .1 .0 .1 .1 .0 .1 .0 .1
 
-point-count-requires : tie.Need-point-count-requires Inv-loop μ-loop
-point-count-requires c κs = search needs
-
 loop-holds : tie.Need-loop-holds Inv-loop μ-loop
 loop-holds c = refl
-
-mul-p : tie.Need-mul-p Inv-loop μ-loop
-mul-p c = omega arith
-
-element-copy-out-p : tie.Need-element-copy-out-p Inv-loop μ-loop
-element-copy-out-p c = omega arith
-
-cast-k : tie.Need-cast-k Inv-loop μ-loop
-cast-k c = omega arith
 
 mul-g : tie.Need-mul-g Inv-loop μ-loop
 mul-g c = omega (arith, small c)
@@ -55,9 +43,6 @@ mul-e c = omega (arith, small (c .before))
 
 element-copy-out-e : tie.Need-element-copy-out-e Inv-loop μ-loop
 element-copy-out-e c = small (c .before)
-
-lacks-requires : tie.Need-lacks-requires Inv-loop μ-loop
-lacks-requires c κs = search needs
 
 -- the test of a turn stands for the definition's
 lacks-one : (c : tie.After-lacks Inv-loop μ-loop)
@@ -76,12 +61,6 @@ returns c =
     let b = c .before .before .before .before .before .before .before .before .before .before in
     λ book h. sym (w .inv ∙ rw (points-left (b .args .t1) (w .i) (omega arith) (omega arith), lacks-one (c .before) ∙ c .if1 .taken)) ∙ missing-same (now (b .args .s)) book (valueView (b .args .t1)) (b .args .t2) (names-few (b .args .t1)) h (b .pre)
 
-add-i : tie.Need-add-i Inv-loop μ-loop
-add-i c = omega arith
-
-loop-less : tie.Need-loop-less Inv-loop μ-loop
-loop-less c = omega arith
-
 loop-again : tie.Need-loop-again Inv-loop μ-loop
 loop-again c =
     let w = c .before .before .before .before .before .before .before .loop in
@@ -97,21 +76,6 @@ returns-2 c =
 pub point-missing-spec : {M : Type 1} → statement M
 point-missing-spec =
     tie.close
-    (tie.spec
-    Inv-loop
-    μ-loop
-    point-count-requires
-    loop-holds
-    mul-p
-    element-copy-out-p
-    cast-k
-    mul-g
-    element-copy-out-g
-    mul-e
-    element-copy-out-e
-    lacks-requires
-    returns
-    add-i
-    loop-less
-    loop-again
-    returns-2)
+    (tie.spec Inv-loop μ-loop (search needs) loop-holds (λ c. omega arith) (λ c. omega arith) (λ c. omega arith)
+    mul-g element-copy-out-g mul-e element-copy-out-e (search needs) returns (λ c. omega arith)
+    (λ c. omega arith) loop-again returns-2)

@@ -20,21 +20,6 @@ abbrev μ-loop : tie.MeasureT-loop
 loop-holds : tie.Need-loop-holds Inv-loop μ-loop
 loop-holds c = let a = c .before .args in (omega arith, ap (lookupPoint (a .nidtp)) (items-start pointOf 10 (a .e .points) (drop (a .e .«points_at») (now (a .s)))))
 
-be32-requires : tie.Need-be32-requires Inv-loop μ-loop
-be32-requires c κs = search needs
-
-after-requires : tie.Need-after-requires Inv-loop μ-loop
-after-requires c κs = search needs
-
-after-requires-2 : tie.Need-after-requires-2 Inv-loop μ-loop
-after-requires-2 c κs = search needs
-
-be32-requires-2 : tie.Need-be32-requires-2 Inv-loop μ-loop
-be32-requires-2 c κs = search needs
-
-be16-requires : tie.Need-be16-requires Inv-loop μ-loop
-be16-requires c κs = search needs
-
 returns : tie.Need-returns Inv-loop μ-loop
 returns c =
     let a = c .before .before .before .before .before .before .before .before .before .args in
@@ -44,15 +29,6 @@ returns c =
     let t = sym (c .before .before .before .before .before .be32 .ensures) ∙ c .before .before .before .before .if1 .taken in
     let here = w .inv .1 ∙ ap (lookupPoint (a .nidtp)) (items-step pointOf 10 n (w .i) l (drop 10 l) (c .before .before .before .before .before .before .loop-test .taken) refl) ∙ name-found (a .nidtp) l (items pointOf 10 (n - (w .i + 1)) (drop 10 l)) t in
     point-answer (a .nidtp) l _ _ t (c .before .be322 .ensures ∙ ap (number 4) (c .before .before .before .after .ensures)) (c .be16 .ensures ∙ ap (number 2) (c .before .before .after2 .ensures)) ∙ sym here
-
-after-requires-3 : tie.Need-after-requires-3 Inv-loop μ-loop
-after-requires-3 c κs = search needs
-
-add-i : tie.Need-add-i Inv-loop μ-loop
-add-i c = search needs
-
-loop-less : tie.Need-loop-less Inv-loop μ-loop
-loop-less c = search needs
 
 loop-again : tie.Need-loop-again Inv-loop μ-loop
 loop-again c =
@@ -72,18 +48,5 @@ returns-2 c =
 pub find-point-spec : {M : Type 1} → statement M
 find-point-spec =
     tie.close
-    (tie.spec
-    Inv-loop
-    μ-loop
-    loop-holds
-    be32-requires
-    after-requires
-    after-requires-2
-    be32-requires-2
-    be16-requires
-    returns
-    after-requires-3
-    add-i
-    loop-less
-    loop-again
-    returns-2)
+    (tie.spec Inv-loop μ-loop loop-holds (search needs) (search needs) (search needs) (search needs)
+    (search needs) returns (search needs) (search needs) (search needs) loop-again returns-2)

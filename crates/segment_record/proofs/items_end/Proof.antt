@@ -18,27 +18,12 @@ abbrev μ-loop : tie.MeasureT-loop
 loop-holds : tie.Need-loop-holds Inv-loop μ-loop
 loop-holds c = let a = c .before .args in (omega arith, skip-start (item (a .kind) (a .length)) (a .n) (drop (a .at) (now (a .s))))
 
-item-end-requires : tie.Need-item-end-requires Inv-loop μ-loop
-item-end-requires c κs = search needs
-
-enum-known-next : tie.Need-enum-known-next Inv-loop μ-loop
-enum-known-next c = search needs
-
-enum-told : tie.Need-enum-told Inv-loop μ-loop
-enum-told c = search needs
-
 returns : tie.Need-returns Inv-loop μ-loop
 returns c =
     let a = c .before .before .before .before .before .before .args in
     let s = now (a .s) in
     let w = c .before .before .before .before .loop in
     sym (w .inv .1 ∙ skip-bad (item (a .kind) (a .length)) (a .n) (w .i) (drop (w .p) s) (c .before .before .before .loop-test .taken) (sym (c .before .before .item-end .ensures) ∙ ap (endsView s) (c .enum-told .given .1)))
-
-add-i : tie.Need-add-i Inv-loop μ-loop
-add-i c = search needs
-
-loop-less : tie.Need-loop-less Inv-loop μ-loop
-loop-less c = search needs
 
 loop-again : tie.Need-loop-again Inv-loop μ-loop
 loop-again c =
@@ -58,15 +43,5 @@ returns-2 c =
 pub items-end-spec : {M : Type 1} → statement M
 items-end-spec =
     tie.close
-    (tie.spec
-    Inv-loop
-    μ-loop
-    loop-holds
-    item-end-requires
-    enum-known-next
-    enum-told
-    returns
-    add-i
-    loop-less
-    loop-again
-    returns-2)
+    (tie.spec Inv-loop μ-loop loop-holds (search needs) (search needs) (search needs) returns (search needs)
+    (search needs) loop-again returns-2)

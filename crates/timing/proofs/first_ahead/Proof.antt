@@ -18,31 +18,10 @@ Inv-points at e length n i₀ i =
 abbrev μ-points : tie.MeasureT-points
 μ-points at e length n i₀ i = n - i
 
-points-loaded-requires : tie.Need-points-loaded-requires Inv-points μ-points
-points-loaded-requires c κs = search needs
-
 points-holds : tie.Need-points-holds Inv-points μ-points
 unfolding target
 points-holds c = let a = c .before .before .args .t1 in
     rw left-all (ap (λ m. targetFrom (routeIn a) (unskippedReport (a .train .position) (a .train .length)) m 0) (c .points-loaded .ensures))
-
-cast-k : tie.Need-cast-k Inv-points μ-points
-cast-k c = search needs
-
-mul-p : tie.Need-mul-p Inv-points μ-points
-mul-p c = omega arith
-
-element-copy-out-p : tie.Need-element-copy-out-p Inv-points μ-points
-element-copy-out-p c = omega arith
-
-exceeds-requires : tie.Need-exceeds-requires Inv-points μ-points
-exceeds-requires c κs = search needs
-
-add-i : tie.Need-add-i Inv-points μ-points
-add-i c = omega arith
-
-points-less : tie.Need-points-less Inv-points μ-points
-points-less c = omega arith
 
 points-again : tie.Need-points-again Inv-points μ-points
 points-again c = let s = c .before .before .before .before .before .before in
@@ -65,18 +44,6 @@ returns-3 c = let s = c .before .before .before .before .before .before in
 pub first-ahead-spec : {M : Type 1} → statement M
 first-ahead-spec =
     tie.close
-    (tie.spec
-    Inv-points
-    μ-points
-    points-loaded-requires
-    points-holds
-    cast-k
-    mul-p
-    element-copy-out-p
-    exceeds-requires
-    add-i
-    points-less
-    points-again
-    returns
-    returns-2
+    (tie.spec Inv-points μ-points (search needs) points-holds (search needs) (λ c. omega arith)
+    (λ c. omega arith) (search needs) (λ c. omega arith) (λ c. omega arith) points-again returns returns-2
     returns-3)

@@ -19,35 +19,8 @@ Inv-points e at from points skips count next₀ reached₀ next reached =
 abbrev μ-points : tie.MeasureT-points
 μ-points e at from points skips count next₀ reached₀ next reached = count - next
 
-points-loaded-requires : tie.Need-points-loaded-requires Inv-points μ-points
-points-loaded-requires c κs = search needs
-
 points-holds : tie.Need-points-holds Inv-points μ-points
 points-holds c = (refl, ap (λ m. looked (routeIn (c .before .before .before .args .e)) (reportIn (c .before .before .before .args .e)) (m - c .before .before .before .args .from) (c .before .before .before .args .from)) (c .points-loaded .ensures))
-
-cast-k : tie.Need-cast-k Inv-points μ-points
-cast-k c = search needs
-
-mul-point : tie.Need-mul-point Inv-points μ-points
-mul-point c = omega arith
-
-array-copy-out-point : tie.Need-array-copy-out-point Inv-points μ-points
-array-copy-out-point c = omega arith
-
-array-read-driver : tie.Need-array-read-driver Inv-points μ-points
-array-read-driver c = omega arith
-
-exceeds-requires : tie.Need-exceeds-requires Inv-points μ-points
-exceeds-requires c κs = search needs
-
-stops-at-requires : tie.Need-stops-at-requires Inv-points μ-points
-stops-at-requires c κs = search needs
-
-add-next : tie.Need-add-next Inv-points μ-points
-add-next c = omega arith
-
-points-less : tie.Need-points-less Inv-points μ-points
-points-less c = omega arith
 
 points-again : tie.Need-points-again Inv-points μ-points
 points-again c = let s = c .before .before .before .before .before .before in
@@ -71,20 +44,6 @@ returns-3 c = let s = c .before .before .before .before .before .before .before 
 pub look-spec : {M : Type 1} → statement M
 look-spec =
     tie.close
-    (tie.spec
-    Inv-points
-    μ-points
-    points-loaded-requires
-    points-holds
-    cast-k
-    mul-point
-    array-copy-out-point
-    array-read-driver
-    exceeds-requires
-    stops-at-requires
-    add-next
-    points-less
-    points-again
-    returns
-    returns-2
-    returns-3)
+    (tie.spec Inv-points μ-points (search needs) points-holds (search needs) (λ c. omega arith)
+    (λ c. omega arith) (λ c. omega arith) (search needs) (search needs) (λ c. omega arith) (λ c. omega arith)
+    points-again returns returns-2 returns-3)

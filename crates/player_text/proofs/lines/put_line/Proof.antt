@@ -21,27 +21,12 @@ loop-holds : tie.Need-loop-holds Inv-loop μ-loop
 unfolding hex
 loop-holds c = (search needs, put-none _ _)
 
-shared-slice-read-put-hex : tie.Need-shared-slice-read-put-hex Inv-loop μ-loop
-shared-slice-read-put-hex c = search needs
-
-put-hex-requires : tie.Need-put-hex-requires Inv-loop μ-loop
-put-hex-requires c κs = search needs
-
-add-i : tie.Need-add-i Inv-loop μ-loop
-add-i c = search needs
-
-loop-less : tie.Need-loop-less Inv-loop μ-loop
-loop-less c = search needs
-
 loop-again : tie.Need-loop-again Inv-loop μ-loop
 loop-again c =
     let l = c .before .before .before .before .before .before in
     let s = now (c .before .before .before .before .before .before .before .before .before .args .s) in
     let h : l .loop .i < length s = omega arith in
     (l .loop .inv .0, rw (← hex-more s (l .loop .i) h) (put-then _ _ (l .loop .inv .1) (c .before .before .put-hex .ensures)))
-
-put-requires : tie.Need-put-requires Inv-loop μ-loop
-put-requires c κs = search needs
 
 same-length : tie.Need-same-length Inv-loop μ-loop
 same-length c = put-length (c .before .before .put .ensures) ∙ put-length (c .before .before .before .before .before .loop .inv .1)
@@ -56,15 +41,5 @@ returns c =
 pub put-line-spec : {M : Type 1} → statement M
 put-line-spec =
     tie.close
-    (tie.spec
-    Inv-loop
-    μ-loop
-    loop-holds
-    shared-slice-read-put-hex
-    put-hex-requires
-    add-i
-    loop-less
-    loop-again
-    put-requires
-    same-length
-    returns)
+    (tie.spec Inv-loop μ-loop loop-holds (search needs) (search needs) (search needs) (search needs) loop-again
+    (search needs) same-length returns)

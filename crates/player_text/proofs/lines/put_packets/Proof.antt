@@ -23,18 +23,6 @@ abbrev μ-loop : tie.MeasureT-loop
 loop-holds : tie.Need-loop-holds Inv-loop μ-loop
 loop-holds c = ([], put-none _ _, refl)
 
-rest-requires : tie.Need-rest-requires Inv-loop μ-loop
-rest-requires c κs = search needs
-
-front-size-requires : tie.Need-front-size-requires Inv-loop μ-loop
-front-size-requires c κs = search needs
-
-front-requires : tie.Need-front-requires Inv-loop μ-loop
-front-requires c κs = search needs
-
-put-line-requires : tie.Need-put-line-requires Inv-loop μ-loop
-put-line-requires c κs = search needs
-
 -- the piece at a position
 size-is : (c : tie.After-slice-known2 Inv-loop μ-loop) → c .before .before .before .before .before .front-size .result ≡ frontSize (drop (c .before .before .before .before .before .before .before .before .loop .from) (now (c .before .before .before .before .before .before .before .before .before .before .before .args .s)))
 size-is c = c .before .before .before .before .before .front-size .ensures ∙ ap frontSize (c .before .before .before .before .before .before .rest .ensures)
@@ -77,16 +65,5 @@ returns c =
 pub put-packets-spec : {M : Type 1} → statement M
 put-packets-spec =
     tie.close
-    (tie.spec
-    Inv-loop
-    μ-loop
-    loop-holds
-    rest-requires
-    front-size-requires
-    front-requires
-    put-line-requires
-    add-from
-    loop-less
-    loop-again
-    same-length
-    returns)
+    (tie.spec Inv-loop μ-loop loop-holds (search needs) (search needs) (search needs) (search needs) add-from
+    loop-less loop-again same-length returns)

@@ -14,32 +14,14 @@ Inv-loop s₀ end start count i₀ s i = (i ≤ count) × (start + count ≤ len
 abbrev μ-loop : tie.MeasureT-loop
 μ-loop s₀ end start count i₀ s i = count - i
 
-least-requires : tie.Need-least-requires Inv-loop μ-loop
-least-requires c κs = search needs
-
-least-requires-2 : tie.Need-least-requires-2 Inv-loop μ-loop
-least-requires-2 c κs = search needs
-
-sub-count : tie.Need-sub-count Inv-loop μ-loop
-sub-count c = search needs
-
 loop-holds : tie.Need-loop-holds Inv-loop μ-loop
 loop-holds c = (omega arith, omega arith, moved-none _ _)
-
-add-s : tie.Need-add-s Inv-loop μ-loop
-add-s c = search needs
 
 slice-read-s : tie.Need-slice-read-s Inv-loop μ-loop
 slice-read-s c = omega (arith, c .before .before .loop .inv .2 .long)
 
 slice-write-s : tie.Need-slice-write-s Inv-loop μ-loop
 slice-write-s c = omega (arith, c .before .before .loop .inv .2 .long)
-
-add-i : tie.Need-add-i Inv-loop μ-loop
-add-i c = search needs
-
-loop-less : tie.Need-loop-less Inv-loop μ-loop
-loop-less c = search needs
 
 loop-again : tie.Need-loop-again Inv-loop μ-loop
 loop-again c =
@@ -62,18 +44,5 @@ returns c =
 pub to-front-spec : {M : Type 1} → statement M
 to-front-spec =
     tie.close
-    (tie.spec
-    Inv-loop
-    μ-loop
-    least-requires
-    least-requires-2
-    sub-count
-    loop-holds
-    add-s
-    slice-read-s
-    slice-write-s
-    add-i
-    loop-less
-    loop-again
-    same-length
-    returns)
+    (tie.spec Inv-loop μ-loop (search needs) (search needs) (search needs) loop-holds (search needs)
+    slice-read-s slice-write-s (search needs) (search needs) loop-again same-length returns)
