@@ -2,15 +2,12 @@
 ghost use Prim.Native.Nat.{_+_, _≤_};
 ghost use mathlib.Core.Path.{_≡_};
 ghost use lib.ListN.{length, take, drop};
-ghost use Rattle.call.specs.Call.{stepOf};
 ghost use Rattle.player_text.specs.Lines.{mostLines};
-ghost use Rattle.player_text.specs.View.{givenView};
-ghost use Rattle.player.specs.Played.{lent, left};
-ghost use Rattle.player.specs.View.{Plays};
+ghost use Rattle.player.specs.Played.{left};
 ghost use Rattle.player.specs.Played.{run as Played·run};
 use engine_value::Engine;
+use player_step::Played;
 use player_text::calls;
-use player_text::calls::Call;
 use player_text::calls::CallRead;
 use player_text::lines;
 use player_text::parts;
@@ -24,29 +21,6 @@ const MEMORY: usize = 4096;
 
 // The lines of some events.
 const TEXT: usize = 65536;
-
-// An engine, and a position.
-struct Played {
-    engine: Engine,
-    at: usize,
-}
-
-// One event: the engine after it, and the position behind its lines in the text.
-fn play(e: Engine, s: &[u8], c: Call, memory: &mut [u8], text: &mut [u8], at: usize) -> Played
-    ensures { λ r. ⌜ Plays (stepOf e (lent (givenView (now (s .entry)) c) (now (memory .entry)))) (now (text .entry)) at r (now (memory .exit)) (now (text .exit)) ⌝ }
-{
-    let event = parts::bytes_of(s, c.event);
-    let journey = parts::bytes_of(s, c.journey);
-    let book = parts::bytes_of(s, c.book);
-    let r = engine::step(e, event, journey, book, memory);
-    let after = r.engine;
-    let answer = r.answer;
-    let next = lines::put_answer(text, at, answer, memory);
-    Played {
-        engine: after,
-        at: next,
-    }
-}
 
 // The text so far is written out.
 fn flush(text: &[u8], used: usize) {
@@ -82,7 +56,7 @@ fn play_whole(e: Engine, s: &[u8], memory: &mut [u8], text: &mut [u8]) -> Played
             };
         };
         let room = with_room(text, used);
-        let p = play(after, s, c, memory, text, room);
+        let p = player_step::play(after, s, c, memory, text, room);
         after = p.engine;
         used = p.at;
         at = c.next;

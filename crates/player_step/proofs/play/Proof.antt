@@ -1,6 +1,6 @@
 use borrow.Author.Needs.{needs}
-use Rattle.player.proofs.play.Statement.{statement}
-use Rattle.player.proofs.play.Tie as tie
+use Rattle.player_step.proofs.play.Statement.{statement}
+use Rattle.player_step.proofs.play.Tie as tie
 
 returns : tie.Need-returns
 returns c =
