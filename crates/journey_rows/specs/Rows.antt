@@ -1,11 +1,12 @@
--- Document 01, the rows 10 to 12 of the table of numbers: what they look at in a journey alone.
+-- Document 01, the rows 10 to 12 of the table of numbers: what they look at in a journey.
 use Prim.Native.Nat.{ℕ, _+_}
 use mathlib.Core.List.{List, [], _∷_, map}
 use mathlib.Core.Bool.{Bool, _&&_}
 use lib.ListN.{length}
 use lib.Dec.{eqb, leb}
 use Rattle.wire.specs.Numbers.{flag, if_then_else_}
-use Rattle.wire.specs.Lists.{any}
+use Rattle.wire.specs.Lists.{any, those}
+use Rattle.engine_value.specs.declared.Point.{Point}
 use Rattle.journey.specs.Journey.{JourneyValue}
 use Rattle.journey.specs.declared.Name.{Name}
 use Rattle.journey.specs.declared.JourneyPoint.{JourneyPoint}
@@ -30,6 +31,10 @@ ends (p ∷ ps) = flag (p .end) + ends ps
 -- "12 index falls"
 abbrev pub indices : List JourneyPoint → List ℕ
 indices ps = map (λ (p : JourneyPoint). p .index) ps
+
+-- "12 .. or placed points do not strictly rise": of the points as they are placed by the book
+abbrev pub places : List Point → List ℕ
+places ps = map (λ (p : Point). p .place) (those (λ (p : Point). p .placed) ps)
 
 -- where the End of Journey stands
 abbrev pub endingOf : List JourneyPoint → ℕ

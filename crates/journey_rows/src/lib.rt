@@ -1,17 +1,19 @@
-// What the rows 10 to 12 look at in a journey alone: names, indices, NID_TPs, End of Journey.
+// What the rows 10 to 12 look at in a journey: names, indices, NID_TPs, End of Journey; and 12 over the points as they are placed.
 use engine_value::MAX_POINTS;
 use engine_value::MAX_SEGMENTS;
+use engine_value::Point;
 use journey::Journey;
 use journey::Name;
 ghost use mathlib.Core.Path.{_≡_};
-ghost use Prim.Native.Nat.{_≤_, min};
+ghost use mathlib.Core.Bool.{not, _&&_, _||_};
+ghost use Prim.Native.Nat.{_+_, _≤_, min};
 ghost use lib.ListN.{length, drop, take};
-ghost use lib.Dec.{eqb};
-ghost use Rattle.wire.specs.Numbers.{flag};
-ghost use Rattle.wire.specs.Lists.{any, twice, falls};
+ghost use lib.Dec.{eqb, ltb};
+ghost use Rattle.wire.specs.Numbers.{flag, if_then_else_};
+ghost use Rattle.wire.specs.Lists.{any, twice, falls, strictlyRises};
 ghost use Rattle.engine_value.specs.Engine.{maxSegments, maxPoints};
 ghost use Rattle.journey.specs.View.{namesView, pointsView, valueView};
-ghost use Rattle.journey_rows.specs.Rows.{sameName, indexBeyond, nidtps, ends, indices, endingOf};
+ghost use Rattle.journey_rows.specs.Rows.{sameName, indexBeyond, nidtps, ends, indices, places, endingOf};
 ghost use Rattle.journey_rows.specs.View.{isNamed};
 
 // How many names there are; the caller learns the length of their array.
@@ -159,4 +161,52 @@ pub fn end_index(j: Journey) -> u8
         i += 1;
     }
     n as u8
+}
+
+// The place of a placed point is below the least one that is left to it.
+fn falls(p: Point, least: u64) -> bool
+    ensures { λ r. ⌜ r ≡ (p .placed && ltb (p .place) least) ⌝ }
+{
+    let below = (p.place as u64) < least;
+    if p.placed { below } else { false }
+}
+
+// The least place that is left to the next point.
+fn least_after(p: Point, least: u64) -> u64
+    ensures { λ r. ⌜ r ≡ (if p .placed then p .place + 1 else least) ⌝ }
+{
+    if p.placed {
+        return p.place as u64 + 1;
+    }
+    least
+}
+
+fn place_falls(points: [Point; MAX_POINTS], n: usize) -> bool
+    ensures { λ r. ⌜ r ≡ not (strictlyRises (places (take (min n maxPoints) points))) ⌝ }
+{
+    let mut least: u64 = 0;
+    let mut i: usize = 0;
+    while i < MAX_POINTS {
+        if n <= i {
+            return false;
+        }
+        let p = points[i];
+        if falls(p, least) {
+            return true;
+        }
+        least = least_after(p, least);
+        i += 1;
+    }
+    false
+}
+
+// 12 refuses.
+pub fn row_12(j: Journey, points: [Point; MAX_POINTS]) -> bool
+    ensures { λ r. ⌜ r ≡ (falls (indices (pointsView j)) || not (strictlyRises (places (take (length (pointsView j)) points)))) ⌝ }
+{
+    if index_falls(j) {
+        return true;
+    }
+    let n = point_count(j);
+    place_falls(points, n)
 }

@@ -2,5 +2,4 @@ pub mod Accepted
 pub mod Rows
 pub mod Placed
 pub mod Limits
-pub mod Rising
 pub mod Ranges

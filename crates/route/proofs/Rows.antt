@@ -26,8 +26,8 @@ use Rattle.journey.proofs.Filling.{filled-take}
 use Rattle.journey.specs.View.{journeyView, valueView}
 use Rattle.journey.specs.declared.Journey.{Journey}
 use Rattle.route.specs.Placing.{segmentsOf, pointAt, pointsOf}
-use Rattle.journey_rows.specs.Rows.{sameName, indexBeyond, nidtps, ends, indices}
-use Rattle.route.specs.Table.{pointMissing, places, checked, journeyOf}
+use Rattle.journey_rows.specs.Rows.{sameName, indexBeyond, nidtps, ends, indices, places}
+use Rattle.route.specs.Table.{pointMissing, checked, journeyOf}
 use Rattle.route.specs.Route.{routeOf, loadGroup, LoadValue, loadValue, loadOf}
 use Rattle.route.specs.View.{refusedLoad, loadFor, Answered}
 use Rattle.route.specs.declared.Loaded.{Loaded}

@@ -22,18 +22,18 @@ ghost use mathlib.Core.Bool.{false, not, _&&_, _||_};
 ghost use mathlib.Core.Option.{none, some};
 ghost use Prim.Native.Nat.{ℕ, _+_, _^_, _<_, min};
 ghost use lib.ListN.{length, take, replicate};
-ghost use lib.Dec.{eqb, ltb};
+ghost use lib.Dec.{eqb};
 ghost use Rattle.wire.specs.Numbers.{if_then_else_};
 ghost use Rattle.engine_value.specs.Engine.{maxSegments, maxPoints, blankSegment, blankPoint, filled};
-ghost use Rattle.wire.specs.Lists.{twice, falls, strictlyRises};
+ghost use Rattle.wire.specs.Lists.{twice};
 ghost use Rattle.segment_record.specs.Record.{BookSegment, lookupPoint};
 ghost use Rattle.book.specs.Book.{lookup, isSome};
 ghost use Rattle.segment_record.specs.View.{entryView, blankEntry, pointView};
 ghost use Rattle.book.specs.View.{segmentsView};
 ghost use Rattle.journey.specs.View.{namesView, pointsView, valueView};
 ghost use Rattle.route.specs.Placing.{segmentOf, placeOn, reachOn, pointOf, pointsOf};
-ghost use Rattle.journey_rows.specs.Rows.{indexBeyond, nidtps, ends, indices};
-ghost use Rattle.route.specs.Table.{pointMissing, places};
+ghost use Rattle.journey_rows.specs.Rows.{indexBeyond, nidtps, ends};
+ghost use Rattle.route.specs.Table.{pointMissing};
 ghost use Rattle.route.specs.Route.{loadGroup};
 ghost use Rattle.route.specs.View.{refusedLoad, recordView, recordedEntryView, Sound, PlacesFit, PlacingRead, loadFor, Answered, LoadRead};
 
@@ -281,43 +281,6 @@ fn place_points(j: Journey, m: Placing, s: &[u8]) -> [Point; MAX_POINTS]
     points
 }
 
-// The place of a placed point is below the least one that is left to it.
-fn falls(p: Point, least: u64) -> bool
-    ensures { λ r. ⌜ r ≡ (p .placed && ltb (p .place) least) ⌝ }
-{
-    let below = (p.place as u64) < least;
-    if p.placed { below } else { false }
-}
-
-// The least place that is left to the next point.
-fn least_after(p: Point, least: u64) -> u64
-    ensures { λ r. ⌜ r ≡ (if p .placed then p .place + 1 else least) ⌝ }
-{
-    if p.placed {
-        return p.place as u64 + 1;
-    }
-    least
-}
-
-fn place_falls(points: [Point; MAX_POINTS], n: usize) -> bool
-    ensures { λ r. ⌜ r ≡ not (strictlyRises (places (take (min n maxPoints) points))) ⌝ }
-{
-    let mut least: u64 = 0;
-    let mut i: usize = 0;
-    while i < MAX_POINTS {
-        if n <= i {
-            return false;
-        }
-        let p = points[i];
-        if falls(p, least) {
-            return true;
-        }
-        least = least_after(p, least);
-        i += 1;
-    }
-    false
-}
-
 // 11 refuses.
 fn row_11(j: Journey, m: Placing, s: &[u8]) -> bool
     ensures { λ r. ⌜ ((book : List BookSegment) → PlacingRead (now (s .entry)) book (namesView j) m → r ≡ (indexBeyond (valueView j) || (twice eqb (nidtps (pointsView j)) || (not (eqb (ends (pointsView j)) 1) || pointMissing book (valueView j))))) ⌝ }
@@ -332,17 +295,6 @@ fn row_11(j: Journey, m: Placing, s: &[u8]) -> bool
         return true;
     }
     point_missing(j, m, s)
-}
-
-// 12 refuses.
-fn row_12(j: Journey, points: [Point; MAX_POINTS]) -> bool
-    ensures { λ r. ⌜ r ≡ (falls (indices (pointsView j)) || not (strictlyRises (places (take (length (pointsView j)) points)))) ⌝ }
-{
-    if journey_rows::index_falls(j) {
-        return true;
-    }
-    let n = journey_rows::point_count(j);
-    place_falls(points, n)
 }
 
 fn load_of(j: Journey) -> Load
@@ -406,7 +358,7 @@ fn place(j: Journey, b: Book, s: &[u8]) -> Loaded
         return refused(11);
     }
     let points = place_points(j, m, s);
-    let twelve = row_12(j, points);
+    let twelve = journey_rows::row_12(j, points);
     if twelve {
         return refused(12);
     }

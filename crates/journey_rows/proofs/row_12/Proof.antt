@@ -4,8 +4,8 @@ use Prim.Native.Nat.{min}
 use lib.ListN.{length, length-take}
 use Rattle.journey.specs.View.{pointsView}
 use borrow.Author.Needs.{needs}
-use Rattle.route.proofs.row_12.Statement.{statement}
-use Rattle.route.proofs.row_12.Tie as tie
+use Rattle.journey_rows.proofs.row_12.Statement.{statement}
+use Rattle.journey_rows.proofs.row_12.Tie as tie
 
 returns : tie.Need-returns
 returns c = rw (sym (c .before .index-falls .ensures) ∙ c .if1 .taken)

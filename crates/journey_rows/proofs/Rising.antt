@@ -9,7 +9,7 @@ use Rattle.wire.specs.Numbers.{if_then_else_}
 use Rattle.wire.specs.Lists.{strictlyRises}
 use Rattle.wire.proofs.ListLaws.{risesFrom, rises-from}
 use Rattle.engine_value.specs.declared.Point.{Point}
-use Rattle.route.specs.Table.{places}
+use Rattle.journey_rows.specs.Rows.{places}
 
 -- a placed point lies below the least place that those before leave to it
 abbrev pub placeFalls : ℕ → List Point → Bool

@@ -3,11 +3,11 @@ use mathlib.Core.Path.{_≡_, refl, sym, _∙_}
 use lib.ListN.{length, drop, take}
 use native.Mathlib.Omega.{arith}
 use borrow.Author.Needs.{needs}
-use Rattle.route.proofs.Rising.{placeFalls, places-fall}
+use Rattle.journey_rows.proofs.Rising.{placeFalls, places-fall}
 use Rattle.wire.proofs.ListLaws.{left-more, left-none}
 use Rattle.engine_value.specs.Engine.{blankPoint}
-use Rattle.route.proofs.place_falls.Statement.{statement}
-use Rattle.route.proofs.place_falls.Tie as tie
+use Rattle.journey_rows.proofs.place_falls.Statement.{statement}
+use Rattle.journey_rows.proofs.place_falls.Tie as tie
 
 abbrev Inv-loop : tie.InvT-loop
 Inv-loop n points least₀ i₀ least i = placeFalls 0 (take (min n 64) points) ≡ placeFalls least (drop i (take (min n 64) points))

@@ -1,6 +1,6 @@
 use borrow.Author.Needs.{needs}
-use Rattle.route.proofs.falls.Statement.{statement}
-use Rattle.route.proofs.falls.Tie as tie
+use Rattle.journey_rows.proofs.falls.Statement.{statement}
+use Rattle.journey_rows.proofs.falls.Tie as tie
 
 returns : tie.Need-returns
 returns c = rw (c .if1 .taken)

@@ -1,6 +1,6 @@
 use borrow.Author.Needs.{needs}
-use Rattle.route.proofs.least_after.Statement.{statement}
-use Rattle.route.proofs.least_after.Tie as tie
+use Rattle.journey_rows.proofs.least_after.Statement.{statement}
+use Rattle.journey_rows.proofs.least_after.Tie as tie
 
 returns : tie.Need-returns
 returns c = rw (c .before .if1 .taken)
