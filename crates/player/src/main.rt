@@ -1,12 +1,4 @@
 // The player: reads events from standard input, hands each to the engine, and writes the lines of its answer.
-ghost use mathlib.Core.Path.{_≡_};
-ghost use lib.ListN.{length, drop};
-ghost use Rattle.player.specs.Played.{left};
-ghost use Rattle.player.specs.Played.{run as Played·run};
-use engine_value::Engine;
-use player_step::Played;
-use player_text::calls;
-use player_text::calls::CallRead;
 use player_text::parts;
 use player_text::parts::Part;
 
@@ -19,29 +11,6 @@ const MEMORY: usize = 4096;
 // The lines of some events.
 const TEXT: usize = 65536;
 
-// Plays each event in s that is not cut short: the engine after them, and the position behind them.
-fn play_whole(e: Engine, s: &[u8], memory: &mut [u8], text: &mut [u8]) -> Played
-    ensures { λ r. ⌜ left (r .engine) (now (memory .exit)) (drop (r .at) (now (s .entry))) ≡ Played·run (length (now (s .entry))) e (now (memory .entry)) (now (s .entry)) ⌝ }
-{
-    let mut after = e;
-    let mut at = 0;
-    let mut used = 0;
-    loop {
-        let CallRead::Whole(c) = calls::call_at(s, at) else {
-            player_step::flush(text, used);
-            return Played {
-                engine: after,
-                at: at,
-            };
-        };
-        let room = player_step::with_room(text, used);
-        let p = player_step::play(after, s, c, memory, text, room);
-        after = p.engine;
-        used = p.at;
-        at = c.next;
-    }
-}
-
 // Nothing proves that the input ends, so the turns are counted down from a number that no run uses up.
 fn run(input: &mut [u8], memory: &mut [u8], text: &mut [u8]) {
     let mut e = engine_value::fresh();
@@ -52,7 +21,7 @@ fn run(input: &mut [u8], memory: &mut [u8], text: &mut [u8]) {
         if end <= kept {
             return;
         }
-        let p = play_whole(e, parts::front(input, end), memory, text);
+        let p = player_step::play_whole(e, parts::front(input, end), memory, text);
         e = p.engine;
         let rest = Part {
             start: p.at,

@@ -1,1 +1,3 @@
+-- Document 01, "Player and trials": the run of the player.
+pub mod Played
 pub mod View

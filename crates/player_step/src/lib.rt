@@ -1,13 +1,16 @@
-// The steps of the player: one event with the lines of its answer, writing them out, reading on.
+// The steps of the player: an event with the lines of its answer, all events that were read, writing out, reading on.
 ghost use Prim.Native.Nat.{_+_, _≤_};
 ghost use mathlib.Core.Path.{_≡_};
-ghost use lib.ListN.{length, take};
+ghost use lib.ListN.{length, take, drop};
 ghost use Rattle.call.specs.Call.{stepOf};
 ghost use Rattle.player_text.specs.Lines.{mostLines};
 ghost use Rattle.player_text.specs.View.{givenView};
-ghost use Rattle.player_step.specs.View.{lent, Plays};
+ghost use Rattle.player_step.specs.Played.{lent, left, run};
+ghost use Rattle.player_step.specs.View.{Plays};
 use engine_value::Engine;
+use player_text::calls;
 use player_text::calls::Call;
+use player_text::calls::CallRead;
 use player_text::lines;
 use player_text::parts;
 
@@ -52,6 +55,29 @@ pub fn with_room(text: &[u8], used: usize) -> usize
         }
     }
     flush(text, used)
+}
+
+// Plays each event in s that is not cut short: the engine after them, and the position behind them.
+pub fn play_whole(e: Engine, s: &[u8], memory: &mut [u8], text: &mut [u8]) -> Played
+    ensures { λ r. ⌜ left (r .engine) (now (memory .exit)) (drop (r .at) (now (s .entry))) ≡ run (length (now (s .entry))) e (now (memory .entry)) (now (s .entry)) ⌝ }
+{
+    let mut after = e;
+    let mut at = 0;
+    let mut used = 0;
+    loop {
+        let CallRead::Whole(c) = calls::call_at(s, at) else {
+            flush(text, used);
+            return Played {
+                engine: after,
+                at: at,
+            };
+        };
+        let room = with_room(text, used);
+        let p = play(after, s, c, memory, text, room);
+        after = p.engine;
+        used = p.at;
+        at = c.next;
+    }
 }
 
 // Reads on behind the bytes that are kept, and answers how many there are then.

@@ -1,2 +1,0 @@
--- Document 01, "Player and trials": the run of the player.
-pub mod Played
