@@ -1,3 +1,1 @@
--- Document 01, "Player and trials": the run of the player.
-pub mod Played
 pub mod View

@@ -4,12 +4,9 @@ use mathlib.Core.List.{List}
 use Rattle.fields.specs.Parse.{Parse}
 use Rattle.fields.specs.Parse.Parse.{bad, good}
 use Rattle.engine_value.specs.declared.Engine.{Engine}
-use Rattle.call.specs.Call.{Call, stepOf}
+use Rattle.call.specs.Call.{stepOf}
 use Rattle.player_text.specs.Calls.{Given, call}
-
--- the call of an event of the input, with the output memory that is lent
-abbrev pub lent : Given → List ℕ → Call
-lent g m = record { event = g .event; journey = g .journey; book = g .book; memory = m }
+use Rattle.player_step.specs.View.{lent}
 
 -- what a run leaves: the engine, the output memory, and the input from the first event on that is cut short
 pub record Left : Type 0 where

@@ -9,7 +9,8 @@ use Rattle.engine_value.specs.declared.Engine.{Engine}
 use Rattle.call.specs.Call.{stepOf}
 use Rattle.player_text.specs.Calls.{Given, call}
 use Rattle.player_text.proofs.Laws.{call-shorter}
-use Rattle.player_step.specs.Played.{lent, left, run}
+use Rattle.player_step.specs.View.{lent}
+use Rattle.player.specs.Played.{left, run}
 
 pub run-end : (k : ℕ) (e : Engine) (m l : List ℕ) → call l ≡ bad → left e m l ≡ run k e m l
 unfolding run

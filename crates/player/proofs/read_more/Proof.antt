@@ -2,8 +2,8 @@ use denote.Ref.{now}
 use lib.ListN.{take}
 use lib.Seq.{take-at, length-take-le}
 use borrow.Author.Needs.{needs}
-use Rattle.player_step.proofs.read_more.Statement.{statement}
-use Rattle.player_step.proofs.read_more.Tie as tie
+use Rattle.player.proofs.read_more.Statement.{statement}
+use Rattle.player.proofs.read_more.Tie as tie
 
 returns : tie.Need-returns
 returns c = search needs

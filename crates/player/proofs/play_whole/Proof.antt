@@ -5,12 +5,12 @@ use denote.Ref.{now}
 use lib.ListN.{length, drop, length-drop}
 use native.Mathlib.Omega.{arith}
 use Rattle.player_text.specs.View.{callView}
-use Rattle.player_step.specs.Played.{run}
+use Rattle.player.specs.Played.{run}
 use Rattle.player_text.proofs.Laws.{call-shorter}
-use Rattle.player_step.proofs.Laws.{run-end, run-next}
+use Rattle.player.proofs.Laws.{run-end, run-next}
 use borrow.Author.Needs.{needs}
-use Rattle.player_step.proofs.play_whole.Statement.{statement}
-use Rattle.player_step.proofs.play_whole.Tie as tie
+use Rattle.player.proofs.play_whole.Statement.{statement}
+use Rattle.player.proofs.play_whole.Tie as tie
 
 abbrev Inv-loop : tie.InvT-loop
 Inv-loop s memory₀ text₀ after₀ at₀ used₀ memory text after at used =

@@ -1,0 +1,2 @@
+-- Document 01, "Player and trials": the run of the player.
+pub mod Played
