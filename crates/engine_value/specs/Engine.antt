@@ -1,4 +1,4 @@
--- The engine as a value: blank elements, fresh, and a setter for each group (antt has no record update).
+-- The engine as a value: blank elements, fresh.
 use Prim.Native.Nat.{ℕ}
 use mathlib.Core.List.{List, _++_}
 use mathlib.Core.Bool.{Bool, true, false}
@@ -10,6 +10,7 @@ use Rattle.engine_value.specs.declared.Load.{Load}
 use Rattle.engine_value.specs.declared.Progress.{Progress}
 use Rattle.engine_value.specs.declared.Position.{Position}
 use Rattle.engine_value.specs.declared.Train.{Train}
+use Rattle.engine_value.specs.declared.Inputs.{Inputs}
 use Rattle.engine_value.specs.declared.Control.{Control}
 use Rattle.engine_value.specs.declared.Engine.{Engine}
 
@@ -60,12 +61,12 @@ abbrev pub blankZone : Zone
 blankZone = record { start = 0; end = 0 }
 
 abbrev pub blankSegment : Segment
-blankSegment = record { nidc = 0; nidsp = 0; booked = false; placed = false; start = 0; length = 0; «zone_count» = 0; zones = replicate maxZones blankZone }
+blankSegment = record { nidsp = 0; start = 0; length = 0; «zone_count» = 0; zones = replicate maxZones blankZone; nidc = 0; booked = false; placed = false }
 
 abbrev pub blankPoint : Point
-blankPoint = record { nidtp = 0; nidc = 0; alignment = 0; stopping = 0; stop = false; trackside = false; placed = false; place = 0; reach = 0 }
+blankPoint = record { nidtp = 0; place = 0; reach = 0; nidc = 0; alignment = 0; stopping = 0; stop = false; trackside = false; placed = false; spare = 0 }
 
--- ---- the train's values
+-- ---- the values from events
 
 -- the values that the engine keeps from an event, each a number; the position beside them
 pub data Value : Type 0 where
@@ -77,15 +78,18 @@ place lever = 1
 place reports = 2
 place trainLength = 3
 
-abbrev pub numberIn : Train → Value → ℕ
-numberIn t mode = t .mode
-numberIn t lever = t .lever
-numberIn t reports = t .reports
-numberIn t trainLength = t .length
+abbrev pub numberIn : Engine → Value → ℕ
+numberIn e mode = e .inputs .mode
+numberIn e lever = e .inputs .lever
+numberIn e reports = e .inputs .reports
+numberIn e trainLength = e .train .length
 
--- the train with that position and these numbers
+-- the train with that position, and the inputs, of these numbers
 abbrev pub trainOf : Position → (Value → ℕ) → Train
-trainOf x n = record { position = x; length = n trainLength; mode = n mode; lever = n lever; reports = n reports }
+trainOf x n = record { position = x; length = n trainLength }
+
+abbrev pub inputsOf : (Value → ℕ) → Inputs
+inputsOf n = record { mode = n mode; lever = n lever; reports = n reports }
 
 -- ---- "Fresh: NP, mode other, lever neutral, reports 0, length 0, speed 0, NID_C and NID_SP 0, offset undefined, no journey, no press, no request."
 
@@ -94,13 +98,16 @@ progress n r = record { next = n; reached = r }
 
 -- "no journey"
 abbrev pub noLoad : Load
-noLoad = record { valid = false; operational = noOperational; ending = 0; «point_count» = 0; «segment_count» = 0 }
+noLoad = record { operational = noOperational; valid = false; ending = 0; «point_count» = 0; «segment_count» = 0 }
 
 abbrev pub freshPosition : Position
-freshPosition = record { nidc = 0; nidsp = 0; offset = undefined; speed = 0 }
+freshPosition = record { nidsp = 0; offset = undefined; nidc = 0; speed = 0 }
 
 abbrev pub freshTrain : Train
 freshTrain = trainOf freshPosition (λ v. 0)
+
+abbrev pub freshInputs : Inputs
+freshInputs = inputsOf (λ v. 0)
 
 abbrev pub freshControl : Control
 freshControl = record { state = 0; press = false; request = false }
@@ -114,8 +121,9 @@ fresh = record {
   skips = noSkips;
   segments = replicate maxSegments blankSegment;
   load = noLoad;
-  progress = progress 0 false;
   train = freshTrain;
+  progress = progress 0 false;
+  inputs = freshInputs;
   control = freshControl;
 }
 
@@ -132,23 +140,6 @@ noRoute = record { load = noLoad; points = replicate maxPoints blankPoint; segme
 abbrev pub routeIn : Engine → Route
 routeIn e = record { load = e .load; points = e .points; segments = e .segments }
 
--- ---- setters
-
--- "Driver skips are cleared."
-abbrev pub withRoute : Engine → Route → Engine
-withRoute e r = record { points = r .points; skips = noSkips; segments = r .segments; load = r .load; progress = e .progress; train = e .train; control = e .control }
-
-abbrev pub withSkips : Engine → List Bool → Engine
-withSkips e l = record { points = e .points; skips = l; segments = e .segments; load = e .load; progress = e .progress; train = e .train; control = e .control }
-
-abbrev pub withProgress : Engine → Progress → Engine
-withProgress e p = record { points = e .points; skips = e .skips; segments = e .segments; load = e .load; progress = p; train = e .train; control = e .control }
-
-abbrev pub withTrain : Engine → Train → Engine
-withTrain e t = record { points = e .points; skips = e .skips; segments = e .segments; load = e .load; progress = e .progress; train = t; control = e .control }
-
+-- the engine with another control group (antt has no record update)
 abbrev pub withControl : Engine → Control → Engine
-withControl e c = record { points = e .points; skips = e .skips; segments = e .segments; load = e .load; progress = e .progress; train = e .train; control = c }
-
-abbrev pub withPosition : Engine → Position → Engine
-withPosition e p = withTrain e (trainOf p (numberIn (e .train)))
+withControl e c = record { points = e .points; skips = e .skips; segments = e .segments; load = e .load; train = e .train; progress = e .progress; inputs = e .inputs; control = c }

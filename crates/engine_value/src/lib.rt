@@ -1,9 +1,7 @@
 // The engine as a value: the journey in force, the train, how far it has come, and the ATO state. Numbers, bools and arrays of
 // plain structs, so that a host in C can hold it.
 ghost use mathlib.Core.Path.{_≡_};
-ghost use mathlib.Core.Bool.{false};
-ghost use lib.ListN.{replicate};
-ghost use Rattle.engine_value.specs.Engine.{maxPoints, maxSegments, blankSegment, blankPoint, progress, noSkips, noLoad, freshTrain, freshControl, fresh};
+ghost use Rattle.engine_value.specs.Engine.{blankSegment, blankPoint, noLoad, freshTrain, freshInputs, freshControl, fresh};
 
 // The most points and segments of a journey, and the most zones of a segment.
 pub const MAX_POINTS: usize = 64;
@@ -22,6 +20,9 @@ pub const UNDEFINED: u32 = 16777215;
 
 pub const NO_OPERATIONAL: u32 = 4294967295;
 
+// No struct of the engine has padding: wide fields stand first, and each size is the sum of its fields'. Equal engines then are equal
+// in every byte.
+
 // An inhibition zone of a segment, both ends inside.
 #[repr(C)]
 pub struct Zone {
@@ -32,35 +33,37 @@ pub struct Zone {
 // A segment of the journey. It is placed if it and all before it are in the book; `start` is then counted from the journey's start.
 #[repr(C)]
 pub struct Segment {
-    pub nidc: u16,
     pub nidsp: u32,
-    pub booked: bool,
-    pub placed: bool,
     pub start: u32,
     pub length: u32,
-    pub zone_count: u8,
+    pub zone_count: u32,
     pub zones: [Zone; MAX_ZONES],
+    pub nidc: u16,
+    pub booked: bool,
+    pub placed: bool,
 }
 
 // A timing point of the journey. Where it is placed, `place` is counted from the journey's start, and `reach` is the reached distance R.
+// `spare` is always 0: room for one mark.
 #[repr(C)]
 pub struct Point {
     pub nidtp: u32,
+    pub place: u32,
+    pub reach: u32,
     pub nidc: u16,
     pub alignment: u8,
     pub stopping: u8,
     pub stop: bool,
     pub trackside: bool,
     pub placed: bool,
-    pub place: u32,
-    pub reach: u16,
+    pub spare: u8,
 }
 
 // What a load settles beside the points and the segments; `ending` is the index of the End of Journey.
 #[repr(C)]
 pub struct Load {
-    pub valid: bool,
     pub operational: u32,
+    pub valid: bool,
     pub ending: u8,
     pub point_count: u8,
     pub segment_count: u8,
@@ -75,17 +78,22 @@ pub struct Progress {
 
 #[repr(C)]
 pub struct Position {
-    pub nidc: u16,
     pub nidsp: u32,
     pub offset: u32,
+    pub nidc: u16,
     pub speed: u16,
 }
 
-// What the latest events tell of the train, each value as the event has it.
+// Where the train is and how long it is, as the latest events tell.
 #[repr(C)]
 pub struct Train {
     pub position: Position,
     pub length: u32,
+}
+
+// What the latest mode, lever and report events tell.
+#[repr(C)]
+pub struct Inputs {
     pub mode: u8,
     pub lever: u8,
     pub reports: u8,
@@ -106,8 +114,9 @@ pub struct Engine {
     pub skips: [bool; MAX_POINTS],
     pub segments: [Segment; MAX_SEGMENTS],
     pub load: Load,
-    pub progress: Progress,
     pub train: Train,
+    pub progress: Progress,
+    pub inputs: Inputs,
     pub control: Control,
 }
 
@@ -118,14 +127,14 @@ pub fn blank_segment() -> Segment
     let zone = Zone { start: 0, end: 0 };
     let zones = [zone; MAX_ZONES];
     Segment {
-        nidc: 0,
         nidsp: 0,
-        booked: false,
-        placed: false,
         start: 0,
         length: 0,
         zone_count: 0,
         zones: zones,
+        nidc: 0,
+        booked: false,
+        placed: false,
     }
 }
 
@@ -135,14 +144,15 @@ pub fn blank_point() -> Point
 {
     Point {
         nidtp: 0,
+        place: 0,
+        reach: 0,
         nidc: 0,
         alignment: 0,
         stopping: 0,
         stop: false,
         trackside: false,
         placed: false,
-        place: 0,
-        reach: 0,
+        spare: 0,
     }
 }
 
@@ -153,8 +163,8 @@ pub fn no_load() -> Load
     ensures { λ r. ⌜ r ≡ noLoad ⌝ }
 {
     Load {
-        valid: false,
         operational: NO_OPERATIONAL,
+        valid: false,
         ending: 0,
         point_count: 0,
         segment_count: 0,
@@ -165,14 +175,21 @@ pub fn fresh_train() -> Train
     ensures { λ r. ⌜ r ≡ freshTrain ⌝ }
 {
     let position = Position {
-        nidc: 0,
         nidsp: 0,
         offset: UNDEFINED,
+        nidc: 0,
         speed: 0,
     };
     Train {
         position: position,
         length: 0,
+    }
+}
+
+pub fn fresh_inputs() -> Inputs
+    ensures { λ r. ⌜ r ≡ freshInputs ⌝ }
+{
+    Inputs {
         mode: 0,
         lever: 0,
         reports: 0,
@@ -189,19 +206,13 @@ pub fn fresh_control() -> Control
     }
 }
 
-// The arrays of an engine.
-struct Arrays {
-    points: [Point; MAX_POINTS],
-    segments: [Segment; MAX_SEGMENTS],
-}
-
-// The engine that is fresh but for its arrays.
-fn with_arrays(a: Arrays) -> Engine
-    ensures { λ r. ⌜ r ≡ record { points = a .points; skips = noSkips; segments = a .segments; load = noLoad; progress = progress 0 false; train = freshTrain; control = freshControl } ⌝ }
+// The fresh engine.
+pub fn fresh() -> Engine
+    ensures { λ r. ⌜ r ≡ fresh ⌝ }
 {
-    let points = a.points;
-    let segments = a.segments;
+    let points = [blank_point(); MAX_POINTS];
     let skips = [false; MAX_POINTS];
+    let segments = [blank_segment(); MAX_SEGMENTS];
     let progress = Progress {
         next: 0,
         reached: false,
@@ -211,51 +222,9 @@ fn with_arrays(a: Arrays) -> Engine
         skips: skips,
         segments: segments,
         load: no_load(),
-        progress: progress,
         train: fresh_train(),
+        progress: progress,
+        inputs: fresh_inputs(),
         control: fresh_control(),
     }
-}
-
-// The fresh engine.
-pub fn fresh() -> Engine
-    ensures { λ r. ⌜ r ≡ fresh ⌝ }
-{
-    let point = blank_point();
-    let segment = blank_segment();
-    let points = [point; MAX_POINTS];
-    let segments = [segment; MAX_SEGMENTS];
-    with_arrays(Arrays {
-        points: points,
-        segments: segments,
-    })
-}
-
-// One loop clears both arrays: two short ones would be unrolled into single stores.
-fn blank_arrays(e: Engine) -> Arrays
-    ensures { λ r. ⌜ (r .points ≡ replicate maxPoints blankPoint) × (r .segments ≡ replicate maxSegments blankSegment) ⌝ }
-{
-    let mut points = e.points;
-    let mut segments = e.segments;
-    let point = blank_point();
-    let segment = blank_segment();
-    let mut k: usize = 0;
-    while k < MAX_POINTS {
-        points[k] = point;
-        if k < MAX_SEGMENTS {
-            segments[k] = segment;
-        }
-        k += 1;
-    }
-    Arrays {
-        points: points,
-        segments: segments,
-    }
-}
-
-// "Power off returns to fresh", in the arrays of e.
-pub fn cleared(e: Engine) -> Engine
-    ensures { λ r. ⌜ r ≡ fresh ⌝ }
-{
-    with_arrays(blank_arrays(e))
 }

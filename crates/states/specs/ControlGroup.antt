@@ -1,9 +1,9 @@
--- The control group of the engine after an event, from the train's values with those of the event already in them, and from the group before.
+-- The control group of the engine after an event, from the inputs with those of the event already in them, and from the group before.
 use Prim.Native.Nat.{ℕ}
 use mathlib.Core.Bool.{Bool}
 use lib.Dec.{eqb}
 use Rattle.engine_value.specs.declared.Control.{Control}
-use Rattle.engine_value.specs.declared.Train.{Train}
+use Rattle.engine_value.specs.declared.Inputs.{Inputs}
 use Rattle.conditions.specs.Conditions.{allConditions}
 use Rattle.event.specs.declared.Event.{Event}
 use Rattle.state_codes.specs.Codes.{code, stateAt, modeAt, leverAt}
@@ -16,8 +16,8 @@ abbrev pub allNine : ℕ → Bool
 allNine word = eqb word allConditions
 
 -- what the rows look at; `word`: the nine conditions after the event
-abbrev pub valuesIn : Train → ℕ → Values
-valuesIn t word = record { O = allNine word; T = T (t .reports); lever = leverAt (t .lever); mode = modeAt (t .mode) }
+abbrev pub valuesIn : Inputs → ℕ → Values
+valuesIn i word = record { O = allNine word; T = T (i .reports); lever = leverAt (i .lever); mode = modeAt (i .mode) }
 
 abbrev pub machineIn : Control → Machine
 machineIn c = machine (stateAt (c .state)) (c .press)
@@ -26,5 +26,5 @@ machineIn c = machine (stateAt (c .state)) (c .press)
 abbrev pub controlOf : Control → Values → Machine → Control
 controlOf c v m = record { state = code (m .state); press = m .press; request = given (m .state) v (c .request) }
 
-unfoldable pub controlAfter : Train → Control → Event → Bool → ℕ → Control
-controlAfter t c event reached word = controlOf c (valuesIn t word) (machineAfter (machineIn c) event reached (valuesIn t word))
+unfoldable pub controlAfter : Inputs → Control → Event → Bool → ℕ → Control
+controlAfter i c event reached word = controlOf c (valuesIn i word) (machineAfter (machineIn c) event reached (valuesIn i word))

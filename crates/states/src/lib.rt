@@ -6,7 +6,7 @@ ghost use Rattle.states.specs.States.{machine, T, N, U, fromRE, fromEG, 
 ghost use Rattle.states.specs.ControlGroup.{allNine, valuesIn, machineIn, controlAfter};
 use conditions::ALL_CONDITIONS;
 use engine_value::Control;
-use engine_value::Train;
+use engine_value::Inputs;
 use event::Event;
 use event::Row;
 use event::row_of;
@@ -220,13 +220,13 @@ pub fn all_nine(word: u16) -> bool
     word == ALL_CONDITIONS
 }
 
-fn values_in(train: Train, word: u16) -> Values
-    ensures { λ r. ⌜ r ≡ valuesIn train word ⌝ }
+fn values_in(inputs: Inputs, word: u16) -> Values
+    ensures { λ r. ⌜ r ≡ valuesIn inputs word ⌝ }
 {
     let o = all_nine(word);
-    let t = train_conditions(train.reports);
-    let lever = state_codes::lever_at(train.lever);
-    let mode = state_codes::mode_at(train.mode);
+    let t = train_conditions(inputs.reports);
+    let lever = state_codes::lever_at(inputs.lever);
+    let mode = state_codes::mode_at(inputs.mode);
     Values {
         O: o,
         T: t,
@@ -245,12 +245,12 @@ fn machine_in(c: Control) -> Machine
     }
 }
 
-// The control group after an event, from the train's values with those of the event already in them;
+// The control group after an event, from the inputs with those of the event already in them;
 // `reached`: a point became reached in this event; `word`: the nine conditions after it.
-pub fn control_after(train: Train, c: Control, event: Event, reached: bool, word: u16) -> Control
-    ensures { λ r. ⌜ r ≡ controlAfter train c event reached word ⌝ }
+pub fn control_after(inputs: Inputs, c: Control, event: Event, reached: bool, word: u16) -> Control
+    ensures { λ r. ⌜ r ≡ controlAfter inputs c event reached word ⌝ }
 {
-    let v = values_in(train, word);
+    let v = values_in(inputs, word);
     let m = machine_after(machine_in(c), event, reached, v);
     let s = m.state;
     let request = given(s, v, c.request);

@@ -3,7 +3,15 @@ use Rattle.engine_value.proofs.fresh.Statement.{statement}
 use Rattle.engine_value.proofs.fresh.Tie as tie
 
 returns : tie.Need-returns
-returns c = rw (c .with-arrays .ensures, c .before .before .blank-point .ensures, c .before .blank-segment .ensures)
+returns c =
+    rw (
+      c .before .before .before .before .before .blank-point .ensures,
+      c .before .before .before .before .blank-segment .ensures,
+      c .before .before .before .no-load .ensures,
+      c .before .before .fresh-train .ensures,
+      c .before .fresh-inputs .ensures,
+      c .fresh-control .ensures,
+    )
 
 pub fresh-spec : {M : Type 1} → statement M
-fresh-spec = tie.close (tie.spec (search needs) (search needs) (search needs) returns)
+fresh-spec = tie.close (tie.spec (search needs) (search needs) (search needs) (search needs) (search needs) (search needs) returns)
