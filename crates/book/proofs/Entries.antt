@@ -1,13 +1,12 @@
 -- Laws of look-ups among entries and of the tests for doubles, one turn of a loop each.
 use Prim.Native.Nat.{ℕ, zero, suc, _+_, _≤_, _<_, min}
-use mathlib.Core.Path.{_≡_, refl, ap}
+use mathlib.Core.Path.{_≡_}
 use mathlib.Core.List.{List, [], _∷_, map}
-use mathlib.Core.Bool.{Bool, true, false, cond, _||_}
 use lib.ListN.{length, drop, getD, drop-of-length-le}
 use lib.Seq.{drop-cons}
 use native.Mathlib.Numerals.{add-one}
 use native.Mathlib.Omega.{arith}
-use Rattle.wire.specs.Lists.{All, any}
+use Rattle.wire.specs.Lists.{All}
 use Rattle.wire.proofs.ListLaws.{left-more, left-none}
 use Rattle.engine_value.specs.Engine.{maxSegments}
 use Rattle.segment_record.specs.Record.{maxRecordPoints}
@@ -15,10 +14,8 @@ use Rattle.segment_record.specs.View.{pointOf, entryView, blankEntry}
 use Rattle.segment_record.specs.declared.Entry.{Entry}
 use Rattle.segment_record.proofs.Accepted.{SegmentFits}
 use Rattle.segment_record.proofs.ItemLaws.{items-length}
-use Rattle.book.specs.Table.{sameSegment}
-use Rattle.book.specs.View.{entriesView, isNamed, indexFrom}
+use Rattle.book.specs.View.{entriesView}
 use Rattle.book.specs.declared.Book.{Book}
-use Rattle.book.specs.declared.Found.{Found}
 
 -- a list of numbers, i of them behind
 pub number-step : (l : List ℕ) (i : ℕ) → i < length l → drop i l ≡ getD l i 0 ∷ drop (i + 1) l
@@ -34,24 +31,6 @@ module _ (b : Book) (i : ℕ) where
 
   pub entries-none : min (b .count) maxSegments ≤ i → drop i (entriesView b) ≡ []
   entries-none h = left-none blankEntry (min (b .count) maxSegments) i (b .entries) h
-
--- an answer as a test
-abbrev pub isAt : Found → Bool
-isAt (Found.At i) = true
-isAt Found.Missing = false
-
-pub named-test : (c sp i : ℕ) (es : List Entry) → any (isNamed c sp) es ≡ isAt (indexFrom c sp i es)
-named-test c sp i [] = refl
-named-test c sp i (e ∷ es) = go (isNamed c sp e) (named-test c sp (i + 1) es)
-  where
-    go : (b : Bool) → any (isNamed c sp) es ≡ isAt (indexFrom c sp (i + 1) es) → (b || any (isNamed c sp) es) ≡ isAt (cond b (Found.At i) (indexFrom c sp (i + 1) es))
-    go true ih = refl
-    go false ih = ih
-
--- an entry's record is the same segment as one of others, by their names
-pub same-named : (s : List ℕ) (e : Entry) (es : List Entry) → any (λ g. sameSegment g (entryView s e)) (map (entryView s) es) ≡ any (isNamed (e .nidc) (e .nidsp)) es
-same-named s e [] = refl
-same-named s e (x ∷ es) = ap (λ (b : Bool). isNamed (e .nidc) (e .nidsp) x || b) (same-named s e es)
 
 -- an entry whose record fits has 16 points at most
 module _ (s : List ℕ) where

@@ -1,4 +1,4 @@
 pub mod Whole
 pub mod Entries
-pub mod LookUps
+pub mod Keys
 pub mod Accepted

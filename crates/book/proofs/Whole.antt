@@ -4,7 +4,7 @@ use mathlib.Core.Path.{_≡_, refl, sym, ap, _∙_, subst}
 use mathlib.Core.List.{List, [], _∷_, _++_, map, append-assoc, append-nil}
 use mathlib.Core.Bool.{Bool, true, false, cond, _||_}
 use lib.ListN.{length, drop, take, set, replicate, length-drop, length-append, length-set, drop-of-length-le}
-use lib.Seq.{drop-drop, drop-length, take-all, take-append-le, take-suc-set, set-out, drop-set-lt}
+use lib.Seq.{drop-drop, take-all, take-append-le, take-suc-set, set-out, drop-set-lt}
 use lib.Dec.{eqb, ltb}
 use native.Mathlib.Omega.{arith}
 use borrow.Author.Tests.{eq-eqb, ne-eqb, lt-ltb, le-ltb, ltb-true, ltb-false}

@@ -1,12 +1,11 @@
 -- What the values of the code say of the book's bytes s.
-use Prim.Native.Nat.{ℕ, suc, _+_, _-_, _≤_, min}
+use Prim.Native.Nat.{ℕ, suc, _+_, _-_, _*_, _^_, _<_, _≤_, min}
 use mathlib.Core.Path.{_≡_}
 use mathlib.Core.List.{List, [], _∷_, map}
-use mathlib.Core.Bool.{Bool, _&&_}
-use mathlib.Core.Option.{Option, none, some}
-use lib.ListN.{length, drop, take, getD, replicate}
+use lib.ListN.{length, drop, take, replicate}
 use lib.Dec.{eqb}
 use Rattle.wire.specs.Numbers.{if_then_else_}
+use Rattle.wire.specs.Lists.{All}
 use Rattle.wire.specs.Judged.{Judged, thenJudge}
 use Rattle.wire.specs.Judged.Judged.{accept}
 use Rattle.wire.specs.View.{verdictView}
@@ -20,7 +19,6 @@ use Rattle.segment_record.specs.declared.Entry.{Entry}
 use Rattle.book.specs.Book.{records}
 use Rattle.book.specs.Table.{bookOf}
 use Rattle.book.specs.declared.Book.{Book}
-use Rattle.book.specs.declared.Found.{Found}
 use Rattle.book.specs.declared.Counted.{Counted}
 use Rattle.book.specs.declared.Records.{Records}
 
@@ -41,19 +39,22 @@ pub record BookRead (s : List ℕ) (b : Book) : Type 0 where
   pub none : (n : ℕ) → b .verdict ≡ Verdict.Refused n → b .count ≡ 0
   pub blank : drop (b .count) (b .entries) ≡ replicate (maxSegments - b .count) blankEntry
 
--- a segment is named by NID_C and NID_SP together
-abbrev pub isNamed : ℕ → ℕ → Entry → Bool
-isNamed c sp e = eqb (e .nidc) c && eqb (e .nidsp) sp
+-- NID_C and NID_SP as one number
+abbrev pub keyOf : ℕ → ℕ → ℕ
+keyOf c sp = c * 4294967296 + sp
 
--- the first of the entries es, numbered from i on, that has a name
-abbrev pub indexFrom : ℕ → ℕ → ℕ → List Entry → Found
-indexFrom c sp i [] = Found.Missing
-indexFrom c sp i (e ∷ es) = if isNamed c sp e then Found.At i else indexFrom c sp (i + 1) es
+abbrev pub entryKey : Entry → ℕ
+entryKey e = keyOf (e .nidc) (e .nidsp)
 
--- the record of the index that was found
-abbrev pub foundView : List ℕ → Book → Found → Option BookSegment
-foundView s b (Found.At i) = some (entryView s (getD (b .entries) i blankEntry))
-foundView s b Found.Missing = none
+-- the keys of entries; each NID_SP is a number of four bytes, so that no two names have one key
+pub record Keyed (es : List Entry) (keys : List ℕ) : Type 0 where
+  pub each : keys ≡ map entryKey es
+  pub fit : All (λ (e : Entry). e .nidsp < 2 ^ 32) es
+
+-- where a key stands first, the count of the keys where it does not
+abbrev pub indexOf : ℕ → List ℕ → ℕ
+indexOf k [] = 0
+indexOf k (x ∷ xs) = if eqb x k then 0 else indexOf k xs + 1
 
 -- ---- inner functions
 

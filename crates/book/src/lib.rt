@@ -6,7 +6,7 @@ use segment_record::SegmentRead;
 use wire::Verdict;
 ghost use mathlib.Core.Path.{_≡_};
 ghost use mathlib.Core.List.{List};
-ghost use Prim.Native.Nat.{ℕ, _≤_, min};
+ghost use Prim.Native.Nat.{ℕ, _^_, _<_, _≤_, min};
 ghost use lib.ListN.{length, drop, take, getD};
 ghost use lib.Dec.{eqb};
 ghost use Rattle.wire.specs.Numbers.{number};
@@ -15,19 +15,13 @@ ghost use Rattle.engine_value.specs.Engine.{maxSegments};
 ghost use Rattle.segment_record.specs.Record.{maxRecordPoints};
 ghost use Rattle.segment_record.specs.View.{items, blankEntry};
 ghost use Rattle.book.specs.Table.{sameSegment, nidtpTwice};
-ghost use Rattle.book.specs.View.{segmentsView, entriesView, isNamed, indexFrom, BookRead, RecordsRead, refusedBook};
+ghost use Rattle.book.specs.View.{segmentsView, entriesView, keyOf, Keyed, indexOf, BookRead, RecordsRead, refusedBook};
 
 // The records of a book in their order; none where a row refuses.
 pub struct Book {
+    pub entries: [Entry; MAX_SEGMENTS],
     pub verdict: Verdict,
     pub count: u8,
-    pub entries: [Entry; MAX_SEGMENTS],
-}
-
-// The index of an entry.
-pub enum Found {
-    At(usize),
-    Missing,
 }
 
 // How many records a book is to its end.
@@ -38,8 +32,8 @@ enum Counted {
 
 // One pass over a book: its records are counted, and the first 40 are kept.
 struct Records {
-    counted: Counted,
     first: [Entry; MAX_SEGMENTS],
+    counted: Counted,
 }
 
 // Each record of the book, also beyond the 40th; the first 40 are kept.
@@ -70,53 +64,47 @@ fn read_records(s: &[u8]) -> Records
 }
 
 // How many entries there are, whatever the count says; the caller learns the length of their array.
-fn entry_count(b: Book) -> usize
+pub fn entry_count(b: Book) -> usize
     ensures { λ r. ⌜ (r ≡ min (b .count) maxSegments) × (length (b .entries) ≡ maxSegments) ⌝ }
 {
     let n = b.count as usize;
     if n < MAX_SEGMENTS { n } else { MAX_SEGMENTS }
 }
 
-fn is_named(e: Entry, nidc: u16, nidsp: u32) -> bool
-    ensures { λ r. ⌜ r ≡ isNamed nidc nidsp e ⌝ }
+// NID_C and NID_SP as one number; the caller learns that NID_SP is one of four bytes.
+pub fn key(nidc: u16, nidsp: u32) -> u64
+    ensures { λ r. ⌜ (r ≡ keyOf nidc nidsp) × (nidsp < 2 ^ 32) ⌝ }
 {
-    if e.nidc == nidc {
-        e.nidsp == nidsp
-    } else {
-        false
-    }
+    (nidc as u64) * 4294967296 + (nidsp as u64)
 }
 
-// The first entry from an index on that has the name.
-fn find_from(b: Book, from: usize, nidc: u16, nidsp: u32) -> Found
-    ensures { λ r. ⌜ r ≡ indexFrom nidc nidsp from (drop from (entriesView b)) ⌝ }
+// The key of each entry.
+pub fn keys_of(b: Book) -> [u64; MAX_SEGMENTS]
+    ensures { λ r. ⌜ Keyed (entriesView b) (take (min (b .count) maxSegments) r) ⌝ }
 {
     let n = entry_count(b);
-    let mut i = from;
+    let mut keys = [0; MAX_SEGMENTS];
+    let mut i: usize = 0;
     while i < n {
         let e = b.entries[i];
-        if is_named(e, nidc, nidsp) {
-            return Found::At(i);
+        keys[i] = key(e.nidc, e.nidsp);
+        i += 1;
+    }
+    keys
+}
+
+// The index of a key, or how many there are where it is missing.
+pub fn find(keys: &[u64], k: u64) -> usize
+    ensures { λ r. ⌜ r ≡ indexOf k (now (keys .entry)) ⌝ }
+{
+    let mut i: usize = 0;
+    while i < keys.len() {
+        if keys[i] == k {
+            return i;
         }
         i += 1;
     }
-    Found::Missing
-}
-
-// The entry of a segment, which NID_C and NID_SP name together.
-pub fn find_segment(b: Book, nidc: u16, nidsp: u32) -> Found
-    ensures { λ r. ⌜ r ≡ indexFrom nidc nidsp 0 (entriesView b) ⌝ }
-{
-    find_from(b, 0, nidc, nidsp)
-}
-
-fn has_from(b: Book, from: usize, nidc: u16, nidsp: u32) -> bool
-    ensures { λ r. ⌜ r ≡ any (isNamed nidc nidsp) (drop from (entriesView b)) ⌝ }
-{
-    match find_from(b, from, nidc, nidsp) {
-        Found::At(_) => true,
-        Found::Missing => false,
-    }
+    i
 }
 
 // Two entries have one name.
@@ -124,19 +112,12 @@ fn segment_twice(b: Book) -> bool
     ensures { λ r. ⌜ ((s : List ℕ) → r ≡ twice sameSegment (segmentsView s b)) ⌝ }
 {
     let n = entry_count(b);
-    let mut i: usize = 0;
-    while i < n {
-        let e = b.entries[i];
-        i += 1;
-        if has_from(b, i, e.nidc, e.nidsp) {
-            return true;
-        }
-    }
-    false
+    let keys = keys_of(b);
+    repeated(&keys[..n])
 }
 
 // The names of n points.
-fn names_of(s: &[u8], at: usize, n: usize) -> [u32; MAX_RECORD_POINTS]
+fn names_of(s: &[u8], at: usize, n: usize) -> [u64; MAX_RECORD_POINTS]
     requires { ⌜ n ≤ maxRecordPoints ⌝ }
     ensures { λ r. ⌜ take n r ≡ items (number 4) 10 n (drop at (now (s .entry))) ⌝ }
 {
@@ -144,7 +125,8 @@ fn names_of(s: &[u8], at: usize, n: usize) -> [u32; MAX_RECORD_POINTS]
     let mut p = at;
     let mut i: usize = 0;
     while i < n {
-        names[i] = wire::be32(s, p);
+        let name = wire::be32(s, p);
+        names[i] = name as u64;
         p = segment_record::after(s, p, 10);
         i += 1;
     }
@@ -152,7 +134,7 @@ fn names_of(s: &[u8], at: usize, n: usize) -> [u32; MAX_RECORD_POINTS]
 }
 
 // A name is among those from an index on.
-fn has_name(names: &[u32], from: usize, name: u32) -> bool
+fn has_name(names: &[u64], from: usize, name: u64) -> bool
     ensures { λ r. ⌜ r ≡ any (λ x. eqb x name) (drop from (now (names .entry))) ⌝ }
 {
     let mut i = from;
@@ -166,7 +148,7 @@ fn has_name(names: &[u32], from: usize, name: u32) -> bool
 }
 
 // A name stands twice.
-pub fn repeated(names: &[u32]) -> bool
+pub fn repeated(names: &[u64]) -> bool
     ensures { λ r. ⌜ r ≡ twice eqb (now (names .entry)) ⌝ }
 {
     let mut i: usize = 0;

@@ -62,12 +62,12 @@ pub struct Head {
 
 // A journey that was read; blank where 9 refuses.
 pub struct Journey {
-    pub verdict: Verdict,
-    pub head: Head,
-    pub name_count: u8,
     pub names: [Name; MAX_SEGMENTS],
-    pub point_count: u8,
     pub points: [JourneyPoint; MAX_POINTS],
+    pub head: Head,
+    pub verdict: Verdict,
+    pub name_count: u8,
+    pub point_count: u8,
 }
 
 // A value that was read and the position behind it.
@@ -93,13 +93,13 @@ enum Listed {
 }
 
 struct Names {
-    listed: Listed,
     names: [Name; MAX_SEGMENTS],
+    listed: Listed,
 }
 
 struct Points {
-    listed: Listed,
     points: [JourneyPoint; MAX_POINTS],
+    listed: Listed,
 }
 
 fn read_name(s: &[u8], at: usize) -> NameRead

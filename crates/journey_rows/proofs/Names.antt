@@ -1,19 +1,18 @@
--- NID_TPs copied into an array, a step of the loop each.
-use Prim.Native.Nat.{ℕ, _+_, _≤_, _<_}
-use mathlib.Core.Path.{_≡_, sym, ap, _∙_}
-use mathlib.Core.List.{List, [], _∷_, _++_, append-assoc, append-nil}
-use native.Mathlib.Omega.{arith}
-use lib.ListN.{length, take, set}
-use Rattle.wire.proofs.ListLaws.{one-more}
-use Rattle.journey.specs.declared.JourneyPoint.{JourneyPoint}
-use Rattle.journey_rows.specs.Rows.{nidtps}
+-- Names by their keys.
+use mathlib.Core.Path.{_≡_, refl, ap, _∙_}
+use mathlib.Core.List.{List, [], _∷_, map}
+use lib.Dec.{eqb}
+use Rattle.wire.specs.Lists.{All, twice}
+use Rattle.book.proofs.Keys.{key-same, twice-keys}
+use Rattle.journey.specs.declared.Name.{Name}
+use Rattle.journey_rows.specs.Rows.{sameName}
+use Rattle.journey_rows.specs.View.{nameKey, NameFits}
 
--- NID_TPs one by one: those of the first i points stand in xs
-module _ (xs : List ℕ) (i : ℕ) (all : List ℕ) (l : List JourneyPoint) (e : all ≡ take i xs ++ nidtps l) where
-  pub nidtps-more : (p : JourneyPoint) (r : List JourneyPoint) → i < length xs → l ≡ p ∷ r → all ≡ take (i + 1) (set xs i (p .nidtp)) ++ nidtps r
-  nidtps-more p r h d = e ∙ ap (λ (x : List JourneyPoint). take i xs ++ nidtps x) d ∙ sym (rw (one-more i xs (p .nidtp) h, append-assoc))
+names-themselves : (l : List Name) → map (λ n. n) l ≡ l
+names-themselves [] = refl
+names-themselves (n ∷ l) = ap (λ (r : List Name). n ∷ r) (names-themselves l)
 
-  pub nidtps-all : (n : ℕ) → i ≤ n → n ≤ i → l ≡ [] → take n xs ≡ all
-  nidtps-all n a b d =
-      let m : i ≡ n = omega arith in
-      sym (e ∙ ap (λ (x : List JourneyPoint). take i xs ++ nidtps x) d ∙ append-nil (take i xs) ∙ ap (λ (k : ℕ). take k xs) m)
+pub names-twice : (l : List Name) → All NameFits l → twice eqb (map nameKey l) ≡ twice sameName l
+names-twice l f =
+    twice-keys nameKey (λ (n : Name). n) sameName NameFits (λ a b h k. key-same (a .nidc) (a .nidsp) (b .nidc) (b .nidsp) h k) l f
+    ∙ ap (twice sameName) (names-themselves l)

@@ -3,18 +3,18 @@ use engine_value::MAX_POINTS;
 use engine_value::MAX_SEGMENTS;
 use engine_value::Point;
 use journey::Journey;
-use journey::Name;
 ghost use mathlib.Core.Path.{_≡_};
 ghost use mathlib.Core.Bool.{not, _&&_, _||_};
+ghost use mathlib.Core.List.{map};
 ghost use Prim.Native.Nat.{_+_, _≤_, min};
-ghost use lib.ListN.{length, drop, take};
+ghost use lib.ListN.{length, take};
 ghost use lib.Dec.{eqb, ltb};
 ghost use Rattle.wire.specs.Numbers.{flag, if_then_else_};
-ghost use Rattle.wire.specs.Lists.{any, twice, falls, strictlyRises};
+ghost use Rattle.wire.specs.Lists.{All, twice, falls, strictlyRises};
 ghost use Rattle.engine_value.specs.Engine.{maxSegments, maxPoints};
-ghost use Rattle.journey.specs.View.{namesView, pointsView, valueView};
-ghost use Rattle.journey_rows.specs.Rows.{sameName, indexBeyond, nidtps, ends, indices, places, endingOf};
-ghost use Rattle.journey_rows.specs.View.{isNamed};
+ghost use Rattle.journey.specs.View.{namesView, valueView};
+ghost use Rattle.journey_rows.specs.Rows.{sameName, ends, indices, places};
+ghost use Rattle.journey_rows.specs.View.{nameKey, NameFits, seenView};
 
 // How many names there are; the caller learns the length of their array.
 pub fn name_count(j: Journey) -> usize
@@ -31,81 +31,36 @@ pub fn point_count(j: Journey) -> usize
     if n < MAX_POINTS { n } else { MAX_POINTS }
 }
 
-fn is_named(n: Name, nidc: u16, nidsp: u32) -> bool
-    ensures { λ r. ⌜ r ≡ isNamed nidc nidsp n ⌝ }
-{
-    n.nidc == nidc && n.nidsp == nidsp
-}
-
-// A name is among those from an index on.
-fn named_from(j: Journey, from: usize, nidc: u16, nidsp: u32) -> bool
-    ensures { λ r. ⌜ r ≡ any (isNamed nidc nidsp) (drop from (namesView j)) ⌝ }
+// The key of each name; the caller learns that each NID_SP is a number of four bytes.
+fn keys_of(j: Journey) -> [u64; MAX_SEGMENTS]
+    ensures { λ r. ⌜ (take (min (j .«name_count») maxSegments) r ≡ map nameKey (namesView j)) × All NameFits (namesView j) ⌝ }
 {
     let n = name_count(j);
-    let mut i = from;
+    let mut keys = [0; MAX_SEGMENTS];
+    let mut i: usize = 0;
     while i < n {
         let name = j.names[i];
-        if is_named(name, nidc, nidsp) {
-            return true;
-        }
+        keys[i] = book::key(name.nidc, name.nidsp);
         i += 1;
     }
-    false
+    keys
 }
 
 pub fn name_twice(j: Journey) -> bool
     ensures { λ r. ⌜ r ≡ twice sameName (namesView j) ⌝ }
 {
     let n = name_count(j);
-    let mut i: usize = 0;
-    while i < n {
-        let name = j.names[i];
-        i += 1;
-        if named_from(j, i, name.nidc, name.nidsp) {
-            return true;
-        }
-    }
-    false
+    let keys = keys_of(j);
+    book::repeated(&keys[..n])
 }
 
-// A point's index is not that of a segment.
-pub fn index_beyond(j: Journey) -> bool
-    ensures { λ r. ⌜ r ≡ indexBeyond (valueView j) ⌝ }
-{
-    let segments = name_count(j);
-    let n = point_count(j);
-    let mut i: usize = 0;
-    while i < n {
-        let p = j.points[i];
-        if segments <= (p.index as usize) {
-            return true;
-        }
-        i += 1;
-    }
-    false
-}
-
-// NID_TP of each point.
-fn nidtps_of(j: Journey) -> [u32; MAX_POINTS]
-    ensures { λ r. ⌜ take (min (j .«point_count») maxPoints) r ≡ nidtps (pointsView j) ⌝ }
-{
-    let n = point_count(j);
-    let mut names = [0; MAX_POINTS];
-    let mut i: usize = 0;
-    while i < n {
-        let p = j.points[i];
-        names[i] = p.nidtp;
-        i += 1;
-    }
-    names
-}
-
-pub fn point_twice(j: Journey) -> bool
-    ensures { λ r. ⌜ r ≡ twice eqb (nidtps (pointsView j)) ⌝ }
-{
-    let n = point_count(j);
-    let names = nidtps_of(j);
-    book::repeated(&names[..n])
+// What one pass over the points sees; `ending` is how many there are before the End of Journey.
+pub struct Seen {
+    pub ends: usize,
+    pub ending: u8,
+    pub beyond: bool,
+    pub twice: bool,
+    pub falls: bool,
 }
 
 // A test as a number.
@@ -115,52 +70,53 @@ fn one_if(b: bool) -> usize
     if b { 1 } else { 0 }
 }
 
-// How many End of Journey there are.
-pub fn end_count(j: Journey) -> usize
-    ensures { λ r. ⌜ r ≡ ends (pointsView j) ⌝ }
+// The point stands before the End of Journey.
+fn stands_before(ends: usize, end: bool) -> u8
+    ensures { λ r. ⌜ (r ≡ flag (eqb ends 0 && not end)) × (r ≤ 1) ⌝ }
 {
-    let n = point_count(j);
-    let mut sum: usize = 0;
-    let mut i: usize = 0;
-    while i < n {
-        let p = j.points[i];
-        sum += one_if(p.end);
-        i += 1;
+    if ends != 0 {
+        return 0;
     }
-    sum
+    if end { 0 } else { 1 }
 }
 
-pub fn index_falls(j: Journey) -> bool
-    ensures { λ r. ⌜ r ≡ falls (indices (pointsView j)) ⌝ }
+fn either(a: bool, b: bool) -> bool
+    ensures { λ r. ⌜ r ≡ (a || b) ⌝ }
 {
+    if a { true } else { b }
+}
+
+// An index that is not that of a segment, an NID_TP twice, the End of Journey, an index that falls.
+pub fn scan(j: Journey) -> Seen
+    ensures { λ r. ⌜ r ≡ seenView (valueView j) ⌝ }
+{
+    let segments = name_count(j);
     let n = point_count(j);
+    let mut names = [0; MAX_POINTS];
+    let mut ends: usize = 0;
+    let mut ending: u8 = 0;
+    let mut beyond = false;
+    let mut falls = false;
     let mut last: u8 = 0;
     let mut i: usize = 0;
     while i < n {
         let p = j.points[i];
-        if p.index < last {
-            return true;
-        }
+        names[i] = p.nidtp as u64;
+        ending += stands_before(ends, p.end);
+        ends += one_if(p.end);
+        beyond = either(beyond, segments <= (p.index as usize));
+        falls = either(falls, p.index < last);
         last = p.index;
         i += 1;
     }
-    false
-}
-
-// Where the End of Journey stands.
-pub fn end_index(j: Journey) -> u8
-    ensures { λ r. ⌜ r ≡ endingOf (pointsView j) ⌝ }
-{
-    let n = point_count(j);
-    let mut i: usize = 0;
-    while i < n {
-        let p = j.points[i];
-        if p.end {
-            return i as u8;
-        }
-        i += 1;
+    let twice = book::repeated(&names[..n]);
+    Seen {
+        ends: ends,
+        ending: ending,
+        beyond: beyond,
+        twice: twice,
+        falls: falls,
     }
-    n as u8
 }
 
 // The place of a placed point is below the least one that is left to it.
@@ -200,13 +156,25 @@ fn place_falls(points: [Point; MAX_POINTS], n: usize) -> bool
     false
 }
 
-// 12 refuses.
-pub fn row_12(j: Journey, points: [Point; MAX_POINTS]) -> bool
-    ensures { λ r. ⌜ r ≡ (falls (indices (pointsView j)) || not (strictlyRises (places (take (length (pointsView j)) points)))) ⌝ }
+// 11 refuses, whatever the book has.
+pub fn row_11(c: Seen) -> bool
+    ensures { λ r. ⌜ r ≡ (c .beyond || (c .twice || not (eqb (c .ends) 1))) ⌝ }
 {
-    if index_falls(j) {
+    if c.beyond {
         return true;
     }
-    let n = point_count(j);
+    if c.twice {
+        return true;
+    }
+    c.ends != 1
+}
+
+// 12 refuses.
+pub fn row_12(c: Seen, n: usize, points: [Point; MAX_POINTS]) -> bool
+    ensures { λ r. ⌜ r ≡ (c .falls || not (strictlyRises (places (take (min n maxPoints) points)))) ⌝ }
+{
+    if c.falls {
+        return true;
+    }
     place_falls(points, n)
 }

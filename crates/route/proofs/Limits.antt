@@ -1,5 +1,5 @@
 -- What an accepted book keeps to, and what follows for the places on the journey.
-use Prim.Native.Nat.{ℕ, zero, suc, _+_, _*_, _≤_, _<_}
+use Prim.Native.Nat.{ℕ, zero, suc, _*_, _≤_, _<_}
 use mathlib.Core.Path.{_≡_, refl}
 use mathlib.Core.List.{List, [], _∷_, map}
 use mathlib.Core.Bool.{Bool, true, false, cond}
@@ -15,7 +15,7 @@ use Rattle.engine_value.specs.declared.Segment.{Segment}
 use Rattle.segment_record.specs.Record.{BookPoint, BookSegment, maxLength, maxReach, lookupPoint}
 use Rattle.journey.specs.declared.Name.{Name}
 use Rattle.route.specs.View.{Limits, OnSome, Sound}
-use Rattle.route.specs.Placing.{recordOf, lengthOn, pointsOn, zonesOn, placedAt, startAt, segmentOf, nameAt, segmentAt, segmentsOf, placeOn, reachOn}
+use Rattle.route.specs.Placing.{recordOf, lengthOn, pointsOn, zonesOn, placedAt, startAt, segmentOf, segmentAt, segmentsOf, placeOn, reachOn}
 
 -- of a segment of the journey, in the book or not
 pub length-limit : (r : Option BookSegment) → OnSome Limits r → lengthOn r ≤ maxLength

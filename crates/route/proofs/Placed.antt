@@ -2,14 +2,14 @@
 use Prim.Native.Nat.{ℕ, zero, suc, _+_, _*_, _^_, _≤_, _<_, min}
 use mathlib.Core.Path.{_≡_, refl, sym, ap, _∙_}
 use mathlib.Core.List.{List, [], _∷_, _++_, map, append-assoc, append-nil}
-use mathlib.Core.Bool.{Bool, true, false, not, _&&_}
+use mathlib.Core.Bool.{Bool, true, false, not, _&&_, _||_}
 use mathlib.Core.Option.{Option, some}
 use native.Mathlib.Omega.{arith}
 use native.Mathlib.Numerals.{add-one}
 use lib.ListN.{length, getD, take, drop, set, replicate, length-take, List·getD-map}
 use lib.Seq.{take-suc, length-take-le, getD-take}
-use lib.Dec.{leb}
-use borrow.Author.Tests.{leb-false}
+use lib.Dec.{leb, ltb}
+use borrow.Author.Tests.{leb-false, ltb-true, ltb-false}
 use Rattle.wire.specs.Numbers.{if_then_else_}
 use Rattle.wire.specs.Lists.{All, any, every, tabulate, sum}
 use Rattle.wire.proofs.ListLaws.{one-more, any-false, any-same, map-same, map-append, every-append, sum-append, tabulate-more}
@@ -17,7 +17,10 @@ use Rattle.engine_value.specs.Engine.{blankSegment, blankPoint, filled}
 use Rattle.engine_value.specs.declared.Segment.{Segment}
 use Rattle.engine_value.specs.declared.Point.{Point}
 use Rattle.segment_record.specs.Record.{BookPoint, BookSegment, lookupPoint}
-use Rattle.book.specs.Book.{isSome}
+use Rattle.book.specs.Book.{isSome, lookup}
+use Rattle.book.specs.View.{entriesView, segmentsView, keyOf, entryKey, indexOf}
+use Rattle.book.specs.declared.Book.{Book}
+use Rattle.book.proofs.Keys.{Fits, lookup-there, lookup-none}
 use Rattle.segment_record.specs.View.{zoneOf, entryView, zonesView, blankEntry}
 use Rattle.segment_record.proofs.ItemLaws.{items-length}
 use Rattle.segment_record.specs.declared.Entry.{Entry}
@@ -31,16 +34,35 @@ use Rattle.journey.specs.declared.JourneyPoint.{JourneyPoint}
 use Rattle.route.specs.Placing.{recordOf, lengthOn, pointsOn, booked, placedAt, startAt, segmentOf, nameAt, segmentAt, segmentsOf, placeOn, reachOn, pointOf, recordAt, recordPoint, pointAt, pointsOf}
 use Rattle.journey_rows.specs.Rows.{indexBeyond}
 use Rattle.route.specs.Table.{pointMissing}
-use Rattle.route.specs.View.{recordView, recordedEntryView, recordsView, Sound, PlacesFit, PlacingRead}
+use Rattle.route.specs.View.{recordView, recordIf, recordedEntryView, recordsView, Sound, PlacesFit, PlacingRead}
 use Rattle.route.proofs.Limits.{recordPoints, length-limit, segments-length, segment-at, starts-limit, places-limit}
 use Rattle.route.specs.declared.Recorded.{Recorded}
 use Rattle.route.specs.declared.Placing.{Placing}
 
 -- the code's segment for a record that was found
 pub booked-is : (s : List ℕ) (n : Name) (placed : Bool) (start from : ℕ) (e : Entry) (z : Zones) → z ≡ zonesView s e → from ≡ (if placed then start else 0)
-    → _≡_ {A = Segment} (record { nidc = n .nidc; nidsp = n .nidsp; booked = true; placed = placed; start = from; length = e .length; «zone_count» = z .count; zones = z .zones }) (segmentOf n placed start (some (entryView s e)))
+    → _≡_ {A = Segment} (record { nidsp = n .nidsp; start = from; length = e .length; «zone_count» = z .count; zones = z .zones; nidc = n .nidc; booked = true; placed = placed }) (segmentOf n placed start (some (entryView s e)))
 unfolding segmentOf zonesView
 booked-is s n placed start from e z p q = rw (p, q, items-length zoneOf 8 (e .zones) (drop (e .«zones_at») s))
+
+-- the record of a segment by the index of its key
+pub record-found : (s : List ℕ) (b : Book) (c sp q at : ℕ) (found : Bool) → length (b .entries) ≡ 40 → All Fits (entriesView b) → sp < 2 ^ 32
+    → q ≡ indexOf (keyOf c sp) (map entryKey (entriesView b)) → (q < 40 → at ≡ q) → found ≡ ltb q (min (b .count) 40)
+    → recordView s (recordIf (getD (b .entries) at blankEntry) found) ≡ lookup c sp (segmentsView s b)
+record-found s b c sp q at found z fit low e same t = go found t
+  where
+    long : length (entriesView b) ≡ min (b .count) 40
+    long = length-take (min (b .count) 40) (b .entries) ∙ omega arith
+
+    go : (f : Bool) → f ≡ ltb q (min (b .count) 40) → recordView s (recordIf (getD (b .entries) at blankEntry) f) ≡ lookup c sp (segmentsView s b)
+    go true t =
+        let l : q < min (b .count) 40 = ltb-true q (min (b .count) 40) (sym t) in
+        ap (λ (k : ℕ). some (entryView s (getD (b .entries) k blankEntry))) (same (omega arith))
+        ∙ ap (λ (x : Entry). some (entryView s x)) (sym (getD-take (min (b .count) 40) (b .entries) q blankEntry l))
+        ∙ sym (lookup-there s c sp low (entriesView b) q fit e (omega (arith, long)))
+    go false t =
+        let l : min (b .count) 40 ≤ q = ltb-false q (min (b .count) 40) (sym t) in
+        sym (lookup-none s c sp low (entriesView b) q fit e (omega (arith, long)))
 
 -- what the entry of a segment says of the record
 pub entry-length : (s : List ℕ) (r : Recorded) → recordedEntryView r .length ≡ lengthOn (recordView s r)
@@ -153,12 +175,12 @@ module _ (s : List ℕ) (book : List BookSegment) (names : List Name) where
 -- a point by its segment
 module _ (p : JourneyPoint) (g : Segment) (b : Option BookPoint) (place reach : ℕ) where
   pub placed-point : g .placed ≡ true → place ≡ placeOn b → reach ≡ reachOn b
-      → _≡_ {A = Point} (record { nidtp = p .nidtp; nidc = g .nidc; alignment = p .alignment; stopping = p .stopping; stop = p .stop; trackside = p .trackside; placed = true; place = g .start + place; reach = reach }) (pointOf p g b)
+      → _≡_ {A = Point} (record { nidtp = p .nidtp; place = g .start + place; reach = reach; nidc = g .nidc; alignment = p .alignment; stopping = p .stopping; stop = p .stop; trackside = p .trackside; placed = true; spare = 0 }) (pointOf p g b)
   unfolding pointOf
   placed-point e x y = rw (e, x, y)
 
   pub unplaced-point : g .placed ≡ false
-      → _≡_ {A = Point} (record { nidtp = p .nidtp; nidc = g .nidc; alignment = p .alignment; stopping = p .stopping; stop = p .stop; trackside = p .trackside; placed = false; place = 0; reach = 0 }) (pointOf p g b)
+      → _≡_ {A = Point} (record { nidtp = p .nidtp; place = 0; reach = 0; nidc = g .nidc; alignment = p .alignment; stopping = p .stopping; stop = p .stop; trackside = p .trackside; placed = false; spare = 0 }) (pointOf p g b)
   unfolding pointOf
   unplaced-point e = rw e
 
@@ -231,19 +253,7 @@ module _ (j : Journey) where
       let same = ap (λ (p : JourneyPoint). p .index) (getD-take (min (j .«point_count») 64) (j .points) i blankJourneyPoint h) in
       omega (arith, w, same, length-take (min (j .«name_count») 40) (j .names))
 
--- a booked segment without the point, by the answer of the look-up
-module _ (g : Segment) (o : Option BookPoint) where
-  pub unbooked-lacks : g .booked ≡ false → false ≡ (g .booked && not (isSome o))
-  unbooked-lacks b = rw b
-
-  pub booked-lacks : (f : Option BookPoint) → g .booked ≡ true → f ≡ o → not (isSome f) ≡ (g .booked && not (isSome o))
-  booked-lacks f b e = rw (b, e)
-
--- what the code finds for a point p: its segment g, the entry x beside it, and o, the record's point of its name
-pub lacks-is : (s : List ℕ) (m : Placing) (p : JourneyPoint) (g : Segment) (x : Entry) → g ≡ getD (m .segments) (p .index) blankSegment → x ≡ getD (m .entries) (p .index) blankEntry
-    → (g .booked && not (isSome (lookupPoint (p .nidtp) (entryView s x .points)))) ≡ lacks (m .segments) (recordsView s m) p
-lacks-is s m p g x e f = rw (e, entry-point s m p x f)
-
+-- what the code finds for a point p: its segment g, and o, the record's point of its name
 module _ (s : List ℕ) (m : Placing) (p : JourneyPoint) (g : Segment) (o : Option BookPoint) (e : g ≡ getD (m .segments) (p .index) blankSegment) where
   pub point-fits : o ≡ pointFound (recordsView s m) p → PlacesFit s m → g .start + placeOn o < 2 ^ 32
   point-fits f h = rw (e, f) (h (p .index) (p .nidtp))
@@ -251,20 +261,32 @@ module _ (s : List ℕ) (m : Placing) (p : JourneyPoint) (g : Segment) (o : Opti
   pub point-is : o ≡ pointFound (recordsView s m) p → pointOf p g o ≡ pointFrom (m .segments) (recordsView s m) p
   point-is f = rw (e, f)
 
--- the first i points are placed
+  pub lacks-is : o ≡ pointFound (recordsView s m) p → (g .booked && not (isSome o)) ≡ lacks (m .segments) (recordsView s m) p
+  lacks-is f = rw (e, f)
+
+or-or : (a b c : Bool) → (a || (b || c)) ≡ ((a || b) || c)
+or-or true b c = refl
+or-or false b c = refl
+
+or-none : (a : Bool) → (a || false) ≡ a
+or-none true = refl
+or-none false = refl
+
+-- the first i points are placed; `missing` says whether one of them is lacked by its segment's record
 module _ (segments : List Segment) (records : List (List BookPoint)) (l : List JourneyPoint) where
-  pub record PlacedPoints (i : ℕ) (points : List Point) : Type 0 where
+  pub record PlacedPoints (i : ℕ) (points : List Point) (missing : Bool) : Type 0 where
     pub few : length l ≤ 64
     pub within : i ≤ length l
     pub array : Filling blankPoint 64 i points
     pub left : map (pointFrom segments records) l ≡ take i points ++ map (pointFrom segments records) (drop i l)
+    pub lacked : any (lacks segments records) l ≡ (missing || any (lacks segments records) (drop i l))
 
-  pub points-none : length l ≤ 64 → PlacedPoints 0 (replicate 64 blankPoint)
-  points-none h = record { few = h; within = omega arith; array = filling-none blankPoint 64; left = refl }
+  pub points-none : length l ≤ 64 → PlacedPoints 0 (replicate 64 blankPoint) false
+  points-none h = record { few = h; within = omega arith; array = filling-none blankPoint 64; left = refl; lacked = refl }
 
-  pub points-more : (i : ℕ) (points : List Point) (p : JourneyPoint) (q : Point) → i < length l → drop i l ≡ p ∷ drop (i + 1) l
-      → q ≡ pointFrom segments records p → PlacedPoints i points → PlacedPoints (i + 1) (set points i q)
-  points-more i points p q h d e f =
+  pub points-more : (i : ℕ) (points : List Point) (before now : Bool) (p : JourneyPoint) (q : Point) → i < length l → drop i l ≡ p ∷ drop (i + 1) l
+      → q ≡ pointFrom segments records p → now ≡ (before || lacks segments records p) → PlacedPoints i points before → PlacedPoints (i + 1) (set points i q) now
+  points-more i points before now p q h d e n f =
       let few : length l ≤ 64 = f .few in
       let z : length points ≡ 64 = f .array .size in
       record {
@@ -272,10 +294,17 @@ module _ (segments : List Segment) (records : List (List BookPoint)) (l : List J
         within = omega arith;
         array = filling-more blankPoint 64 i points q (omega arith) (f .array);
         left = f .left ∙ ap (λ (x : List JourneyPoint). take i points ++ map (pointFrom segments records) x) d ∙ sym (rw (one-more i points q (omega arith), append-assoc, e));
+        lacked =
+            f .lacked ∙ ap (λ (x : List JourneyPoint). before || any (lacks segments records) x) d
+            ∙ or-or before (lacks segments records p) (any (lacks segments records) (drop (i + 1) l))
+            ∙ ap (λ (b : Bool). b || any (lacks segments records) (drop (i + 1) l)) (sym n);
       }
 
-  pub points-end : (i : ℕ) (points : List Point) → drop i l ≡ [] → PlacedPoints i points → points ≡ filled 64 blankPoint (map (pointFrom segments records) l)
-  points-end i points d f =
+  pub lacked-end : (i : ℕ) (points : List Point) (missing : Bool) → drop i l ≡ [] → PlacedPoints i points missing → missing ≡ any (lacks segments records) l
+  lacked-end i points missing d f = sym (f .lacked ∙ ap (λ (x : List JourneyPoint). missing || any (lacks segments records) x) d ∙ or-none missing)
+
+  pub points-end : (i : ℕ) (points : List Point) (missing : Bool) → drop i l ≡ [] → PlacedPoints i points missing → points ≡ filled 64 blankPoint (map (pointFrom segments records) l)
+  points-end i points missing d f =
       let few : length l ≤ 64 = f .few in
       let w : i ≤ length l = f .within in
       let e : map (pointFrom segments records) l ≡ take i points = f .left ∙ ap (λ (x : List JourneyPoint). take i points ++ map (pointFrom segments records) x) d ∙ append-nil (take i points) in

@@ -1,13 +1,13 @@
 -- The code's tests and answers against the definitions, a case each.
-use Prim.Native.Nat.{ℕ, suc, _≤_}
+use Prim.Native.Nat.{ℕ, _≤_}
 use mathlib.Core.Path.{_≡_, refl, sym, ap, _∙_}
-use mathlib.Core.List.{List, [], _∷_}
+use mathlib.Core.List.{List}
 use mathlib.Core.Bool.{Bool, true, false, cond, not, _||_}
 use native.Mathlib.Omega.{arith}
 use lib.ListN.{length, take, length-map}
 use lib.Dec.{eqb}
 use Rattle.wire.specs.Lists.{twice, falls, strictlyRises}
-use Rattle.fields.specs.Parse.{Parse, read, whole}
+use Rattle.fields.specs.Parse.{Parse, whole}
 use Rattle.fields.specs.Parse.Parse.{bad, good}
 use Rattle.wire.specs.Judged.{Judged, thenJudge, row}
 use Rattle.wire.specs.Judged.Judged.{refuse, accept}
@@ -39,6 +39,18 @@ ten v = twice sameName (v .names)
 
 abbrev pub eleven : List BookSegment → JourneyValue → Bool
 eleven book v = indexBeyond v || (twice eqb (nidtps (v .points)) || (not (eqb (ends (v .points)) 1) || pointMissing book v))
+
+-- 11 without the book
+abbrev pub early : JourneyValue → Bool
+early v = indexBeyond v || (twice eqb (nidtps (v .points)) || not (eqb (ends (v .points)) 1))
+
+pub eleven-parts : (book : List BookSegment) (v : JourneyValue) → eleven book v ≡ (early v || pointMissing book v)
+eleven-parts book v = go (indexBeyond v) (twice eqb (nidtps (v .points))) (not (eqb (ends (v .points)) 1))
+  where
+    go : (a b c : Bool) → (a || (b || (c || pointMissing book v))) ≡ ((a || (b || c)) || pointMissing book v)
+    go true b c = refl
+    go false true c = refl
+    go false false c = refl
 
 abbrev pub twelve : List Point → JourneyValue → Bool
 twelve points v = falls (indices (v .points)) || not (strictlyRises (places points))

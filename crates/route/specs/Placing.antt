@@ -49,14 +49,14 @@ startAt book names k = sum (map (λ (n : Name). lengthOn (recordOf book n)) (tak
 -- "nothing is drawn on past the last placed segment": beyond it no start is kept
 unfoldable pub segmentOf : Name → Bool → ℕ → Option BookSegment → Segment
 segmentOf n placed start r = record {
-  nidc = n .nidc;
   nidsp = n .nidsp;
-  booked = isSome r;
-  placed = placed;
   start = if placed then start else 0;
   length = lengthOn r;
   «zone_count» = length (zonesOn r);
   zones = filled maxZones blankZone (zonesOn r);
+  nidc = n .nidc;
+  booked = isSome r;
+  placed = placed;
 }
 
 -- the segment of an index
@@ -83,14 +83,15 @@ reachOn (some b) = b .reach
 unfoldable pub pointOf : JourneyPoint → Segment → Option BookPoint → Point
 pointOf p s b = record {
   nidtp = p .nidtp;
+  place = if s .placed then s .start + placeOn b else 0;
+  reach = if s .placed then reachOn b else 0;
   nidc = s .nidc;
   alignment = p .alignment;
   stopping = p .stopping;
   stop = p .stop;
   trackside = p .trackside;
   placed = s .placed;
-  place = if s .placed then s .start + placeOn b else 0;
-  reach = if s .placed then reachOn b else 0;
+  spare = 0;
 }
 
 -- the record of a point's segment, and that record's point of its name

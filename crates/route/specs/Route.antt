@@ -17,7 +17,7 @@ use Rattle.route.specs.Table.{journeyOf}
 
 abbrev pub loadGroup : JourneyValue → Load
 loadGroup j =
-    record { valid = true; operational = j .head .operational; ending = endingOf (j .points); «point_count» = length (j .points); «segment_count» = length (j .names) }
+    record { operational = j .head .operational; valid = true; ending = endingOf (j .points); «point_count» = length (j .points); «segment_count» = length (j .names) }
 
 -- the result of a load: the journey's numbers, its points and segments placed by the book ("arrays of 64 point records and 40 segment
 -- records", blank beyond the counts)

@@ -2,6 +2,7 @@
 use Prim.Native.Nat.{ℕ, _+_, _^_, _<_, _≤_}
 use mathlib.Core.Path.{_≡_}
 use mathlib.Core.List.{List, [], map}
+use mathlib.Core.Bool.{Bool, true, false}
 use mathlib.Core.Option.{Option, none, some}
 use lib.ListN.{length, getD, replicate}
 use Rattle.wire.specs.Judged.{Judged, thenJudge}
@@ -15,11 +16,12 @@ use Rattle.segment_record.specs.View.{entryView, blankEntry}
 use Rattle.segment_record.specs.declared.Entry.{Entry}
 use Rattle.journey.specs.Journey.{blankHead, JourneyValue}
 use Rattle.journey.specs.declared.Name.{Name}
-use Rattle.route.specs.Placing.{recordOf, pointsOn, segmentsOf, placeOn, reachOn}
-use Rattle.route.specs.Table.{checked}
+use Rattle.route.specs.Placing.{recordOf, pointsOn, segmentsOf, placeOn, reachOn, pointsOf}
+use Rattle.route.specs.Table.{pointMissing, checked}
 use Rattle.route.specs.Route.{LoadValue, loadValue, loadOf}
 use Rattle.route.specs.declared.Recorded.{Recorded}
 use Rattle.route.specs.declared.Placing.{Placing}
+use Rattle.route.specs.declared.Points.{Points}
 use Rattle.route.specs.declared.Loaded.{Loaded}
 
 -- ---- a load
@@ -73,6 +75,11 @@ abbrev pub recordView : List ℕ → Recorded → Option BookSegment
 recordView s (Recorded.Record e) = some (entryView s e)
 recordView s Recorded.Missing = none
 
+-- an entry that counts only where it was found
+abbrev pub recordIf : Entry → Bool → Recorded
+recordIf e true = Recorded.Record e
+recordIf e false = Recorded.Missing
+
 -- the entry, blank where there is none: its length is then 0, and its lists are empty
 abbrev pub recordedEntryView : Recorded → Entry
 recordedEntryView (Recorded.Record e) = e
@@ -91,3 +98,8 @@ pub record PlacingRead (s : List ℕ) (book : List BookSegment) (names : List Na
   pub segments : m .segments ≡ filled maxSegments blankSegment (segmentsOf book names)
   pub records : (k : ℕ) → getD (recordsView s m) k [] ≡ getD (map (λ (n : Name). pointsOn (recordOf book n)) names) k []
   pub fit : PlacesFit s m
+
+-- the journey's points by the book, and whether a booked segment lacks one
+pub record PointsRead (book : List BookSegment) (v : JourneyValue) (r : Points) : Type 0 where
+  pub points : r .points ≡ filled maxPoints blankPoint (pointsOf book v)
+  pub missing : r .missing ≡ pointMissing book v

@@ -1,6 +1,5 @@
 // Journeys against a book (10 to 12), and what a load takes from both.
 use book::Book;
-use book::Found;
 use engine_value::Load;
 use engine_value::MAX_POINTS;
 use engine_value::MAX_SEGMENTS;
@@ -13,6 +12,7 @@ use journey::Head;
 use journey::Journey;
 use journey::JourneyPoint;
 use journey::Name;
+use journey_rows::Seen;
 use segment_record::Entry;
 use segment_record::PointFound;
 use wire::Verdict;
@@ -20,22 +20,21 @@ ghost use mathlib.Core.Path.{_≡_};
 ghost use mathlib.Core.List.{List};
 ghost use mathlib.Core.Bool.{false, not, _&&_, _||_};
 ghost use mathlib.Core.Option.{none, some};
-ghost use Prim.Native.Nat.{ℕ, _+_, _^_, _<_, min};
-ghost use lib.ListN.{length, take, replicate};
-ghost use lib.Dec.{eqb};
+ghost use Prim.Native.Nat.{ℕ, _+_, _^_, _<_};
+ghost use lib.ListN.{length};
 ghost use Rattle.wire.specs.Numbers.{if_then_else_};
-ghost use Rattle.engine_value.specs.Engine.{maxSegments, maxPoints, blankSegment, blankPoint, filled};
+ghost use Rattle.engine_value.specs.Engine.{maxSegments};
 ghost use Rattle.wire.specs.Lists.{twice};
-ghost use Rattle.segment_record.specs.Record.{BookSegment, lookupPoint};
-ghost use Rattle.book.specs.Book.{lookup, isSome};
-ghost use Rattle.segment_record.specs.View.{entryView, blankEntry, pointView};
+ghost use Rattle.segment_record.specs.Record.{BookSegment};
+ghost use Rattle.book.specs.Book.{isSome};
+ghost use Rattle.segment_record.specs.View.{entryView, pointView};
 ghost use Rattle.book.specs.View.{segmentsView};
-ghost use Rattle.journey.specs.View.{namesView, pointsView, valueView};
-ghost use Rattle.route.specs.Placing.{segmentOf, placeOn, reachOn, pointOf, pointsOf};
-ghost use Rattle.journey_rows.specs.Rows.{indexBeyond, nidtps, ends};
-ghost use Rattle.route.specs.Table.{pointMissing};
+ghost use Rattle.journey.specs.View.{namesView, valueView};
+ghost use Rattle.route.specs.Placing.{segmentOf, placeOn, reachOn, pointOf};
+ghost use Rattle.journey_rows.specs.Rows.{indexBeyond};
+ghost use Rattle.journey_rows.specs.View.{seenView};
 ghost use Rattle.route.specs.Route.{loadGroup};
-ghost use Rattle.route.specs.View.{refusedLoad, recordView, recordedEntryView, Sound, PlacesFit, PlacingRead, loadFor, Answered, LoadRead};
+ghost use Rattle.route.specs.View.{refusedLoad, recordView, recordIf, recordedEntryView, Sound, PlacesFit, PlacingRead, PointsRead, loadFor, Answered, LoadRead};
 
 // What a load takes; blank where a row refuses.
 pub struct Loaded {
@@ -58,13 +57,26 @@ struct Placing {
     entries: [Entry; MAX_SEGMENTS],
 }
 
-fn record_of(b: Book, n: Name) -> Recorded
-    ensures { λ r. ⌜ ((s : List ℕ) → recordView s r ≡ lookup (n .nidc) (n .nidsp) (segmentsView s b)) ⌝ }
+// The journey's points, and whether a booked segment lacks one.
+struct Points {
+    points: [Point; MAX_POINTS],
+    missing: bool,
+}
+
+// An index of the array of entries; that of the first where q is beyond it.
+fn slot(q: usize) -> usize
+    ensures { λ r. ⌜ (r < maxSegments) × (q < maxSegments → r ≡ q) ⌝ }
 {
-    let Found::At(k) = book::find_segment(b, n.nidc, n.nidsp) else {
-        return Recorded::Missing;
-    };
-    Recorded::Record(b.entries[k])
+    if q < MAX_SEGMENTS { q } else { 0 }
+}
+
+fn record_if(e: Entry, found: bool) -> Recorded
+    ensures { λ r. ⌜ r ≡ recordIf e found ⌝ }
+{
+    if found {
+        return Recorded::Record(e);
+    }
+    Recorded::Missing
 }
 
 fn entry_in(r: Recorded) -> Entry
@@ -100,14 +112,14 @@ fn booked_segment(s: &[u8], n: Name, placed: bool, start: u32, e: Entry) -> Segm
     let zones = z.zones;
     let from = start_if(placed, start);
     Segment {
-        nidc: n.nidc,
         nidsp: n.nidsp,
-        booked: true,
-        placed: placed,
         start: from,
         length: e.length,
-        zone_count: z.count,
+        zone_count: z.count as u32,
         zones: zones,
+        nidc: n.nidc,
+        booked: true,
+        placed: placed,
     }
 }
 
@@ -119,14 +131,14 @@ fn missing_segment(n: Name, placed: bool, start: u32) -> Segment
     let zones = [zone; MAX_ZONES];
     let from = start_if(placed, start);
     Segment {
-        nidc: n.nidc,
         nidsp: n.nidsp,
-        booked: false,
-        placed: placed,
         start: from,
         length: 0,
         zone_count: 0,
         zones: zones,
+        nidc: n.nidc,
+        booked: false,
+        placed: placed,
     }
 }
 
@@ -139,74 +151,55 @@ fn segment_of(s: &[u8], n: Name, placed: bool, start: u32, r: Recorded) -> Segme
     }
 }
 
-fn blank_placing() -> Placing
-    ensures { λ r. ⌜ (r .segments ≡ replicate maxSegments blankSegment) × (r .entries ≡ replicate maxSegments blankEntry) ⌝ }
-{
-    let blank = engine_value::blank_segment();
-    let none = segment_record::blank_entry();
-    let segments = [blank; MAX_SEGMENTS];
-    let entries = [none; MAX_SEGMENTS];
-    Placing {
-        segments: segments,
-        entries: entries,
-    }
-}
-
 // Each segment of the journey by the book. The lengths of an accepted book add up within four bytes.
 fn place_segments(j: Journey, b: Book, s: &[u8]) -> Placing
     requires { ⌜ Sound (segmentsView (now s) b) ⌝ }
     ensures { λ r. ⌜ PlacingRead (now (s .entry)) (segmentsView (now (s .entry)) b) (namesView j) r ⌝ }
 {
     let n = journey_rows::name_count(j);
-    let mut m = blank_placing();
+    let k = book::entry_count(b);
+    let keys = book::keys_of(b);
+    let blank = engine_value::blank_segment();
+    let none = segment_record::blank_entry();
+    let mut segments = [blank; MAX_SEGMENTS];
+    let mut entries = [none; MAX_SEGMENTS];
     let mut placed = true;
     let mut start: u32 = 0;
     let mut i: usize = 0;
     while i < n {
         let name = j.names[i];
-        let r = record_of(b, name);
+        let q = book::find(&keys[..k], book::key(name.nidc, name.nidsp));
+        let at = slot(q);
+        let x = b.entries[at];
+        let r = record_if(x, q < k);
         let e = entry_in(r);
         placed = goes_on(placed, r);
         let g = segment_of(s, name, placed, start, r);
-        m.segments[i] = g;
-        m.entries[i] = e;
+        segments[i] = g;
+        entries[i] = e;
         start += e.length;
         i += 1;
     }
-    m
+    Placing {
+        segments: segments,
+        entries: entries,
+    }
 }
 
-// The segment is in the book, and its record lacks the point.
-fn lacks(s: &[u8], g: Segment, e: Entry, nidtp: u32) -> bool
-    ensures { λ r. ⌜ r ≡ (g .booked && not (isSome (lookupPoint nidtp (entryView (now (s .entry)) e .points)))) ⌝ }
+// A segment that is in the book, and whose record lacks the point; or one before lacked its point.
+fn lacks(before: bool, g: Segment, f: PointFound) -> bool
+    ensures { λ r. ⌜ ((t : ℕ) → r ≡ (before || (g .booked && not (isSome (pointView t f))))) ⌝ }
 {
+    if before {
+        return true;
+    }
     if !g.booked {
         return false;
     }
-    match segment_record::find_point(s, e, nidtp) {
+    match f {
         PointFound::Found { place: _, reach: _ } => false,
         PointFound::Missing => true,
     }
-}
-
-// Each index is that of a segment.
-fn point_missing(j: Journey, m: Placing, s: &[u8]) -> bool
-    requires { ⌜ indexBeyond (valueView j) ≡ false ⌝ }
-    ensures { λ r. ⌜ ((book : List BookSegment) → PlacingRead (now (s .entry)) book (namesView j) m → r ≡ pointMissing book (valueView j)) ⌝ }
-{
-    let n = journey_rows::point_count(j);
-    let mut i: usize = 0;
-    while i < n {
-        let p = j.points[i];
-        let k = p.index as usize;
-        let g = m.segments[k];
-        let e = m.entries[k];
-        if lacks(s, g, e, p.nidtp) {
-            return true;
-        }
-        i += 1;
-    }
-    false
 }
 
 fn place_in(f: PointFound) -> u32
@@ -218,7 +211,7 @@ fn place_in(f: PointFound) -> u32
     }
 }
 
-fn reach_in(f: PointFound) -> u16
+fn reach_in(f: PointFound) -> u32
     ensures { λ r. ⌜ ((t : ℕ) → r ≡ reachOn (pointView t f)) ⌝ }
 {
     match f {
@@ -236,37 +229,40 @@ fn point_of(p: JourneyPoint, g: Segment, f: PointFound) -> Point
     if g.placed {
         return Point {
             nidtp: p.nidtp,
+            place: g.start + place,
+            reach: reach,
             nidc: g.nidc,
             alignment: p.alignment,
             stopping: p.stopping,
             stop: p.stop,
             trackside: p.trackside,
             placed: true,
-            place: g.start + place,
-            reach: reach,
+            spare: 0,
         };
     }
     Point {
         nidtp: p.nidtp,
+        place: 0,
+        reach: 0,
         nidc: g.nidc,
         alignment: p.alignment,
         stopping: p.stopping,
         stop: p.stop,
         trackside: p.trackside,
         placed: false,
-        place: 0,
-        reach: 0,
+        spare: 0,
     }
 }
 
-// Each point of the journey by the segments.
-fn place_points(j: Journey, m: Placing, s: &[u8]) -> [Point; MAX_POINTS]
+// Each point of the journey by the segments; each index is that of a segment.
+fn place_points(j: Journey, m: Placing, s: &[u8]) -> Points
     requires { ⌜ (indexBeyond (valueView j) ≡ false) × PlacesFit (now s) m ⌝ }
-    ensures { λ r. ⌜ ((book : List BookSegment) → PlacingRead (now (s .entry)) book (namesView j) m → r ≡ filled maxPoints blankPoint (pointsOf book (valueView j))) ⌝ }
+    ensures { λ r. ⌜ ((book : List BookSegment) → PlacingRead (now (s .entry)) book (namesView j) m → PointsRead book (valueView j) r) ⌝ }
 {
     let n = journey_rows::point_count(j);
     let blank = engine_value::blank_point();
     let mut points = [blank; MAX_POINTS];
+    let mut missing = false;
     let mut i: usize = 0;
     while i < n {
         let p = j.points[i];
@@ -274,39 +270,26 @@ fn place_points(j: Journey, m: Placing, s: &[u8]) -> [Point; MAX_POINTS]
         let g = m.segments[k];
         let e = m.entries[k];
         let f = segment_record::find_point(s, e, p.nidtp);
+        missing = lacks(missing, g, f);
         let q = point_of(p, g, f);
         points[i] = q;
         i += 1;
     }
-    points
+    Points {
+        points: points,
+        missing: missing,
+    }
 }
 
-// 11 refuses.
-fn row_11(j: Journey, m: Placing, s: &[u8]) -> bool
-    ensures { λ r. ⌜ ((book : List BookSegment) → PlacingRead (now (s .entry)) book (namesView j) m → r ≡ (indexBeyond (valueView j) || (twice eqb (nidtps (pointsView j)) || (not (eqb (ends (pointsView j)) 1) || pointMissing book (valueView j))))) ⌝ }
+fn load_of(j: Journey, seen: Seen) -> Load
+    ensures { λ r. ⌜ (seen ≡ seenView (valueView j) → r ≡ loadGroup (valueView j)) ⌝ }
 {
-    if journey_rows::index_beyond(j) {
-        return true;
-    }
-    if journey_rows::point_twice(j) {
-        return true;
-    }
-    if journey_rows::end_count(j) != 1 {
-        return true;
-    }
-    point_missing(j, m, s)
-}
-
-fn load_of(j: Journey) -> Load
-    ensures { λ r. ⌜ r ≡ loadGroup (valueView j) ⌝ }
-{
-    let ending = journey_rows::end_index(j);
     let points = journey_rows::point_count(j);
     let segments = journey_rows::name_count(j);
     Load {
-        valid: true,
         operational: j.head.operational,
-        ending: ending,
+        valid: true,
+        ending: seen.ending,
         point_count: points as u8,
         segment_count: segments as u8,
     }
@@ -321,8 +304,8 @@ fn refused(number: u8) -> Loaded
     let points = [point; MAX_POINTS];
     let segments = [segment; MAX_SEGMENTS];
     let load = Load {
-        valid: false,
         operational: NO_OPERATIONAL,
+        valid: false,
         ending: 0,
         point_count: 0,
         segment_count: 0,
@@ -350,19 +333,25 @@ fn place(j: Journey, b: Book, s: &[u8]) -> Loaded
 {
     let m = place_segments(j, b, s);
     let twice = journey_rows::name_twice(j);
-    let eleven = row_11(j, m, s);
+    let seen = journey_rows::scan(j);
+    let eleven = journey_rows::row_11(seen);
     if twice {
         return refused(10);
     }
     if eleven {
         return refused(11);
     }
-    let points = place_points(j, m, s);
-    let twelve = journey_rows::row_12(j, points);
+    let p = place_points(j, m, s);
+    if p.missing {
+        return refused(11);
+    }
+    let points = p.points;
+    let n = journey_rows::point_count(j);
+    let twelve = journey_rows::row_12(seen, n, points);
     if twelve {
         return refused(12);
     }
-    let load = load_of(j);
+    let load = load_of(j, seen);
     let segments = m.segments;
     let head = j.head;
     Loaded {

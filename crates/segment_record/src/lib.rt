@@ -25,17 +25,17 @@ const MAX_REACH: u32 = 10000;
 
 // A segment record that was read: its numbers, and where its lists stand in the book's bytes.
 pub struct Entry {
-    pub nidc: u16,
+    pub points_at: usize,
+    pub zones_at: usize,
     pub nidsp: u32,
     pub length: u32,
+    pub nidc: u16,
     pub points: u8,
-    pub points_at: usize,
     pub zones: u8,
-    pub zones_at: usize,
 }
 
 pub enum PointFound {
-    Found { place: u32, reach: u16 },
+    Found { place: u32, reach: u32 },
     Missing,
 }
 
@@ -252,7 +252,7 @@ pub fn find_point(s: &[u8], e: Entry, nidtp: u32) -> PointFound
             let b = after(s, p, 8);
             return PointFound::Found {
                 place: wire::be32(s, a),
-                reach: wire::be16(s, b),
+                reach: wire::be16(s, b) as u32,
             };
         }
         p = after(s, p, 10);

@@ -7,7 +7,7 @@ use Rattle.book.proofs.entry_count.Tie as tie
 
 -- the array's length, which owning the parameter tells
 long : (c : tie.Start) → length (c .args .b .entries) ≡ 40
-long c = sym (length-map (c .args .b .entries) _) ∙ c .good .0 .1 .1 .1 .1 .0 .1 .0 .1
+long c = sym (length-map (c .args .b .entries) _) ∙ c .good .0 .1 .1 .0 .1 .0 .1
 
 returns : tie.Need-returns
 returns c = (omega arith, long (c .before .before))

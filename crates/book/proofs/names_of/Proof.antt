@@ -39,5 +39,5 @@ returns c =
 pub names-of-spec : {M : Type 1} → statement M
 names-of-spec =
     tie.close
-    (tie.spec Inv-loop μ-loop loop-holds (search needs) (λ c. omega arith) (λ c. omega arith) (search needs)
+    (tie.spec Inv-loop μ-loop loop-holds (search needs) (search needs) (λ c. omega arith) (λ c. omega arith) (search needs)
     (search needs) (search needs) loop-again returns)

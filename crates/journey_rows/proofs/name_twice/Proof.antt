@@ -1,44 +1,31 @@
-use Prim.Native.Nat.{_-_}
-use mathlib.Core.Path.{_≡_, refl, sym, _∙_}
-use lib.ListN.{drop}
+use Prim.Native.Nat.{ℕ, min}
+use mathlib.Core.Path.{ap, _∙_}
+use lib.ListN.{length, take, length-map, length-take}
 use native.Mathlib.Omega.{arith}
+use lib.Dec.{eqb}
 use borrow.Author.Needs.{needs}
-use Rattle.journey.specs.View.{namesView}
 use Rattle.wire.specs.Lists.{twice}
-use Rattle.journey_rows.specs.Rows.{sameName}
-use Rattle.journey.proofs.Left.{names-left, names-done}
+use Rattle.journey.specs.View.{namesView}
+use Rattle.journey_rows.specs.View.{nameKey}
+use Rattle.journey_rows.proofs.Names.{names-twice}
 use Rattle.journey_rows.proofs.name_twice.Statement.{statement}
 use Rattle.journey_rows.proofs.name_twice.Tie as tie
 
-abbrev Inv-loop : tie.InvT-loop
-Inv-loop j n i₀ i = twice sameName (namesView j) ≡ twice sameName (drop i (namesView j))
+slice-aggregate-repeated : tie.Need-slice-aggregate-repeated
+slice-aggregate-repeated c =
+    let j = c .before .before .before .args .j in
+    let n = c .before .before .name-count in
+    let e = ap (λ (k : ℕ). take k (c .before .keys-of .result)) (n .ensures .0) ∙ c .before .keys-of .ensures .0 in
+    omega (arith, ap length e, length-map (namesView j) nameKey, length-take (min (j .«name_count») 40) (j .names), n .ensures .0, n .ensures .1)
 
-abbrev μ-loop : tie.MeasureT-loop
-μ-loop j n i₀ i = n - i
-
-loop-holds : tie.Need-loop-holds Inv-loop μ-loop
-loop-holds c = refl
-
-returns : tie.Need-returns Inv-loop μ-loop
+returns : tie.Need-returns
 returns c =
-    let w = c .before .before .before .before .loop in
-    let j = c .before .before .before .before .before .before .args .t1 in
-    sym (w .inv ∙ rw (names-left j (w .i) (omega arith) (omega arith), sym (c .before .named-from .ensures) ∙ c .if1 .taken))
-
-loop-again : tie.Need-loop-again Inv-loop μ-loop
-loop-again c =
-    let w = c .before .before .before .before .loop in
-    let j = c .before .before .before .before .before .before .args .t1 in
-    w .inv ∙ rw (names-left j (w .i) (omega arith) (omega arith), sym (c .before .named-from .ensures) ∙ c .if1 .left)
-
-returns-2 : tie.Need-returns-2 Inv-loop μ-loop
-returns-2 c =
-    let w = c .before .loop in
-    let j = c .before .before .before .args .t1 in
-    sym (w .inv ∙ rw (names-done j (w .i) (omega arith)))
+    let j = c .before .before .before .before .args .j in
+    let n = c .before .before .before .name-count in
+    let k = c .before .before .keys-of .ensures in
+    c .repeated .ensures ∙ ap (twice eqb) (ap (λ (i : ℕ). take i (c .before .before .keys-of .result)) (n .ensures .0) ∙ k .0) ∙ names-twice (namesView j) (k .1)
 
 pub name-twice-spec : {M : Type 1} → statement M
 name-twice-spec =
     tie.close
-    (tie.spec Inv-loop μ-loop (search needs) loop-holds (λ c. omega arith) (λ c. omega arith) (λ c. omega arith)
-    (search needs) returns (λ c. omega arith) loop-again returns-2)
+    (tie.spec (search needs) (search needs) (search needs) slice-aggregate-repeated (search needs) returns)

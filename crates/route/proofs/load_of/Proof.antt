@@ -8,12 +8,12 @@ use Rattle.route.proofs.load_of.Tie as tie
 
 returns : tie.Need-returns
 returns c =
-    let a = c .before .before .before .args in
+    let a = c .before .before .args in
     let p : length (pointsView (a .j)) ≡ c .before .point-count .result = rw length-take (omega arith) in
     let n : length (namesView (a .j)) ≡ c .name-count .result = rw length-take (omega arith) in
-    rw (p, n, c .before .before .end-index .ensures)
+    λ e. rw (p, n, e)
 
 pub load-of-spec : {M : Type 1} → statement M
 load-of-spec =
     tie.close
-    (tie.spec (search needs) (search needs) (search needs) (search needs) (search needs) returns)
+    (tie.spec (search needs) (search needs) (search needs) (search needs) returns)

@@ -49,4 +49,4 @@ pub find-point-spec : {M : Type 1} → statement M
 find-point-spec =
     tie.close
     (tie.spec Inv-loop μ-loop loop-holds (search needs) (search needs) (search needs) (search needs)
-    (search needs) returns (search needs) (search needs) (search needs) loop-again returns-2)
+    (search needs) (search needs) returns (search needs) (search needs) (search needs) loop-again returns-2)
