@@ -1,26 +1,21 @@
 -- Laws of the conditions' definitions, by case, for the proofs of the functions.
-use mathlib.Core.Path.{_≡_, refl, sym, ap, _∙_}
-use mathlib.Core.List.{List}
+use mathlib.Core.Path.{_≡_, refl, sym, _∙_}
 use mathlib.Core.Bool.{Bool, true, false, not, _&&_, _||_}
 use Prim.Native.Nat.{ℕ, zero, suc, _+_, _-_, _*_, min, _≤_, _<_}
 use native.Mathlib.Omega.{arith}
-use lib.ListN.{length, getD, take, drop}
 use lib.Dec.{eqb, ltb, leb}
 use borrow.Author.Tests.{lt-ltb, le-ltb, le-leb, lt-leb, eq-eqb, ne-eqb, ltb-true, ltb-false, leb-true, leb-false}
-use Rattle.wire.specs.Lists.{any}
-use Rattle.wire.proofs.ListLaws.{left-none, left-more}
 use Rattle.wire.specs.Numbers.{flag, if_then_else_}
 use Rattle.engine_value.specs.Engine.{Route, undefined}
 use Rattle.engine_value.specs.declared.Load.{Load}
-use Rattle.engine_value.specs.declared.Zone.{Zone}
 use Rattle.engine_value.specs.declared.Position.{Position}
 use Rattle.engine_value.specs.declared.Progress.{Progress}
 use Rattle.position.specs.Position.{pointsLoaded, pointCount, placed}
 use Rattle.position.specs.Standing.{standing, isPassed, behind}
 use Rattle.position.specs.declared.Named.{Named}
 use Rattle.position.specs.declared.Standing.the-variants.{Targeted, Reached}
-use Rattle.conditions.specs.Conditions.{etcsFulfilled, noEmergencyBrake, noInconsistency, dataValid, endAhead, lastAhead, firstAhead, profilesThere, tooFar, located, inZone, zonesOf, lookUp, nine, wordOf}
-use Rattle.conditions.specs.declared.LookedUp.{LookedUp}
+use Rattle.conditions.specs.Conditions.{etcsFulfilled, noEmergencyBrake, noInconsistency, dataValid, endAhead, lastAhead, firstAhead, profilesThere, tooFar, located, routeConditionsBy, nine, wordOf}
+use Rattle.conditions.specs.declared.RouteConditions.{RouteConditions}
 
 -- ---- where a point stands, by the first point not passed
 
@@ -96,10 +91,6 @@ module _ (j : Route) (p : Progress) where
         let l : j .load .valid && (leb (pointCount j) (p .next) || placed j (p .next)) ≡ placed j (p .next) = rw (v, lt-leb (pointCount j) (p .next) (omega arith)) in
         sym l ∙ profiles-next
 
--- it goes by the first point not passed alone
-pub profiles-same : (j : Route) (p q : Progress) → p .next ≡ q .next → profilesThere j (standing p) ≡ profilesThere j (standing q)
-profiles-same j p q e = sym (profiles-next j p) ∙ ap (λ k. j .load .valid && (leb (pointCount j) k || placed j k)) e ∙ profiles-next j q
-
 -- ---- what the conditions look up
 
 module _ (s : Named) (x : Position) where
@@ -109,33 +100,20 @@ module _ (s : Named) (x : Position) where
   pub located-missing : (x .offset ≡ undefined → ⊥) → s .found ≡ false → located s x ≡ false
   located-missing h f = rw (ne-eqb _ _ h, f)
 
-  pub located-found : (x .offset ≡ undefined → ⊥) → s .found ≡ true → (b : Bool) → b ≡ tooFar x (s .segment) → not b ≡ located s x
+  pub located-found : (x .offset ≡ undefined → ⊥) → s .found ≡ true → (b : Bool) → b ≡ tooFar x s → not b ≡ located s x
   located-found h f b e = rw (ne-eqb _ _ h, f, e)
 
   pub not-located : (profiles : Bool) → located s x ≡ false
-      → record { profiles = profiles; located = false; outside = true } ≡ lookUp s x profiles
+      → record { profiles = profiles; located = false; outside = true } ≡ routeConditionsBy s x profiles
   not-located profiles e = rw e
 
-  pub is-located : (profiles b : Bool) → located s x ≡ true → b ≡ any (inZone (x .offset)) (zonesOf (s .segment))
-      → record { profiles = profiles; located = true; outside = not b } ≡ lookUp s x profiles
-  is-located profiles b e i = rw (e, i)
-
--- ---- the zones: the first n, from index i on
-
-module _ (d : Zone) (l : List Zone) (n i o : ℕ) where
-  pub zones-none : n ≤ i → any (inZone o) (drop i (take n l)) ≡ false
-  zones-none h = rw (left-none d n i l h)
-
-  module _ (h : i < n) (k : n ≤ length l) where
-    pub zones-hit : inZone o (getD l i d) ≡ true → any (inZone o) (drop i (take n l)) ≡ true
-    zones-hit t = rw (left-more d n i l h k, t)
-
-    pub zones-miss : inZone o (getD l i d) ≡ false → any (inZone o) (drop i (take n l)) ≡ any (inZone o) (drop (i + 1) (take n l))
-    zones-miss t = rw (left-more d n i l h k, t)
+  pub is-located : (profiles : Bool) → located s x ≡ true
+      → record { profiles = profiles; located = true; outside = not (s .inside) } ≡ routeConditionsBy s x profiles
+  is-located profiles e = rw e
 
 -- ---- the nine as a number
 
-pub word-is : (l : Load) (reports : ℕ) (w : LookedUp) (p : Progress) (c0 c1 c2 c3 c4 c5 c6 c7 c8 : ℕ) → c0 ≡ flag (etcsFulfilled reports) → c1 ≡ flag (noEmergencyBrake reports)
+pub word-is : (l : Load) (reports : ℕ) (w : RouteConditions) (p : Progress) (c0 c1 c2 c3 c4 c5 c6 c7 c8 : ℕ) → c0 ≡ flag (etcsFulfilled reports) → c1 ≡ flag (noEmergencyBrake reports)
     → c2 ≡ flag (endAhead l (standing p)) → c3 ≡ flag (lastAhead l (standing p)) → c4 ≡ flag (w .profiles)
     → c5 ≡ flag (noInconsistency reports) → c6 ≡ flag (w .located) → c7 ≡ flag (w .outside) → c8 ≡ flag (dataValid reports)
     → c0 + 2 * c1 + 4 * c2 + 8 * c3 + 16 * c4 + 32 * c5 + 64 * c6 + 128 * c7 + 256 * c8 ≡ wordOf (nine l reports w (standing p))

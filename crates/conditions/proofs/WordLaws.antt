@@ -12,7 +12,7 @@ use borrow.Author.Tests.{eqb-true, eqb-false, eq-eqb, ne-eqb}
 use Rattle.engine_value.specs.Engine.{Route}
 use Rattle.engine_value.specs.declared.Position.{Position}
 use Rattle.position.specs.declared.Standing.{Standing}
-use Rattle.conditions.specs.Conditions.{wordOf, allOf, lookedUp, nine, conditions, allConditions, O}
+use Rattle.conditions.specs.Conditions.{wordOf, allOf, routeConditions, nine, conditions, allConditions, O}
 
 pub word-most : (l : List Bool) → wordOf l < 2 ^ length l
 word-most [] = lit< tt
@@ -42,9 +42,9 @@ all-word (false ∷ l) = even-less (wordOf l) (length l)
 module _ (j : Route) (reports : ℕ) (x : Position) (standing : ℕ → Standing) where
   pub conditions-most : conditions j reports x standing ≤ allConditions
   unfolding conditions
-  conditions-most = let h : wordOf (nine (j .load) reports (lookedUp j x standing) standing) < 512 = word-most (nine (j .load) reports (lookedUp j x standing) standing) in omega arith
+  conditions-most = let h : wordOf (nine (j .load) reports (routeConditions j x standing) standing) < 512 = word-most (nine (j .load) reports (routeConditions j x standing) standing) in omega arith
 
   -- "O means all nine"
   pub O-word : O j reports x standing ≡ eqb (conditions j reports x standing) allConditions
   unfolding O conditions
-  O-word = all-word (nine (j .load) reports (lookedUp j x standing) standing)
+  O-word = all-word (nine (j .load) reports (routeConditions j x standing) standing)

@@ -2,20 +2,16 @@
 use Prim.Native.Nat.{ℕ, zero, suc, _+_, _-_, _*_}
 use mathlib.Core.List.{List, [], _∷_}
 use mathlib.Core.Bool.{Bool, true, false, not, _&&_, _||_}
-use lib.ListN.{take}
 use lib.Dec.{ltb, leb}
-use Rattle.wire.specs.Lists.{any}
 use Rattle.wire.specs.Numbers.{bit, flag, if_then_else_}
 use Rattle.engine_value.specs.Engine.{Route}
-use Rattle.engine_value.specs.declared.Zone.{Zone}
 use Rattle.engine_value.specs.declared.Load.{Load}
-use Rattle.engine_value.specs.declared.Segment.{Segment}
 use Rattle.engine_value.specs.declared.Position.{Position}
 use Rattle.position.specs.Position.{segmentNamed, offsetDefined, pointsLoaded, pointCount, placed}
 use Rattle.position.specs.Standing.{isPassed, behind}
 use Rattle.position.specs.declared.Named.{Named}
 use Rattle.position.specs.declared.Standing.{Standing}
-use Rattle.conditions.specs.declared.LookedUp.{LookedUp}
+use Rattle.conditions.specs.declared.RouteConditions.{RouteConditions}
 
 -- "0, 1, 5, 8 are report bits 0, 1, 2, 3."
 abbrev pub etcsFulfilled : ℕ → Bool
@@ -50,33 +46,26 @@ profilesThere j standing =
     j .load .valid && (leb (pointCount j) k || placed j k)
 
 -- "An offset held from before a load and beyond its segment's new length counts as undefined for the conditions"
-abbrev pub tooFar : Position → Segment → Bool
+abbrev pub tooFar : Position → Named → Bool
 tooFar x s = s .booked && ltb (s .length) (x .offset)
 
 -- "6: offset defined and its segment in the journey." By the segment that the position names
 abbrev pub located : Named → Position → Bool
-located s x = offsetDefined x && (s .found && not (tooFar x (s .segment)))
-
--- "both ends inside"
-abbrev pub inZone : ℕ → Zone → Bool
-inZone offset z = leb (z .start) offset && leb offset (z .end)
-
-abbrev pub zonesOf : Segment → List Zone
-zonesOf s = take (s .«zone_count») (s .zones)
+located s x = offsetDefined x && (s .found && not (tooFar x s))
 
 -- "7: not within a zone of a journey segment in the book, both ends inside." A segment that is not in the book has no zones
 abbrev pub outsideZones : Named → Position → Bool
-outsideZones s x = not (located s x && any (inZone (x .offset)) (zonesOf (s .segment)))
+outsideZones s x = not (located s x && s .inside)
 
 -- 4, 6 and 7: those that look up the journey's points and segments
-abbrev pub lookUp : Named → Position → Bool → LookedUp
-lookUp s x profiles = record { profiles = profiles; located = located s x; outside = outsideZones s x }
+abbrev pub routeConditionsBy : Named → Position → Bool → RouteConditions
+routeConditionsBy s x profiles = record { profiles = profiles; located = located s x; outside = outsideZones s x }
 
-abbrev pub lookedUp : Route → Position → (ℕ → Standing) → LookedUp
-lookedUp j x standing = lookUp (segmentNamed j x) x (profilesThere j standing)
+abbrev pub routeConditions : Route → Position → (ℕ → Standing) → RouteConditions
+routeConditions j x standing = routeConditionsBy (segmentNamed j x) x (profilesThere j standing)
 
 -- the nine, in their order. "With no journey 2, 3, 4, 6 are 0 and 7 is 1": there is then no segment and no valid load
-abbrev pub nine : Load → ℕ → LookedUp → (ℕ → Standing) → List Bool
+abbrev pub nine : Load → ℕ → RouteConditions → (ℕ → Standing) → List Bool
 nine l reports w standing =
     etcsFulfilled reports
     ∷ noEmergencyBrake reports
@@ -99,7 +88,7 @@ allOf [] = true
 allOf (b ∷ bs) = b && allOf bs
 
 unfoldable pub conditions : Route → ℕ → Position → (ℕ → Standing) → ℕ
-conditions j reports x standing = wordOf (nine (j .load) reports (lookedUp j x standing) standing)
+conditions j reports x standing = wordOf (nine (j .load) reports (routeConditions j x standing) standing)
 
 -- all nine bits
 abbrev pub allConditions : ℕ
@@ -107,4 +96,4 @@ allConditions = 511
 
 -- "O means all nine"
 unfoldable pub O : Route → ℕ → Position → (ℕ → Standing) → Bool
-O j reports x standing = allOf (nine (j .load) reports (lookedUp j x standing) standing)
+O j reports x standing = allOf (nine (j .load) reports (routeConditions j x standing) standing)

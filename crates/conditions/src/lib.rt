@@ -1,20 +1,18 @@
 // The nine conditions (001 §6.4.9).
 ghost use mathlib.Core.Path.{_≡_};
 ghost use Prim.Native.Nat.{_-_, _≤_};
-ghost use Rattle.wire.specs.Lists.{any};
 ghost use Rattle.wire.specs.Numbers.{flag};
-ghost use Rattle.engine_value.specs.Engine.{routeIn};
+ghost use Rattle.engine_value.specs.Engine.{Route, routeIn};
+ghost use Rattle.position.specs.Position.{placed};
 ghost use Rattle.position.specs.Standing.{standing};
 ghost use Rattle.conditions.specs.Conditions.{etcsFulfilled, noEmergencyBrake, noInconsistency, dataValid};
-ghost use Rattle.conditions.specs.Conditions.{endAhead, lastAhead, profilesThere, tooFar, located, inZone, zonesOf, lookUp, lookedUp, nine, wordOf, conditions, allConditions};
+ghost use Rattle.conditions.specs.Conditions.{endAhead, lastAhead, profilesThere, tooFar, located, routeConditionsBy, routeConditions, nine, wordOf, conditions, allConditions};
 use engine_value::Engine;
 use engine_value::Load;
-use engine_value::MAX_ZONES;
+use engine_value::MAX_POINTS;
 use engine_value::Position;
 use engine_value::Progress;
-use engine_value::Segment;
 use engine_value::UNDEFINED;
-use engine_value::Zone;
 use position::Named;
 
 // The number of all nine.
@@ -22,7 +20,7 @@ pub const ALL_CONDITIONS: u16 = 511;
 
 // What the conditions look up in the journey: 4, the first point not passed is placed, or none is left; 6, the offset counts in a segment
 // of the journey; 7, it is outside of the zones.
-pub struct LookedUp {
+pub struct RouteConditions {
     pub profiles: bool,
     pub located: bool,
     pub outside: bool,
@@ -82,51 +80,38 @@ fn last_ahead(l: Load, p: Progress) -> bool
     !(last < p.next)
 }
 
-// The first point not passed is placed, or none is left, at a progress.
-pub fn profiles_there(e: Engine, p: Progress) -> bool
-    ensures { λ r. ⌜ r ≡ profilesThere (routeIn e) (standing p) ⌝ }
+// Point k is placed.
+pub fn placed_at(e: Engine, k: u8) -> bool
+    ensures { λ r. ⌜ r ≡ placed (routeIn e) k ⌝ }
 {
-    if !e.load.valid {
+    let i = k as usize;
+    let points = e.points;
+    if i < MAX_POINTS {
+        let p = points[i];
+        return p.placed;
+    }
+    false
+}
+
+// The first point not passed is placed, which `first` tells, or none is left, at a progress.
+pub fn profiles_there(l: Load, p: Progress, first: bool) -> bool
+    ensures { λ r. ⌜ ((j : Route) → l ≡ j .load → first ≡ placed j (p .next) → r ≡ profilesThere j (standing p)) ⌝ }
+{
+    if !l.valid {
         return false;
     }
-    if position::points_loaded(e.load) <= p.next {
-        return true;
+    if position::points_loaded(l) <= p.next {
+        true
+    } else {
+        first
     }
-    let k = p.next as usize;
-    let point = e.points[k];
-    point.placed
 }
 
 // An offset held from before a load and beyond its segment's new length.
-fn too_far(x: Position, s: Segment) -> bool
+fn too_far(x: Position, s: Named) -> bool
     ensures { λ r. ⌜ r ≡ tooFar x s ⌝ }
 {
     if s.booked { s.length < x.offset } else { false }
-}
-
-fn in_zone(z: Zone, offset: u32) -> bool
-    ensures { λ r. ⌜ r ≡ inZone offset z ⌝ }
-{
-    if z.start <= offset {
-        offset <= z.end
-    } else {
-        false
-    }
-}
-
-fn in_zones(s: Segment, offset: u32) -> bool
-    ensures { λ r. ⌜ r ≡ any (inZone offset) (zonesOf s) ⌝ }
-{
-    let n = position::at_most(s.zone_count, MAX_ZONES);
-    let mut i: usize = 0;
-    while i < n {
-        let z = s.zones[i];
-        if in_zone(z, offset) {
-            return true;
-        }
-        i += 1;
-    }
-    false
 }
 
 // The offset is defined and counts in the segment that the position names.
@@ -139,23 +124,23 @@ fn located_in(s: Named, x: Position) -> bool
     if !s.found {
         return false;
     }
-    let far = too_far(x, s.segment);
+    let far = too_far(x, s);
     !far
 }
 
 // What the conditions look up, by the segment that the position names; `profiles` is condition 4.
-pub fn look_up(s: Named, x: Position, profiles: bool) -> LookedUp
-    ensures { λ r. ⌜ r ≡ lookUp s x profiles ⌝ }
+pub fn route_conditions(s: Named, x: Position, profiles: bool) -> RouteConditions
+    ensures { λ r. ⌜ r ≡ routeConditionsBy s x profiles ⌝ }
 {
     if !located_in(s, x) {
-        return LookedUp {
+        return RouteConditions {
             profiles: profiles,
             located: false,
             outside: true,
         };
     }
-    let inside = in_zones(s.segment, x.offset);
-    LookedUp {
+    let inside = s.inside;
+    RouteConditions {
         profiles: profiles,
         located: true,
         outside: !inside,
@@ -163,12 +148,13 @@ pub fn look_up(s: Named, x: Position, profiles: bool) -> LookedUp
 }
 
 // What the conditions look up in an engine.
-pub fn looked_up(e: Engine) -> LookedUp
-    ensures { λ r. ⌜ r ≡ lookedUp (routeIn e) (e .train .position) (standing (e .progress)) ⌝ }
+fn route_conditions_in(e: Engine) -> RouteConditions
+    ensures { λ r. ⌜ r ≡ routeConditions (routeIn e) (e .train .position) (standing (e .progress)) ⌝ }
 {
-    let s = position::segment_named(e);
-    let profiles = profiles_there(e, e.progress);
-    look_up(s, e.train.position, profiles)
+    let s = position::segment_named(e, e.train.position);
+    let placed = placed_at(e, e.progress.next);
+    let profiles = profiles_there(e.load, e.progress, placed);
+    route_conditions(s, e.train.position, profiles)
 }
 
 fn number(b: bool) -> u16
@@ -178,7 +164,7 @@ fn number(b: bool) -> u16
 }
 
 // The nine conditions as a number, condition 0 the least significant bit, from what they look up.
-pub fn word_of(l: Load, reports: u8, w: LookedUp, p: Progress) -> u16
+pub fn word_of(l: Load, reports: u8, w: RouteConditions, p: Progress) -> u16
     ensures { λ r. ⌜ (r ≡ wordOf (nine l reports w (standing p))) × (r ≤ allConditions) ⌝ }
 {
     let c0 = number(etcs_fulfilled(reports));
@@ -195,8 +181,8 @@ pub fn word_of(l: Load, reports: u8, w: LookedUp, p: Progress) -> u16
 
 // The same of an engine.
 pub fn conditions(e: Engine) -> u16
-    ensures { λ r. ⌜ (r ≡ conditions (routeIn e) (e .train .reports) (e .train .position) (standing (e .progress))) × (r ≤ allConditions) ⌝ }
+    ensures { λ r. ⌜ (r ≡ conditions (routeIn e) (e .inputs .reports) (e .train .position) (standing (e .progress))) × (r ≤ allConditions) ⌝ }
 {
-    let w = looked_up(e);
-    word_of(e.load, e.train.reports, w, e.progress)
+    let w = route_conditions_in(e);
+    word_of(e.load, e.inputs.reports, w, e.progress)
 }

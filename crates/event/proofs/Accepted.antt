@@ -31,7 +31,7 @@ pub record PositionFits (p : Position) : Type 0 where
 pub position-fits : (p : Position) → Fits (Event.PositionReport p) → PositionFits p
 position-fits p f =
     let (nidc, (nidsp, (offset, (speed, _)))) = f .0 in
-    let same : p ≡ record { nidc = nidc; nidsp = nidsp; offset = offset; speed = speed } = cc (f .2) in
+    let same : p ≡ record { nidsp = nidsp; offset = offset; nidc = nidc; speed = speed } = cc (f .2) in
     let behind-nidc = and-right (leb nidc maxNidc) _ (f .1) in
     let behind-nidsp = and-right (leb nidsp max4) _ behind-nidc in
     rw same

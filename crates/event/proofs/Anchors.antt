@@ -17,7 +17,7 @@ use Rattle.event.specs.declared.Row.the-variants.{SwitchOn, Configure, S
 
 -- each field at its greatest
 abbrev farthest : Position
-farthest = record { nidc = 1023; nidsp = 4294967295; offset = 16777215; speed = 65535 }
+farthest = record { nidsp = 4294967295; offset = 16777215; nidc = 1023; speed = 65535 }
 
 -- an event, its number, its row, its role, what it brings, and its bytes
 abbrev Vector : Type 0

@@ -1,12 +1,12 @@
--- The table of the kinds read backwards: the event, from its row, its role or the value that it brings.
+-- The table of the kinds read backwards: the event, from its row, its role or the value that it brings; and its role from its number.
 use Prim.Native.Nat.{ℕ}
-use mathlib.Core.Path.{_≡_, refl}
-use mathlib.Core.Bool.{Bool, true, false}
+use mathlib.Core.Path.{_≡_, refl, sym, ap, _∙_}
+use mathlib.Core.Bool.{Bool, true, false, _||_, false≢true}
 use mathlib.Core.Option.{Option, none, some}
 use lib.Dec.{eqb}
 use Rattle.engine_value.specs.Engine.{mode}
 use Rattle.engine_value.specs.declared.Position.{Position}
-use Rattle.event.specs.Kinds.{Role, off, load, report, other, skip, Kind, kind, bringing, carried}
+use Rattle.event.specs.Kinds.{Role, off, load, report, other, skip, isOff, isLoad, isReport, isSkip, skipGiven, newer, Kind, kind, roleOf, bringing, carried}
 use Rattle.event.specs.declared.Event.{Event}
 use Rattle.event.specs.declared.Row.{Row}
 use Rattle.event.specs.declared.Row.the-variants.{SwitchOn, Configure, SwitchOff, Fail, EngagePress, ByState}
@@ -36,29 +36,45 @@ abbrev pub OfPosition : Option Position → Event → Type 0
 OfPosition none e = Unit {0}
 OfPosition (some x) e = e ≡ Event.PositionReport x
 
+-- which role it is, by the number of the kind
+abbrev pub roleTests : Role → Bool × Bool × Bool × Bool × Bool
+roleTests r = (isOff r, isLoad r, isReport r, skipGiven r, isSkip r)
+
+abbrev pub numberTests : ℕ → Bool × Bool × Bool × Bool × Bool
+numberTests n = (eqb n 3, eqb n 11, eqb n 9, eqb n 12, eqb n 12 || eqb n 13)
+
 pub record Known (k : Kind) (e : Event) : Type 0 where
   pub row : OfRow (k .row) (k .number) e
   pub role : OfRole (k .role) e
   pub mode : OfMode (bringing (k .brings) .number mode) e
   pub position : OfPosition (bringing (k .brings) .position) e
+  pub tests : numberTests (k .number) ≡ roleTests (k .role)
 
 pub known : (e : Event) → Known (kind e) e
-known Event.PowerOn = record { row = (refl, refl); role = tt; mode = tt; position = tt }
-known Event.Configured = record { row = (refl, refl); role = tt; mode = tt; position = tt }
-known Event.PowerOff = record { row = (refl, refl); role = refl; mode = tt; position = tt }
-known Event.Fault = record { row = (refl, refl); role = tt; mode = tt; position = tt }
-known (Event.Reports n) = record { row = refl; role = tt; mode = tt; position = tt }
-known (Event.Mode n) = record { row = refl; role = tt; mode = refl; position = tt }
-known (Event.Lever n) = record { row = refl; role = tt; mode = tt; position = tt }
-known Event.Press = record { row = (refl, refl); role = tt; mode = tt; position = tt }
-known (Event.PositionReport x) = record { row = refl; role = (x, refl); mode = tt; position = refl }
-known (Event.Length n) = record { row = refl; role = tt; mode = tt; position = tt }
-known Event.Load = record { row = refl; role = refl; mode = tt; position = tt }
-known (Event.Skip t) = record { row = refl; role = refl; mode = tt; position = tt }
-known (Event.Revoke t) = record { row = refl; role = refl; mode = tt; position = tt }
+known Event.PowerOn = record { row = (refl, refl); role = tt; mode = tt; position = tt; tests = refl }
+known Event.Configured = record { row = (refl, refl); role = tt; mode = tt; position = tt; tests = refl }
+known Event.PowerOff = record { row = (refl, refl); role = refl; mode = tt; position = tt; tests = refl }
+known Event.Fault = record { row = (refl, refl); role = tt; mode = tt; position = tt; tests = refl }
+known (Event.Reports n) = record { row = refl; role = tt; mode = tt; position = tt; tests = refl }
+known (Event.Mode n) = record { row = refl; role = tt; mode = refl; position = tt; tests = refl }
+known (Event.Lever n) = record { row = refl; role = tt; mode = tt; position = tt; tests = refl }
+known Event.Press = record { row = (refl, refl); role = tt; mode = tt; position = tt; tests = refl }
+known (Event.PositionReport x) = record { row = refl; role = (x, refl); mode = tt; position = refl; tests = refl }
+known (Event.Length n) = record { row = refl; role = tt; mode = tt; position = tt; tests = refl }
+known Event.Load = record { row = refl; role = refl; mode = tt; position = tt; tests = refl }
+known (Event.Skip t) = record { row = refl; role = refl; mode = tt; position = tt; tests = refl }
+known (Event.Revoke t) = record { row = refl; role = refl; mode = tt; position = tt; tests = refl }
 
 pub mode-of : (e : Event) → OfMode (carried e .number mode) e
 mode-of e = known e .mode
 
 pub position-of : (e : Event) → OfPosition (carried e .position) e
 position-of e = known e .position
+
+-- only a position report changes the position
+pub position-kept : (e : Event) (x : Position) → isReport (roleOf e) ≡ false → newer (carried e .position) x ≡ x
+position-kept e x h = go (carried e .position) (position-of e)
+  where
+    go : (y : Option Position) → OfPosition y e → newer y x ≡ x
+    go none k = refl
+    go (some y) k = absurd (false≢true (sym h ∙ ap (λ v. isReport (roleOf v)) k))

@@ -33,6 +33,46 @@ pub data Role : Type 0 where
   off load report other : Role
   skip : ℕ → Bool → Role
 
+-- which role it is
+abbrev pub isOff : Role → Bool
+isOff off = true
+isOff load = false
+isOff report = false
+isOff other = false
+isOff (skip t on) = false
+
+abbrev pub isLoad : Role → Bool
+isLoad off = false
+isLoad load = true
+isLoad report = false
+isLoad other = false
+isLoad (skip t on) = false
+
+abbrev pub isReport : Role → Bool
+isReport off = false
+isReport load = false
+isReport report = true
+isReport other = false
+isReport (skip t on) = false
+
+-- of a driver skip, f of the NID_TP that it names and of whether it is given or revoked; of another role, a
+abbrev pub ofSkip : {A : Type 0} → Role → A → (ℕ → Bool → A) → A
+ofSkip off a f = a
+ofSkip load a f = a
+ofSkip report a f = a
+ofSkip other a f = a
+ofSkip (skip t on) a f = f t on
+
+abbrev pub isSkip : Role → Bool
+isSkip r = ofSkip r false (λ t on. true)
+
+abbrev pub skipGiven : Role → Bool
+skipGiven r = ofSkip r false (λ t on. on)
+
+-- 0 for another role
+abbrev pub skipName : Role → ℕ
+skipName r = ofSkip r 0 (λ t on. t)
+
 -- what an event brings
 pub data Brings : Type 0 where
   nothing : Brings
@@ -59,7 +99,7 @@ is n c w r b = record { number = n; content = c; row = w; role = r; brings = b }
 abbrev pub positionContent : Content
 positionContent = record {
   fields = field "NID_C" 2 (upTo maxNidc) ∷ field "NID_SP" 4 (upTo max4) ∷ field "offset" 4 (upTo undefined) ∷ field "speed" 2 (upTo max2) ∷ [];
-  event = λ v. let (c, (sp, (o, (s, _)))) = v in PositionReport (record { nidc = c; nidsp = sp; offset = o; speed = s });
+  event = λ v. let (c, (sp, (o, (s, _)))) = v in PositionReport (record { nidsp = sp; offset = o; nidc = c; speed = s });
 }
 
 -- ---- the table

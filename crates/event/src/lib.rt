@@ -8,9 +8,9 @@ use wire::be32;
 ghost use mathlib.Core.Path.{_≡_};
 ghost use mathlib.Core.Bool.{_&&_};
 ghost use lib.Dec.{leb};
-ghost use Rattle.event.specs.Kinds.{kindOf, rowOf, roleOf, positionContent};
+ghost use Rattle.event.specs.Kinds.{kindOf, rowOf, roleOf, isReport, isLoad, isOff, isSkip, skipGiven, skipName, newer, carried, positionContent};
 ghost use Rattle.event.specs.Events.{eventRows, eventWith, eventOf};
-ghost use Rattle.event.specs.View.{eventView, roleView};
+ghost use Rattle.event.specs.View.{eventView};
 
 // The kinds of events by their numbers.
 pub const POWER_ON: u8 = 1;
@@ -65,15 +65,6 @@ pub enum Row {
     ByState,
 }
 
-// What an event is to the journey and its points: power off, a load, a position report, nothing, a driver skip of a point's name given or revoked.
-pub enum Role {
-    Off,
-    Load,
-    Report,
-    Other,
-    Skip(u32, bool),
-}
-
 // An event, or the number that refuses it.
 pub enum EventRead {
     Event(Event),
@@ -110,9 +101,9 @@ fn read_position(s: &[u8]) -> EventRead
     let offset = be32(s, 7);
     let speed = be16(s, 11);
     let x = Position {
-        nidc: nidc,
         nidsp: nidsp,
         offset: offset,
+        nidc: nidc,
         speed: speed,
     };
     if MAX_NIDC < nidc as u32 {
@@ -166,7 +157,7 @@ pub fn kind_of(e: Event) -> u8
         Event::Length(_) => LENGTH,
         Event::Load => LOAD,
         Event::Skip(_) => SKIP,
-        Event::Revoke(_) => REVOKE,
+        _ => REVOKE,
     }
 }
 
@@ -191,23 +182,60 @@ pub fn row_of(e: Event) -> Row
     }
 }
 
-// What an event is to the journey and its points.
-pub fn role_of(e: Event) -> Role
-    ensures { λ r. ⌜ roleView r ≡ roleOf e ⌝ }
+// What an event is to the journey and its points: a test for each role, and not one match on a role. In the code of a step such a match leaves an
+// arm that no value takes, and for its sake LLVM keeps one more copy of the engine.
+pub fn is_report(e: Event) -> bool
+    ensures { λ r. ⌜ r ≡ isReport (roleOf e) ⌝ }
 {
-    match e {
-        Event::PowerOn => Role::Other,
-        Event::Configured => Role::Other,
-        Event::PowerOff => Role::Off,
-        Event::Fault => Role::Other,
-        Event::Reports(_) => Role::Other,
-        Event::Mode(_) => Role::Other,
-        Event::Lever(_) => Role::Other,
-        Event::Press => Role::Other,
-        Event::PositionReport(_) => Role::Report,
-        Event::Length(_) => Role::Other,
-        Event::Load => Role::Load,
-        Event::Skip(nidtp) => Role::Skip(nidtp, true),
-        Event::Revoke(nidtp) => Role::Skip(nidtp, false),
+    kind_of(e) == POSITION_REPORT
+}
+
+pub fn is_load(e: Event) -> bool
+    ensures { λ r. ⌜ r ≡ isLoad (roleOf e) ⌝ }
+{
+    kind_of(e) == LOAD
+}
+
+pub fn is_power_off(e: Event) -> bool
+    ensures { λ r. ⌜ r ≡ isOff (roleOf e) ⌝ }
+{
+    kind_of(e) == POWER_OFF
+}
+
+// A driver skip, given.
+pub fn gives_skip(e: Event) -> bool
+    ensures { λ r. ⌜ r ≡ skipGiven (roleOf e) ⌝ }
+{
+    kind_of(e) == SKIP
+}
+
+// A driver skip, given or revoked.
+pub fn is_skip(e: Event) -> bool
+    ensures { λ r. ⌜ r ≡ isSkip (roleOf e) ⌝ }
+{
+    let kind = kind_of(e);
+    kind == SKIP || kind == REVOKE
+}
+
+// The NID_TP that a driver skip names.
+pub fn stop_in(e: Event) -> u32
+    ensures { λ r. ⌜ r ≡ skipName (roleOf e) ⌝ }
+{
+    if let Event::Skip(nidtp) = e {
+        return nidtp;
     }
+    if let Event::Revoke(nidtp) = e {
+        return nidtp;
+    }
+    0
+}
+
+// The position after an event, from the one before.
+pub fn position_after(e: Event, x: Position) -> Position
+    ensures { λ r. ⌜ r ≡ newer (carried e .position) x ⌝ }
+{
+    if let Event::PositionReport(y) = e {
+        return y;
+    }
+    x
 }

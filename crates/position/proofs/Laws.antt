@@ -1,16 +1,20 @@
 -- The definitions of specs/, one step at a time, as the loops take them.
 use Prim.Native.Nat.{ℕ, zero, suc, _+_, _-_, _<_, _≤_, min}
-use mathlib.Core.Path.{_≡_, refl, sym, ap}
-use mathlib.Core.List.{List, [], _∷_}
+use mathlib.Core.Path.{_≡_, refl, sym, ap, _∙_}
+use mathlib.Core.List.{List, [], _∷_, _++_}
 use mathlib.Core.Bool.{Bool, true, false, _&&_}
 use native.Mathlib.Omega.{arith}
-use lib.ListN.{length, getD, take, drop}
+use lib.ListN.{length, getD, take, drop, List·getD-eq-default}
 use lib.Dec.{eqb, ltb}
 use borrow.Author.Tests.{eq-eqb, ne-eqb, lt-ltb, le-ltb, le-leb, lt-leb, eqb-true}
 use native.Mathlib.Nat.{zero-min, min-zero, suc-min-suc}
-use Rattle.wire.specs.Lists.{those}
+use native.Mathlib.Numerals.{add-one}
+use lib.Seq.{take-suc}
+use Rattle.wire.specs.Lists.{any, those}
+use Rattle.wire.specs.Numbers.{if_then_else_}
 use Rattle.wire.proofs.ListLaws as lists
-use Rattle.engine_value.specs.Engine.{undefined, blankPoint, progress}
+use Rattle.engine_value.specs.Engine.{Route, undefined, blankPoint, progress, maxSegments}
+use Rattle.engine_value.specs.declared.Zone.{Zone}
 use Rattle.engine_value.specs.declared.Segment.{Segment}
 use Rattle.engine_value.specs.declared.Point.{Point}
 use Rattle.engine_value.specs.declared.Position.{Position}
@@ -19,7 +23,7 @@ use Rattle.position.specs.declared.Named.{Named}
 use Rattle.position.specs.declared.Found.the-variants.{At, Nothing}
 use Rattle.position.specs.declared.Front.the-variants.{Known, Unknown}
 use Rattle.position.specs.declared.Standing.the-variants.{Unused, Targeted, Reached, Passed}
-use Rattle.position.specs.Position.{bears, first, front}
+use Rattle.position.specs.Position.{placed, bears, inZone, named, nothingNamed, first, segmentNamed, front}
 use Rattle.position.specs.Standing.{standing}
 use Rattle.position.specs.Skips.{stopFrom}
 
@@ -33,9 +37,6 @@ left-more n i h = omega arith
 pub left-all : (n : ℕ) → n - 0 ≡ n
 left-all n = omega arith
 
-pub and-first : {a : Bool} → a ≡ false → (b : Bool) → a && b ≡ false
-and-first e b = rw e
-
 -- an array has no more than its length
 pub take-most : {A : Type 0} (n : ℕ) (l : List A) → take (min n (length l)) l ≡ take n l
 take-most {A} n [] = rw min-zero (sym (none n))
@@ -46,22 +47,63 @@ take-most {A} n [] = rw min-zero (sym (none n))
 take-most zero (x ∷ l) = rw zero-min
 take-most {A} (suc n) (x ∷ l) = rw suc-min-suc (ap (λ (m : List A). x ∷ m) (take-most n l))
 
--- ---- the two searches
+-- ---- the segment of a name
 
-module _ (d : Segment) (l : List Segment) (n i c s : ℕ) where
+module _ (d : Segment) (l : List Segment) (n i o c s : ℕ) where
   -- of the first n segments, from index i on
   abbrev pub firstFrom : Named
-  firstFrom = first (those (bears c s) (drop i (take n l)))
+  firstFrom = first o (those (bears c s) (drop i (take n l)))
 
-  pub segment-none : n ≤ i → firstFrom ≡ first []
+  pub segment-none : n ≤ i → firstFrom ≡ nothingNamed
   segment-none h = rw (lists.left-none d n i l h)
 
   module _ (h : i < n) (k : n ≤ length l) where
-    pub segment-hit : bears c s (getD l i d) ≡ true → firstFrom ≡ record { found = true; segment = getD l i d }
+    pub segment-hit : bears c s (getD l i d) ≡ true → firstFrom ≡ named o (getD l i d)
     segment-hit t = rw (lists.left-more d n i l h k, t)
 
-    pub segment-miss : bears c s (getD l i d) ≡ false → firstFrom ≡ first (those (bears c s) (drop (i + 1) (take n l)))
+    pub segment-miss : bears c s (getD l i d) ≡ false → firstFrom ≡ first o (those (bears c s) (drop (i + 1) (take n l)))
     segment-miss t = rw (lists.left-more d n i l h k, t)
+
+-- the segments of the array, as many as the journey has
+pub all-named : (j : Route) (x : Position) (n : ℕ) → length (j .segments) ≡ maxSegments → n ≡ min (j .load .«segment_count») maxSegments
+    → first (x .offset) (those (bears (x .nidc) (x .nidsp)) (take n (j .segments))) ≡ segmentNamed j x
+all-named j x n h e = ap (λ l. first (x .offset) (those (bears (x .nidc) (x .nidsp)) l))
+    (ap (λ n. take n (j .segments)) (e ∙ ap (min (j .load .«segment_count»)) (sym h)) ∙ take-most _ (j .segments))
+
+-- by what the segments before name, and the next
+abbrev nextNamed : ℕ → (Segment → Bool) → Named → Segment → Named
+nextNamed o f g s = if g .found then g else first o (those f (s ∷ []))
+
+first-next : (o : ℕ) (f : Segment → Bool) (l : List Segment) (s : Segment) → first o (those f (l ++ (s ∷ []))) ≡ nextNamed o f (first o (those f l)) s
+first-next o f [] s = refl
+first-next o f (x ∷ xs) s = go _ refl (first-next o f xs s)
+  where
+    go : (b : Bool) → f x ≡ b → first o (those f (xs ++ (s ∷ []))) ≡ nextNamed o f (first o (those f xs)) s
+        → first o (those f (x ∷ (xs ++ (s ∷ [])))) ≡ nextNamed o f (first o (those f (x ∷ xs))) s
+    go true q ih = rw q
+    go false q ih = rw q ih
+
+module _ (d : Segment) (l : List Segment) (i : ℕ) (h : i < length l) (x : Position) where
+  pub first-more : (g r : Named) → g ≡ first (x .offset) (those (bears (x .nidc) (x .nidsp)) (take i l)) → r ≡ nextNamed (x .offset) (bears (x .nidc) (x .nidsp)) g (getD l i d)
+      → r ≡ first (x .offset) (those (bears (x .nidc) (x .nidsp)) (take (i + 1) l))
+  first-more g r e q = q ∙ ap (λ m. nextNamed (x .offset) (bears (x .nidc) (x .nidsp)) m (getD l i d)) e
+      ∙ sym (first-next (x .offset) (bears (x .nidc) (x .nidsp)) (take i l) (getD l i d))
+      ∙ ap (λ m. first (x .offset) (those (bears (x .nidc) (x .nidsp)) m)) (sym (take-suc l i d h) ∙ ap (λ m. take m l) (sym (add-one i)))
+
+-- ---- the zones: the first n, from index i on
+
+module _ (d : Zone) (l : List Zone) (n i o : ℕ) where
+  pub zones-none : n ≤ i → any (inZone o) (drop i (take n l)) ≡ false
+  zones-none h = rw (lists.left-none d n i l h)
+
+  module _ (h : i < n) (k : n ≤ length l) where
+    pub zones-hit : inZone o (getD l i d) ≡ true → any (inZone o) (drop i (take n l)) ≡ true
+    zones-hit t = rw (lists.left-more d n i l h k, t)
+
+    pub zones-miss : inZone o (getD l i d) ≡ false → any (inZone o) (drop i (take n l)) ≡ any (inZone o) (drop (i + 1) (take n l))
+    zones-miss t = rw (lists.left-more d n i l h k, t)
+
+-- ---- the stop of a name
 
 module _ (l : List Point) (n i t : ℕ) where
   abbrev StopNamed : Bool
@@ -79,6 +121,10 @@ module _ (l : List Point) (n i t : ℕ) where
   unfolding stopFrom
   stop-miss h e = rw (left-more n i h, e)
 
+-- the array has no placed point behind its end
+pub placed-none : (j : Route) (k : ℕ) → length (j .points) ≤ k → false ≡ placed j k
+placed-none j k h = sym (ap (λ p. p .placed) (List·getD-eq-default (j .points) blankPoint h))
+
 -- ---- the front, by the segment that the position names
 
 module _ (s : Named) (x : Position) where
@@ -92,17 +138,17 @@ module _ (s : Named) (x : Position) where
     by-missing f = rw (ne-eqb _ _ h, f)
 
     module _ (f : s .found ≡ true) where
-      pub by-unplaced : s .segment .placed ≡ false → front s x ≡ Unknown
+      pub by-unplaced : s .placed ≡ false → front s x ≡ Unknown
       unfolding front
       by-unplaced p = rw (ne-eqb _ _ h, f, p)
 
-      pub by-past : s .segment .placed ≡ true → s .segment .length < x .offset → front s x ≡ Unknown
+      pub by-past : s .placed ≡ true → s .length < x .offset → front s x ≡ Unknown
       unfolding front
-      by-past p l = rw (ne-eqb _ _ h, f, p, lt-leb (x .offset) (s .segment .length) l)
+      by-past p l = rw (ne-eqb _ _ h, f, p, lt-leb (x .offset) (s .length) l)
 
-      pub by-within : s .segment .placed ≡ true → x .offset ≤ s .segment .length → front s x ≡ Known (s .segment .start + x .offset)
+      pub by-within : s .placed ≡ true → x .offset ≤ s .length → front s x ≡ Known (s .start + x .offset)
       unfolding front
-      by-within p l = rw (ne-eqb _ _ h, f, p, le-leb (x .offset) (s .segment .length) l)
+      by-within p l = rw (ne-eqb _ _ h, f, p, le-leb (x .offset) (s .length) l)
 
 -- ---- standings of a progress
 

@@ -4,9 +4,10 @@ use mathlib.Core.List.{List, [], _∷_}
 use mathlib.Core.Bool.{Bool, true, false, not, _&&_}
 use lib.ListN.{getD, take}
 use lib.Dec.{eqb, leb}
-use Rattle.wire.specs.Lists.{those}
+use Rattle.wire.specs.Lists.{those, any}
 use Rattle.wire.specs.Numbers.{if_then_else_}
-use Rattle.engine_value.specs.Engine.{Route, blankSegment, blankPoint, undefined, maxPoints}
+use Rattle.engine_value.specs.Engine.{Route, blankPoint, undefined, maxPoints}
+use Rattle.engine_value.specs.declared.Zone.{Zone}
 use Rattle.engine_value.specs.declared.Load.{Load}
 use Rattle.engine_value.specs.declared.Segment.{Segment}
 use Rattle.engine_value.specs.declared.Point.{Point}
@@ -38,15 +39,29 @@ listed j = take (j .load .«segment_count») (j .segments)
 abbrev pub bears : ℕ → ℕ → Segment → Bool
 bears c sp s = eqb (s .nidc) c && eqb (s .nidsp) sp
 
+-- "both ends inside"
+abbrev pub inZone : ℕ → Zone → Bool
+inZone offset z = leb (z .start) offset && leb offset (z .end)
+
+abbrev pub zonesOf : Segment → List Zone
+zonesOf s = take (s .«zone_count») (s .zones)
+
+-- what is looked up in a segment, with the offset in it
+abbrev pub named : ℕ → Segment → Named
+named offset s = record { found = true; booked = s .booked; placed = s .placed; inside = any (inZone offset) (zonesOf s); start = s .start; length = s .length }
+
+abbrev pub nothingNamed : Named
+nothingNamed = record { found = false; booked = false; placed = false; inside = false; start = 0; length = 0 }
+
 -- the first of some segments, if there is one
-abbrev pub first : List Segment → Named
-first [] = record { found = false; segment = blankSegment }
-first (s ∷ l) = record { found = true; segment = s }
+abbrev pub first : ℕ → List Segment → Named
+first offset [] = nothingNamed
+first offset (s ∷ l) = named offset s
 
 -- "its segment", of the offset: the first of the journey's that bears the name. The position, the conditions and row 13 look it up, whether or
 -- not the offset is defined
 abbrev pub segmentNamed : Route → Position → Named
-segmentNamed j x = first (those (bears (x .nidc) (x .nidsp)) (listed j))
+segmentNamed j x = first (x .offset) (those (bears (x .nidc) (x .nidsp)) (listed j))
 
 -- ---- the known position
 
@@ -57,7 +72,7 @@ offsetDefined x = not (eqb (x .offset) undefined)
 -- start. By the segment that the position names
 unfoldable pub front : Named → Position → Front
 front s x =
-    if offsetDefined x && (s .found && (s .segment .placed && leb (x .offset) (s .segment .length))) then Known (s .segment .start + x .offset) else Unknown
+    if offsetDefined x && (s .found && (s .placed && leb (x .offset) (s .length))) then Known (s .start + x .offset) else Unknown
 
 abbrev pub frontAt : Route → Position → Front
 frontAt j x = front (segmentNamed j x) x

@@ -6,7 +6,8 @@ use Rattle.wire.specs.Numbers.{if_then_else_}
 use Rattle.engine_value.specs.Engine.{Route, progress}
 use Rattle.engine_value.specs.declared.Progress.{Progress}
 use Rattle.timing.specs.Distance.{Report}
-use Rattle.timing.specs.Report.{departs, firstLooked, reported, becameReached}
+use Rattle.timing.specs.declared.Reported.{Reported}
+use Rattle.timing.specs.Report.{reportOf}
 
 -- "status (0 passed, 1 stopped, 2 departed, 5 driver skip, 6 skip revoked)"
 abbrev pub statusPassed : ℕ
@@ -40,10 +41,12 @@ passings (suc n) k = change k statusPassed (progress (k + 1) false) ∷ passings
 abbrev pub when : {A : Type 0} → Bool → A → List A
 when b a = if b then a ∷ [] else []
 
--- "the 62s as they arise". "A departure writes status 2 and no 0."
+-- "the 62s as they arise". "A departure writes status 2 and no 0." Of a report, from the progress before it
+abbrev pub changesOf : Progress → Reported → List Change
+changesOf p t =
+    when (t .departed) (change (p .next) statusDeparted (progress (t .from) false))
+    ++ (passings (t .progress .next - t .from) (t .from)
+    ++ when (t .reached) (change (t .progress .next) statusStopped (t .progress)))
+
 unfoldable pub reportChanges : Route → Report → Progress → List Change
-reportChanges j r p =
-    let q = reported j r p in
-    when (departs r p) (change (p .next) statusDeparted (progress (firstLooked r p) false))
-    ++ (passings (q .next - firstLooked r p) (firstLooked r p)
-    ++ when (becameReached j r p) (change (q .next) statusStopped q))
+reportChanges j r p = changesOf p (reportOf j r p)

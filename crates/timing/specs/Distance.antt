@@ -20,9 +20,9 @@ pub record Report : Type 0 where
   pub length : ℕ
   pub skips : ℕ → Bool
 
--- the latest one that an engine holds
-abbrev pub reportIn : Engine → Report
-reportIn e = record { position = e .train .position; length = e .train .length; skips = λ k. getD (e .skips) k false }
+-- one of that position, with the train length and the driver skips of an engine
+abbrev pub reportFrom : Engine → Position → Report
+reportFrom e x = record { position = x; length = e .train .length; skips = λ k. getD (e .skips) k false }
 
 -- "train length × (0 front, half rounded down for middle, 1 rear)"
 abbrev pub back : ℕ → ℕ → ℕ

@@ -5,7 +5,7 @@ use mathlib.Core.Bool.{Bool, false, not, _&&_}
 use Rattle.wire.specs.Numbers.{if_then_else_}
 use Rattle.engine_value.specs.Engine.{Route, progress, maxPoints}
 use Rattle.engine_value.specs.declared.Progress.{Progress}
-use Rattle.position.specs.Position.{pointCount, placed, segmentNamed, known}
+use Rattle.position.specs.Position.{pointCount, placed, known}
 use Rattle.timing.specs.Distance.{Report, beyond, atStop, moving}
 use Rattle.timing.specs.declared.Reported.{Reported}
 
@@ -44,10 +44,22 @@ reported j r p = if stays r p then p else lookedFrom j r (firstLooked r p)
 abbrev pub becameReached : Route → Report → Progress → Bool
 becameReached j r p = not (stays r p) && reported j r p .reached
 
--- all that a report tells; its packets 62 follow from these (`reportChanges`)
+-- all that a report tells; its packets 62 follow from these (`reportChanges`). Beside them, what condition 4 asks before and after it
 abbrev pub reportOf : Route → Report → Progress → Reported
 reportOf j r p =
-    record { segment = segmentNamed j (r .position); progress = reported j r p; from = firstLooked r p; departed = departs r p; reached = becameReached j r p }
+    record {
+      progress = reported j r p;
+      from = firstLooked r p;
+      departed = departs r p;
+      reached = becameReached j r p;
+      «placed_before» = placed j (p .next);
+      «placed_after» = placed j (reported j r p .next);
+    }
+
+-- where there is none
+abbrev pub noReport : Route → Progress → Reported
+noReport j p =
+    record { progress = p; from = p .next; departed = false; reached = false; «placed_before» = placed j (p .next); «placed_after» = placed j (p .next) }
 
 -- one report after the other
 unfoldable pub run : Route → Progress → List Report → Progress

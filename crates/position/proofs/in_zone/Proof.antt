@@ -1,6 +1,6 @@
 use borrow.Author.Tests.{le-leb, lt-leb}
-use Rattle.conditions.proofs.in_zone.Statement.{statement}
-use Rattle.conditions.proofs.in_zone.Tie as tie
+use Rattle.position.proofs.in_zone.Statement.{statement}
+use Rattle.position.proofs.in_zone.Tie as tie
 
 returns : tie.Need-returns
 returns c = rw (le-leb _ _ (c .before .if1 .taken))

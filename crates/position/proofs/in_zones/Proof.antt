@@ -4,12 +4,12 @@ use lib.ListN.{length, length-map, take, drop}
 use native.Mathlib.Omega.{arith}
 use Rattle.wire.specs.Lists.{any}
 use Rattle.engine_value.specs.Engine.{blankZone}
 use Rattle.position.proofs.Laws.{take-most}
-use Rattle.conditions.specs.Conditions.{inZone, zonesOf}
-use Rattle.conditions.proofs.Laws.{zones-none, zones-hit, zones-miss}
+use Rattle.position.specs.Position.{inZone, zonesOf}
+use Rattle.position.proofs.Laws.{zones-none, zones-hit, zones-miss}
 use borrow.Author.Needs.{needs}
-use Rattle.conditions.proofs.in_zones.Statement.{statement}
-use Rattle.conditions.proofs.in_zones.Tie as tie
+use Rattle.position.proofs.in_zones.Statement.{statement}
+use Rattle.position.proofs.in_zones.Tie as tie
 
 -- those from i on answer for all
 abbrev Inv-loop : tie.InvT-loop
@@ -29,7 +29,7 @@ element-copy-out-z c = omega (arith, c .before .before .at-most .ensures)
 
 -- the array holds 4
 four : (c : tie.After-at-most Inv-loop μ-loop) → length (c .before .args .t1 .zones) ≡ 4
-four c = let b = c .before in sym (length-map (b .args .t1 .zones) _) ∙ b .good .0 .1 .1 .1 .1 .1 .1 .1 .1 .1 .0 .1 .0 .1
+four c = let b = c .before in sym (length-map (b .args .t1 .zones) _) ∙ b .good .0 .1 .1 .1 .1 .1 .1 .0 .1 .0 .1
 
 -- the loop goes over all of them
 all-zones : (c : tie.After-at-most Inv-loop μ-loop) → take (c .at-most .result) (c .before .args .t1 .zones) ≡ zonesOf (c .before .args .t1)

@@ -1,0 +1,2 @@
+-- What an event looks up before anything is stored.
+pub mod LookUp
