@@ -13,7 +13,7 @@ use Rattle.position.specs.Position.{front}
 use Rattle.timing.specs.Distance.{beyond, atStop}
 use Rattle.timing.specs.Load.{targetFrom, target}
 use Rattle.timing.specs.Report.{looked, reported}
-use Rattle.timing.specs.Changes.{passings, reportChanges}
+use Rattle.timing.specs.Changes.{passings}
 use Rattle.position.specs.Skips.{stopFrom}
 use Rattle.conditions.specs.Conditions.{firstAhead, conditions}
 use Rattle.state_codes.specs.Numbers.{powerRows, stateRow}
@@ -24,8 +24,8 @@ use Rattle.packets.specs.Packets.{valueBytes}
 use Rattle.engine_value.specs.declared.Engine.{Engine}
 use Rattle.call.specs.Packets.{timingPoint, jpReceived, atoStatus, statusDue, packetsOf}
 use Rattle.call.specs.Effect.{offsetBeyond, positionEffect, loadEffect, skipEffect, effect}
-use Rattle.call.specs.Call.{Call, Outcome, conditionsIn, judged, outcomeOf, stepOf}
+use Rattle.call.specs.Call.{Call, Outcome, conditionsIn, judge, judged, outcomeOf, stepOf}
 
 unfoldable pub computed : Engine → Call → Outcome
-unfolding number bytesOf field bitMap optional many counted listed valuesAt eventRows eventWith contentAmong eventOfKind eventOf bookPoint zoneRecord segmentRecord records bookOf nameRecord pointRecord headRecord journeyRecord placedAt startAt segmentOf pointOf checked journeyOf routeOf loadOf front beyond atStop targetFrom target looked reported passings reportChanges stopFrom firstAhead conditions powerRows stateRow machineAfter controlAfter bytes valueBytes timingPoint jpReceived atoStatus statusDue packetsOf offsetBeyond positionEffect loadEffect skipEffect effect conditionsIn judged outcomeOf stepOf
+unfolding number bytesOf field bitMap optional many counted listed valuesAt eventRows eventWith contentAmong eventOfKind eventOf bookPoint zoneRecord segmentRecord records bookOf nameRecord pointRecord headRecord journeyRecord placedAt startAt segmentOf pointOf checked journeyOf routeOf loadOf front beyond atStop targetFrom target looked reported passings stopFrom firstAhead conditions powerRows stateRow machineAfter controlAfter bytes valueBytes timingPoint jpReceived atoStatus statusDue packetsOf offsetBeyond positionEffect loadEffect skipEffect effect conditionsIn judge judged outcomeOf stepOf
 computed e c = stepOf e c

@@ -11,7 +11,7 @@ use lib.Dec.{ltb}
 use borrow.Author.Tests.{lt-ltb, le-ltb, ltb-false}
 use Rattle.wire.specs.Judged.{Judged, thenJudge, row}
 use Rattle.wire.specs.Judged.Judged.{refuse, accept}
-use Rattle.engine_value.specs.Engine.{routeIn}
+use Rattle.engine_value.specs.Engine.{routeIn, fresh}
 use Rattle.engine_value.specs.declared.Engine.{Engine}
 use Rattle.event.specs.Events.{eventOf}
 use Rattle.event.specs.Kinds.{kindOf}
@@ -21,8 +21,8 @@ use Rattle.position.specs.Position.{pointCount}
 use Rattle.position.specs.Standing.{standing, standingCode}
 use Rattle.state_codes.specs.Codes.{stateAt}
 use Rattle.state_codes.specs.Numbers.{powerRows, stateRow}
-use Rattle.call.specs.Effect.{Effect, effect}
-use Rattle.call.specs.Call.{Call, Step, stepBy, judged, outcomeOf, stepOf}
+use Rattle.call.specs.Effect.{Effect, powerOff, effect, stored}
+use Rattle.call.specs.Call.{Call, Step, stepBy, judge, judged, outcomeOf, stepOf}
 use Rattle.call.specs.Shown.{standingIn, standingsIn}
 
 -- ---- standings
@@ -38,6 +38,10 @@ module _ (e : Engine) (k : ℕ) where
   pub standings-more : (l : List ℕ) (s : ℕ) → k < length l → take k l ≡ standingsIn e k → s ≡ standingIn e k → take (k + 1) (set l k s) ≡ standingsIn e (k + 1)
   unfolding standingsIn
   standings-more l s h t d = rw (add-one k, take-suc-set l k s h, t, d)
+
+-- "Power off returns to fresh."
+pub off-fresh : (e : Engine) → stored e powerOff ≡ fresh
+off-fresh e = refl
 
 -- ---- a call by the rows
 
@@ -62,7 +66,7 @@ module _ (e : Engine) (c : Call) where
     pub result : s ≡ stepBy e event made
 
   pub taken : (s : Step) → judged e c ≡ accept s → Taken s
-  unfolding judged
+  unfolding judged judge
   taken s h =
       let a = then-accepts (eventOf (c .event)) _ s h in
       let b = then-accepts (powerRows (stateAt (e .control .state)) (kindOf (a .0))) _ s (a .2) in

@@ -4,33 +4,35 @@ use mathlib.Core.Path.{_≡_, refl, ap, subst, _∙_}
 use mathlib.Core.List.{List, [], _∷_, _++_, map}
 use mathlib.Core.Bool.{Bool, true, false, _&&_, _||_}
 use mathlib.Core.Option.{Option, none, some}
-use lib.ListN.{length, length-append, getD}
+use lib.ListN.{length, length-append}
 use lib.Dec.{ltb}
 use borrow.Author.Tests.{le-ltb}
 use native.Mathlib.Omega.{arith}
 use Rattle.wire.specs.Judged.{Judged, thenJudge, row}
 use Rattle.wire.specs.Judged.Judged.{refuse, accept}
-use Rattle.engine_value.specs.Engine.{Route, routeIn, withPosition, progress}
+use Rattle.engine_value.specs.Engine.{Route, routeIn, progress}
 use Rattle.engine_value.specs.declared.Position.{Position}
 use Rattle.engine_value.specs.declared.Progress.{Progress}
 use Rattle.engine_value.specs.declared.Engine.{Engine}
 use Rattle.event.specs.declared.Event.{Event}
-use Rattle.event.specs.Kinds.{Role, off, load, report, other, skip, roleOf}
+use Rattle.event.specs.Kinds.{Role, off, load, report, other, skip, Carried, roleOf, carried}
 use Rattle.packets.specs.Packets.{packetBytes, joined}
 use Rattle.packets.proofs.PacketLaws.{length-packetBytes, length-joined, length-one}
 use Rattle.journey.specs.declared.Head.{Head}
 use Rattle.route.specs.Route.{LoadValue, loadOf}
-use Rattle.position.specs.Position.{pointCount, placed, segmentNamed, known}
+use Rattle.position.specs.Position.{pointCount, placed, known}
 use Rattle.timing.specs.Distance as distance
-use Rattle.timing.specs.Distance.{reportIn, beyond, moving}
+use Rattle.timing.specs.Distance.{reportFrom, beyond, moving}
 use Rattle.timing.specs.Report.{following, looked, lookedFrom, departs, firstLooked, reported, becameReached}
-use Rattle.timing.specs.Changes.{Change, change, passings, when, reportChanges, statusDeparted, statusStopped}
+use Rattle.timing.specs.Changes.{Change, change, passings, when, changesOf, reportChanges, statusDeparted, statusStopped}
 use Rattle.position.specs.Standing.{standing, behind}
 use Rattle.timing.proofs.Steps.{reported-stays, reported-departs, reported-looks}
 use Rattle.position.specs.declared.Found.{Found}
 use Rattle.position.specs.declared.Found.the-variants.{At, Nothing}
 use Rattle.call.specs.Packets.{timingPoint, jpReceived, atoStatus, received, statusDue, packetsOf}
-use Rattle.call.specs.Effect.{Effect, effectAs, effect, positionEffect, reportedIn, loadEffect, skipEffect, skippedIn, loadedIn, offsetBeyond, sameBool}
+use Rattle.look_up.specs.LookUp.{positionAfter, lookUp}
+use Rattle.look_up.specs.declared.LookedUp.{LookedUp}
+use Rattle.call.specs.Effect.{Effect, effectAs, effect, trainWith, positionEffect, reportedIn, loadEffect, skipAt, skipEffect, skippedIn, loadedIn, offsetBeyond, sameBool}
 use Rattle.call.specs.Call.{statusIn, stepBy}
 
 -- ---- the points that a report changes
@@ -87,26 +89,31 @@ small-row : (n : ℕ) (b : Bool) (f : Effect) → Small (accept f) → Small (th
 small-row n true f h = tt
 small-row n false f h = h
 
-small-skip : (e : Engine) (on : Bool) (f : Found) → Small (skipEffect e on f)
-unfolding skipEffect
-small-skip e on Nothing = tt
-small-skip e on (At k) = small-row 15 (behind (standing (e .progress) k) || sameBool (getD (e .skips) k false) on) (skippedIn e k on) (omega arith)
+small-skip : (e : Engine) (c : Carried) (on skipped : Bool) (f : Found) → Small (skipAt e c on skipped f)
+small-skip e c on skipped Nothing = tt
+small-skip e c on skipped (At k) = small-row 15 (behind (standing (e .progress) k) || sameBool skipped on) (skippedIn e c k on) (omega arith)
 
-small-load : (e : Engine) (x : Judged LoadValue) → Small (thenJudge x (λ l. accept (loadedIn e l)))
-small-load e (refuse n) = tt
-small-load e (accept l) = omega arith
+small-load : (e : Engine) (c : Carried) (x : Judged LoadValue) → Small (thenJudge x (λ l. accept (loadedIn e c l)))
+small-load e c (refuse n) = tt
+small-load e c (accept l) = omega arith
 
-small-as : (r : Role) (m : Engine) (journey book : List ℕ) → Small (effectAs r m journey book)
-unfolding positionEffect loadEffect
-small-as off m journey book = omega arith
-small-as load m journey book = small-load m (loadOf journey book)
-small-as report m journey book = small-row 13 (offsetBeyond (segmentNamed (routeIn m) (m .train .position)) (m .train .position)) (reportedIn m) (omega (arith, changes-most (routeIn m) (reportIn m) (m .progress)))
-small-as other m journey book = omega arith
-small-as (skip t on) m journey book = small-skip m on _
+small-report : (e : Engine) (c : Carried) (l : LookedUp) → length (changesOf (e .progress) (l .report)) ≤ 66 → Small (positionEffect e c l)
+unfolding positionEffect
+small-report e c l h = small-row 13 (offsetBeyond (l .segment) (trainWith e c .position)) (reportedIn e c (l .report)) (omega arith)
 
 small : (e : Engine) (journey book : List ℕ) (event : Event) → Small (effect e journey book event)
-unfolding effect
-small e journey book event = small-as (roleOf event) _ journey book
+unfolding effect loadEffect skipEffect reportChanges
+small e journey book event = go (roleOf event) refl
+  where
+    c : Carried
+    c = carried event
+
+    go : (r : Role) → roleOf event ≡ r → Small (effectAs r e c (lookUp e event) journey book)
+    go off q = omega arith
+    go load q = small-load e c (loadOf journey book)
+    go report q = small-report e c (lookUp e event) (rw q (changes-most (routeIn e) (reportFrom e (positionAfter e event)) (e .progress)))
+    go other q = omega arith
+    go (skip t on) q = small-skip e c on (lookUp e event .stop .skipped) (lookUp e event .stop .at)
 
 -- ---- the packets
 

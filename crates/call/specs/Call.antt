@@ -1,6 +1,6 @@
 -- The meaning of a call: the table of numbers from top to bottom, else the new engine, its answer and the output memory.
 use Prim.Native.Nat.{ℕ}
-use mathlib.Core.List.{List, [], _∷_, _++_}
+use mathlib.Core.List.{List, _++_}
 use mathlib.Core.Bool.{Bool, true, false, cond}
 use lib.ListN.{length, drop}
 use lib.Dec.{ltb}
@@ -19,7 +19,7 @@ use Rattle.conditions.specs.Conditions.{conditions}
 use Rattle.state_codes.specs.Numbers.{powerRows, stateRow}
 use Rattle.states.specs.ControlGroup.{controlAfter}
 use Rattle.call.specs.Packets.{Status, ownPackets, packetsOf}
-use Rattle.call.specs.Effect.{Effect, effect}
+use Rattle.call.specs.Effect.{Effect, effect, stored}
 
 -- "A call brings any event, profiles and output memory"
 pub record Call : Type 0 where
@@ -42,7 +42,7 @@ pub record Outcome : Type 0 where
 
 -- the nine conditions as the engine shows them
 unfoldable pub conditionsIn : Engine → ℕ
-conditionsIn e = conditions (routeIn e) (e .train .reports) (e .train .position) (standing (e .progress))
+conditionsIn e = conditions (routeIn e) (e .inputs .reports) (e .train .position) (standing (e .progress))
 
 abbrev pub statusIn : Engine → Status
 statusIn e = record { state = e .control .state; conditions = conditionsIn e; speed = e .train .position .speed }
@@ -60,17 +60,25 @@ stepTo e event f m = record {
 
 -- "After each accepted event": the rows of the states over the event's values
 abbrev pub stepBy : Engine → Event → Effect → Step
-stepBy e event f = stepTo e event f (withControl (f .engine) (controlAfter (f .engine .train) (f .engine .control) event (f .reached) (conditionsIn (f .engine))))
+stepBy e event f = stepTo e event f (withControl (stored e f) (controlAfter (f .inputs) (f .control) event (f .reached) (conditionsIn (stored e f))))
 
--- the table of numbers; output: "16 shorter than this event's packets"
+-- ---- the four parts of a call: what the event looks up and its effect (`lookUp` in `effect`), the judgement of the effect (`judge`), and what is
+-- stored (`stored`, `outcomeOf`)
+
+-- output: "16 shorter than this event's packets"
+unfoldable pub judge : Engine → Event → List ℕ → Effect → Judged Step
+judge e event memory f = do
+  row 16 (ltb (length memory) (length (joined (stepBy e event f .packets))))
+  accept (stepBy e event f)
+
+-- the table of numbers
 unfoldable pub judged : Engine → Call → Judged Step
 judged e c = do
   event ← eventOf (c .event)
   powerRows (stateAt (e .control .state)) (kindOf event)
   stateRow (stateAt (e .control .state)) (kindOf event)
   f ← effect e (c .journey) (c .book) event
-  row 16 (ltb (length (c .memory)) (length (joined (stepBy e event f .packets))))
-  accept (stepBy e event f)
+  judge e event (c .memory) f
 
 -- "Every refusal returns the number only and changes neither engine nor memory."
 -- "An accepted event returns state, request and bytes written"; the bytes behind keep their values

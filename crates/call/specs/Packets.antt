@@ -6,6 +6,9 @@ use mathlib.Core.Option.{Option, none, some}
 use lib.Dec.{eqb}
 use Rattle.wire.specs.Numbers.{flag, if_then_else_}
 use Rattle.engine_value.specs.Engine.{Route}
+use Rattle.engine_value.specs.declared.Load.{Load}
+use Rattle.engine_value.specs.declared.Point.{Point}
+use Rattle.engine_value.specs.declared.Progress.{Progress}
 use Rattle.engine_value.specs.declared.Position.{Position}
 use Rattle.engine_value.specs.declared.Engine.{Engine}
 use Rattle.event.specs.declared.Event.{Event}
@@ -24,40 +27,54 @@ use Rattle.conditions.specs.Conditions.{endAhead}
 use Rattle.state_codes.specs.declared.State.the-variants.{EG}
 
 -- "header: NID_C (2), NID_SP (4), offset (4), speed (2), NID_OPERATIONAL (4; FFFFFFFF hexadecimal with no journey)"
+abbrev pub headerOf : Load → Position → Header
+headerOf l x = record { nidc = x .nidc; nidsp = x .nidsp; offset = x .offset; speed = x .speed; operational = l .operational }
+
 abbrev pub header : Route → Position → Header
-header j x = record { nidc = x .nidc; nidsp = x .nidsp; offset = x .offset; speed = x .speed; operational = j .load .operational }
+header j x = headerOf (j .load) x
 
 -- "62: point's NID_C, NID_TP, info: Q_EOJ_REACHED (after that change; 0 once the End of Journey is reached or passed, else 1) + 2 × alignment
 -- + 8 × status (..), stopping data (1; 0 unless status 1)"
-unfoldable pub timingPoint : Route → Position → Change → Packet
-timingPoint j x c =
-    let p = point j (c .index) in
+abbrev pub timingPointOf : Header → Load → Point → ℕ → Progress → Packet
+timingPointOf h l p status after =
     Packet.TimingPoint (record {
-      header = header j x;
+      header = h;
       nidc = p .nidc;
       nidtp = p .nidtp;
-      «q_eoj_reached» = flag (endAhead (j .load) (standing (c .after)));
+      «q_eoj_reached» = flag (endAhead l (standing after));
       alignment = p .alignment;
-      status = c .status;
-      stopping = if eqb (c .status) statusStopped then p .stopping else 0;
+      status = status;
+      stopping = if eqb status statusStopped then p .stopping else 0;
     })
 
+unfoldable pub timingPoint : Route → Position → Change → Packet
+timingPoint j x c = timingPointOf (header j x) (j .load) (point j (c .index)) (c .status) (c .after)
+
 -- "65 on an accepted load: NID_C (1,024 unless the position is known), NID_ATOTS, date, seconds, counter, status 0."
-unfoldable pub jpReceived : Route → Position → Head → Packet
-jpReceived j x h =
+abbrev pub country : Route → Position → ℕ
+country j x = if known j x then x .nidc else unknownNidc
+
+abbrev pub jpReceivedOf : Header → ℕ → Head → Packet
+jpReceivedOf h nidc head =
     Packet.JpReceived (record {
-      header = header j x;
-      nidc = if known j x then x .nidc else unknownNidc;
-      atots = h .atots;
-      date = h .date;
-      seconds = h .seconds;
-      counter = h .counter;
+      header = h;
+      nidc = nidc;
+      atots = head .atots;
+      date = head .date;
+      seconds = head .seconds;
+      counter = head .counter;
       status = 0;
     })
 
+unfoldable pub jpReceived : Route → Position → Head → Packet
+jpReceived j x head = jpReceivedOf (header j x) (country j x) head
+
 -- "68: state + 16 × conditions (2)."
+abbrev pub atoStatusOf : Header → ℕ → ℕ → Packet
+atoStatusOf h state conditions = Packet.AtoStatus (record { header = h; state = state; conditions = conditions })
+
 unfoldable pub atoStatus : Route → Position → ℕ → ℕ → Packet
-atoStatus j x state conditions = Packet.AtoStatus (record { header = header j x; state = state; conditions = conditions })
+atoStatus j x state conditions = atoStatusOf (header j x) state conditions
 
 -- what a packet 68 is written for: state, conditions and speed
 pub record Status : Type 0 where

@@ -7,20 +7,29 @@ use Rattle.wire.specs.Judged.{Judged, thenJudge}
 use Rattle.wire.specs.Judged.Judged.{accept}
 use Rattle.wire.specs.View.{verdictView}
 use Rattle.wire.specs.declared.Verdict.{Verdict}
-use Rattle.engine_value.specs.Engine.{Route, routeIn, progress}
+use Rattle.engine_value.specs.Engine.{Route, routeIn, progress, noSkips}
 use Rattle.engine_value.specs.declared.Progress.{Progress}
 use Rattle.engine_value.specs.declared.Engine.{Engine}
+use Rattle.journey.specs.declared.Head.{Head}
+use Rattle.position.specs.declared.Found.{Found}
+use Rattle.position.specs.declared.Found.the-variants.{At, Nothing}
 use Rattle.position.specs.Standing.{standing}
+use Rattle.timing.specs.Load.{target}
 use Rattle.timing.specs.Changes.{statusDeparted, statusSkipped, statusRevoked}
 use Rattle.timing.specs.declared.Reported.{Reported}
-use Rattle.conditions.specs.Conditions.{lookedUp}
-use Rattle.conditions.specs.declared.LookedUp.{LookedUp}
+use Rattle.conditions.specs.Conditions.{routeConditions}
+use Rattle.conditions.specs.declared.RouteConditions.{RouteConditions}
+use Rattle.look_up.specs.LookUp.{routeConditionsIn}
 use Rattle.route.specs.declared.Loaded.{Loaded}
 use Rattle.event_packets.specs.View.{changesView, receivedView}
 use Rattle.event_packets.specs.declared.Changes.{Changes}
 use Rattle.event_packets.specs.declared.Received.{Received}
+use Rattle.call.specs.Packets.{country}
 use Rattle.call.specs.Effect as model
+use Rattle.call.specs.Effect.{JourneyAfter, kept, skipSet, routeAfter, stored}
 use Rattle.effects.specs.declared.Effect.{Effect}
+use Rattle.effects.specs.declared.LoadEffect.{LoadEffect}
+use Rattle.effects.specs.declared.Kept.{Kept}
 
 abbrev pub noChanges : Changes
 noChanges = record { first = false; index = 0; status = 0; after = progress 0 false; from = 0; to = 0; stopped = false }
@@ -36,29 +45,88 @@ reportedChanges k t =
 abbrev pub skipStatus : Bool → ℕ
 skipStatus on = if on then statusSkipped else statusRevoked
 
-abbrev pub routeView : Loaded → Route
-routeView l = record { load = l .load; points = l .points; segments = l .segments }
+-- the groups of an engine as they are
+abbrev pub plainEffect : Engine → Verdict → RouteConditions → Effect
+plainEffect e v after =
+    record {
+      verdict = v;
+      load = e .load;
+      train = e .train;
+      progress = e .progress;
+      inputs = e .inputs;
+      control = e .control;
+      received = Received.Nothing;
+      nidc = 0;
+      changes = noChanges;
+      reached = false;
+      after = after;
+    }
 
--- what the conditions look up in an engine
-abbrev pub lookedUpIn : Engine → LookedUp
-lookedUpIn e = lookedUp (routeIn e) (e .train .position) (standing (e .progress))
+-- what a load leaves as it is
+abbrev pub keptIn : Engine → Kept
+keptIn e = record { train = e .train; inputs = e .inputs; control = e .control }
 
-abbrev pub plainEffect : Engine → Verdict → LookedUp → Effect
-plainEffect e v after = record { engine = e; verdict = v; received = Received.Nothing; changes = noChanges; reached = false; after = after }
+-- that, with the journey of a load
+abbrev pub journeyEngine : Kept → Loaded → Engine
+journeyEngine k l =
+    record {
+      points = l .points;
+      skips = noSkips;
+      segments = l .segments;
+      load = l .load;
+      train = k .train;
+      progress = progress 0 false;
+      inputs = k .inputs;
+      control = k .control;
+    }
 
-abbrev pub acceptedView : Effect → model.Effect
-acceptedView f = record {
-  engine = f .engine;
-  loaded = receivedView (f .received);
-  changes = changesView (f .changes) (f .engine .progress);
-  reached = f .reached;
-}
+-- the effect of a load on the engine that has its journey
+abbrev pub loadedEffect : Engine → Loaded → Effect
+loadedEffect a l =
+    let after = progress (target (routeIn a) (a .train .position) (a .train .length)) false in
+    record {
+      verdict = l .verdict;
+      load = a .load;
+      train = a .train;
+      progress = after;
+      inputs = a .inputs;
+      control = a .control;
+      received = Received.Journey (l .head);
+      nidc = country (routeIn a) (a .train .position);
+      changes = noChanges;
+      reached = false;
+      after = routeConditions (routeIn a) (a .train .position) (standing after);
+    }
 
--- an effect, or the number of the row that refuses
-abbrev pub effectView : Effect → Judged model.Effect
-effectView f = thenJudge (verdictView (f .verdict)) (λ u. accept (acceptedView f))
+abbrev pub loadedRoute : LoadEffect → Route
+loadedRoute l = record { load = l .effect .load; points = l .points; segments = l .segments }
 
--- such an effect on engine e; and, where `looked` is what the conditions look up in e, it has what they look up after it
-pub record Gives (e : Engine) (looked : LookedUp) (x : Judged model.Effect) (f : Effect) : Type 0 where
-  pub effect : effectView f ≡ x
-  pub after : looked ≡ lookedUpIn e → f .after ≡ lookedUpIn (f .engine)
+-- what becomes of the journey by a driver skip of the stop that was looked up
+abbrev pub skipJourney : Bool → Found → JourneyAfter
+skipJourney on (At k) = skipSet k on
+skipJourney on Nothing = kept
+
+-- the effect that it stands for, with what becomes of the journey
+abbrev pub acceptedView : JourneyAfter → Effect → model.Effect
+acceptedView j f =
+    record {
+      journey = j;
+      train = f .train;
+      progress = f .progress;
+      inputs = f .inputs;
+      control = f .control;
+      loaded = receivedView (f .received);
+      changes = changesView (f .changes) (f .progress);
+      reached = f .reached;
+    }
+
+-- that, or the number of the row that refuses
+abbrev pub effectView : JourneyAfter → Effect → Judged model.Effect
+effectView j f = thenJudge (verdictView (f .verdict)) (λ u. accept (acceptedView j f))
+
+-- such an effect on engine e; beside it the load's group, conditions 4, 6 and 7 after it, and the NID_C of a packet 65
+pub record Gives (e : Engine) (j : JourneyAfter) (x : Judged model.Effect) (f : Effect) : Type 0 where
+  pub effect : effectView j f ≡ x
+  pub load : f .load ≡ routeAfter e j .load
+  pub after : f .after ≡ routeConditionsIn (stored e (acceptedView j f))
+  pub nidc : (h : Head) → f .received ≡ Received.Journey h → f .nidc ≡ country (routeAfter e j) (f .train .position)

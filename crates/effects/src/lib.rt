@@ -1,14 +1,21 @@
-// What an event does before the rows of the states.
-use conditions::LookedUp;
+// What an event does, group by group and never as an engine, and the rows of the table of numbers that refuse it.
+use conditions::RouteConditions;
+use engine_value::Control;
 use engine_value::Engine;
+use engine_value::Inputs;
+use engine_value::Load;
 use engine_value::MAX_POINTS;
+use engine_value::MAX_SEGMENTS;
+use engine_value::Point;
 use engine_value::Position;
 use engine_value::Progress;
+use engine_value::Segment;
+use engine_value::Train;
 use engine_value::UNDEFINED;
 use event::Event;
-use event::Role;
 use event_packets::Changes;
 use event_packets::Received;
+use look_up::LookedUp;
 use position::Found;
 use position::Named;
 use position::Standing;
@@ -16,29 +23,46 @@ use route::Loaded;
 use timing::Reported;
 use wire::Verdict;
 ghost use mathlib.Core.Path.{_≡_};
-ghost use mathlib.Core.Bool.{false};
-ghost use Prim.Native.Nat.{_<_};
-ghost use lib.ListN.{set};
-ghost use Rattle.wire.specs.declared.Verdict.the-variants.{Accepted};
-ghost use Rattle.engine_value.specs.Engine.{routeIn, fresh, progress, withRoute, withSkips, withProgress};
+ghost use mathlib.Core.Bool.{Bool};
+ghost use Prim.Native.Nat.{ℕ, _<_};
+ghost use Rattle.engine_value.specs.Engine.{maxPoints};
+ghost use Rattle.wire.specs.Judged.{row};
+ghost use Rattle.wire.specs.Judged.Judged.{accept};
+ghost use Rattle.wire.specs.View.{verdictView};
 ghost use Rattle.position.specs.Standing.{standing, behind};
-ghost use Rattle.conditions.specs.Conditions.{profilesThere};
-ghost use Rattle.position.specs.Skips.{stopNamed};
-ghost use Rattle.timing.specs.Load.{target};
-ghost use Rattle.position.specs.declared.Found.the-variants.{At};
-ghost use Rattle.event.specs.Kinds.{carried};
-ghost use Rattle.call.specs.Effect.{taking, positionEffect, loadEffect, offsetBeyond, sameBool, skipEffect, effect};
-ghost use Rattle.effects.specs.View.{noChanges, oneChange, reportedChanges, skipStatus, routeView, lookedUpIn, plainEffect, Gives};
+ghost use Rattle.event.specs.Kinds.{other, report, skip, load, roleOf, carried};
+ghost use Rattle.look_up.specs.LookUp.{lookUp};
+ghost use Rattle.call.specs.Effect.{kept, cleared, replaced, trainWith, inputsWith, valuesOnly, powerOff, offsetBeyond, positionEffect, loadEffect, sameBool, skipEffect};
+ghost use Rattle.effects.specs.View.{noChanges, oneChange, reportedChanges, skipStatus, skipJourney, plainEffect, keptIn, journeyEngine, loadedEffect, loadedRoute, Gives};
 
-// The engine with the event's values, the head of a journey that was loaded, the points that changed, whether one became reached, and what the
-// conditions look up after it; where a row refuses, its number alone counts.
+// The groups with the event's values, the head of a journey that was loaded and the NID_C of its packet, the points that changed, whether one
+// became reached, and conditions 4, 6 and 7 after it; where a row refuses, its number alone counts.
 pub struct Effect {
-    pub engine: Engine,
     pub verdict: Verdict,
+    pub load: Load,
+    pub train: Train,
+    pub progress: Progress,
+    pub inputs: Inputs,
+    pub control: Control,
     pub received: Received,
+    pub nidc: u16,
     pub changes: Changes,
     pub reached: bool,
-    pub after: LookedUp,
+    pub after: RouteConditions,
+}
+
+// The effect of a load, with the new journey's arrays.
+pub struct LoadEffect {
+    pub effect: Effect,
+    pub points: [Point; MAX_POINTS],
+    pub segments: [Segment; MAX_SEGMENTS],
+}
+
+// What a load leaves as it is.
+pub struct Kept {
+    pub train: Train,
+    pub inputs: Inputs,
+    pub control: Control,
 }
 
 fn no_changes() -> Changes
@@ -73,61 +97,78 @@ fn one_change(index: u8, status: u8, after: Progress) -> Changes
     }
 }
 
-// An engine with nothing loaded and no point changed; the engine does not count where a row refuses.
-fn plain(e: Engine, verdict: Verdict, after: LookedUp) -> Effect
+// The groups of an engine as they are.
+fn plain(e: Engine, verdict: Verdict, after: RouteConditions) -> Effect
     ensures { λ r. ⌜ r ≡ plainEffect e verdict after ⌝ }
 {
     let changes = no_changes();
+    let load = e.load;
+    let train = e.train;
+    let progress = e.progress;
+    let inputs = e.inputs;
+    let control = e.control;
     Effect {
-        engine: e,
         verdict: verdict,
+        load: load,
+        train: train,
+        progress: progress,
+        inputs: inputs,
+        control: control,
         received: Received::Nothing,
+        nidc: 0,
         changes: changes,
         reached: false,
         after: after,
     }
 }
 
-// The engine with the value that an event brings.
-fn with_value(e: Engine, v: Event) -> Engine
-    ensures { λ r. ⌜ r ≡ taking e (carried v) ⌝ }
+// ---- the values that an event brings
+
+// Test behind test, with one way out: where each returned by itself, the compiled step would copy the engine twice more.
+fn train_with(e: Engine, v: Event) -> Train
+    ensures { λ r. ⌜ r ≡ trainWith e (carried v) ⌝ }
 {
-    let mut m = e;
-    match v {
-        Event::PowerOn => m,
-        Event::Configured => m,
-        Event::PowerOff => m,
-        Event::Fault => m,
-        Event::Reports(n) => {
-            m.train.reports = n;
-            m
-        }
-        Event::Mode(n) => {
-            m.train.mode = n;
-            m
-        }
-        Event::Lever(n) => {
-            m.train.lever = n;
-            m
-        }
-        Event::Press => m,
-        Event::PositionReport(x) => {
-            let mut train = e.train;
-            train.position = x;
-            m.train = train;
-            m
-        }
-        Event::Length(n) => {
-            m.train.length = n;
-            m
-        }
-        Event::Load => m,
-        Event::Skip(_) => m,
-        Event::Revoke(_) => m,
+    let mut train = e.train;
+    if let Event::Length(n) = v {
+        train.length = n;
     }
+    if let Event::PositionReport(x) = v {
+        train.position = x;
+    }
+    train
 }
 
-// 13, by the segment that a position names.
+fn inputs_with(e: Engine, v: Event) -> Inputs
+    ensures { λ r. ⌜ r ≡ inputsWith e (carried v) ⌝ }
+{
+    let mut inputs = e.inputs;
+    if let Event::Reports(n) = v {
+        inputs.reports = n;
+    }
+    if let Event::Mode(n) = v {
+        inputs.mode = n;
+    }
+    if let Event::Lever(n) = v {
+        inputs.lever = n;
+    }
+    inputs
+}
+
+// An event that brings values, or nothing.
+pub fn values(e: Engine, v: Event, looked: LookedUp) -> Effect
+    ensures { λ r. ⌜ (looked ≡ lookUp e v → roleOf v ≡ other → Gives e kept (accept (valuesOnly e (carried v))) r) ⌝ }
+{
+    let train = train_with(e, v);
+    let inputs = inputs_with(e, v);
+    let mut f = plain(e, Verdict::Accepted, looked.before);
+    f.train = train;
+    f.inputs = inputs;
+    f
+}
+
+// ---- the position report
+
+// An offset beyond the length of the segment that the position names.
 fn offset_beyond(s: Named, x: Position) -> bool
     ensures { λ r. ⌜ r ≡ offsetBeyond s x ⌝ }
 {
@@ -137,11 +178,17 @@ fn offset_beyond(s: Named, x: Position) -> bool
     if !s.found {
         return false;
     }
-    if s.segment.booked {
-        s.segment.length < x.offset
-    } else {
-        false
+    if s.booked { s.length < x.offset } else { false }
+}
+
+// 13
+fn offset_row(s: Named, x: Position) -> Verdict
+    ensures { λ r. ⌜ verdictView r ≡ row 13 (offsetBeyond s x) ⌝ }
+{
+    if offset_beyond(s, x) {
+        return Verdict::Refused(13);
     }
+    Verdict::Accepted
 }
 
 fn changes_of(index: u8, t: Reported) -> Changes
@@ -162,94 +209,26 @@ fn changes_of(index: u8, t: Reported) -> Changes
     }
 }
 
-// Condition 4 after a report, from before it on.
-fn profiles_after(m: Engine, p: Progress, before: bool) -> bool
-    ensures { λ r. ⌜ (before ≡ profilesThere (routeIn m) (standing (m .progress)) → r ≡ profilesThere (routeIn m) (standing p)) ⌝ }
-{
-    if p.next == m.progress.next {
-        before
-    } else {
-        conditions::profiles_there(m, p)
-    }
-}
-
 // A position report.
-fn position(e: Engine, v: Event, looked: LookedUp) -> Effect
-    ensures { λ r. ⌜ Gives e looked (positionEffect (taking e (carried v))) r ⌝ }
+pub fn report(e: Engine, v: Event, looked: LookedUp) -> Effect
+    ensures { λ r. ⌜ (looked ≡ lookUp e v → roleOf v ≡ report → Gives e kept (positionEffect e (carried v) looked) r) ⌝ }
 {
-    let mut m = with_value(e, v);
-    let t = timing::report(m);
-    let segment = t.segment;
-    if offset_beyond(segment, m.train.position) {
-        return plain(e, Verdict::Refused(13), looked);
-    }
-    let changes = changes_of(m.progress.next, t);
+    let train = train_with(e, v);
+    let inputs = inputs_with(e, v);
+    let t = looked.report;
     let progress = t.progress;
-    let profiles = profiles_after(m, progress, looked.profiles);
-    let after = conditions::look_up(segment, m.train.position, profiles);
-    m.progress = progress;
-    Effect {
-        engine: m,
-        verdict: Verdict::Accepted,
-        received: Received::Nothing,
-        changes: changes,
-        reached: t.reached,
-        after: after,
-    }
+    let profiles = conditions::profiles_there(e.load, progress, t.placed_after);
+    let after = conditions::route_conditions(looked.segment, train.position, profiles);
+    let mut f = plain(e, offset_row(looked.segment, train.position), after);
+    f.train = train;
+    f.inputs = inputs;
+    f.progress = progress;
+    f.changes = changes_of(e.progress.next, t);
+    f.reached = t.reached;
+    f
 }
 
-// The route of a load in force, with no driver skip.
-fn with_route(e: Engine, l: Loaded) -> Engine
-    ensures { λ r. ⌜ r ≡ withRoute e (routeView l) ⌝ }
-{
-    let mut m = e;
-    let points = l.points;
-    let segments = l.segments;
-    let load = l.load;
-    let none = [false; MAX_POINTS];
-    m.points = points;
-    m.segments = segments;
-    m.load = load;
-    m.skips = none;
-    m
-}
-
-// The point that a load targets.
-fn with_target(e: Engine) -> Engine
-    ensures { λ r. ⌜ r ≡ withProgress e (progress (target (routeIn e) (e .train .position) (e .train .length)) false) ⌝ }
-{
-    let next = timing::target(e);
-    let progress = Progress {
-        next: next,
-        reached: false,
-    };
-    let mut m = e;
-    m.progress = progress;
-    m
-}
-
-fn load(e: Engine, journey: &[u8], book: &[u8], looked: LookedUp) -> Effect
-    ensures { λ r. ⌜ Gives e looked (loadEffect e (now (journey .entry)) (now (book .entry))) r ⌝ }
-{
-    let l = route::load_route(journey, book);
-    let verdict = l.verdict;
-    if let Verdict::Refused(n) = verdict {
-        return plain(e, Verdict::Refused(n), looked);
-    }
-    let m = with_target(with_route(e, l));
-    let head = l.head;
-    let received = Received::Journey(head);
-    let changes = no_changes();
-    let after = conditions::looked_up(m);
-    Effect {
-        engine: m,
-        verdict: Verdict::Accepted,
-        received: received,
-        changes: changes,
-        reached: false,
-        after: after,
-    }
-}
+// ---- driver skips
 
 // Point k is reached or passed.
 fn is_behind(p: Progress, k: u8) -> bool
@@ -279,81 +258,156 @@ fn skip_status(on: bool) -> u8
     }
 }
 
-fn with_skip(e: Engine, k: usize, on: bool) -> Engine
-    requires { ⌜ k < 64 ⌝ }
-    ensures { λ r. ⌜ r ≡ withSkips e (set (e .skips) k on) ⌝ }
+// The index of a point, as a number of one byte.
+fn index_of(k: usize) -> u8
+    ensures { λ r. ⌜ (k < maxPoints → r ≡ k) ⌝ }
 {
-    let mut skips = e.skips;
-    skips[k] = on;
-    let mut m = e;
-    m.skips = skips;
-    m
+    if k < MAX_POINTS { k as u8 } else { 0 }
 }
 
-// A driver skip of point k, or its revocation.
-fn skip_at(e: Engine, k: usize, on: bool, looked: LookedUp) -> Effect
-    requires { ⌜ k < 64 ⌝ }
-    ensures { λ r. ⌜ Gives e looked (skipEffect e on (At k)) r ⌝ }
+// A driver skip, or its revocation.
+pub fn skip(e: Engine, v: Event, looked: LookedUp) -> Effect
+    ensures { λ r. ⌜ ((t : ℕ) (on : Bool) → looked ≡ lookUp e v → roleOf v ≡ skip t on → Gives e (skipJourney on (looked .stop .at)) (skipEffect e (carried v) on (looked .stop)) r) ⌝ }
 {
-    let index = k as u8;
-    if is_behind(e.progress, index) {
-        return plain(e, Verdict::Refused(15), looked);
-    }
-    let skips = e.skips;
-    let given = skips[k];
-    if same(given, on) {
-        return plain(e, Verdict::Refused(15), looked);
-    }
-    let m = with_skip(e, k, on);
-    let changes = one_change(index, skip_status(on), e.progress);
-    Effect {
-        engine: m,
-        verdict: Verdict::Accepted,
-        received: Received::Nothing,
-        changes: changes,
-        reached: false,
-        after: looked,
-    }
-}
-
-fn skip(e: Engine, nidtp: u32, on: bool, looked: LookedUp) -> Effect
-    ensures { λ r. ⌜ Gives e looked (skipEffect e on (stopNamed (routeIn e) nidtp)) r ⌝ }
-{
-    let Found::At(k) = position::find_stop(e, nidtp) else {
-        return plain(e, Verdict::Refused(14), looked);
+    let on = event::gives_skip(v);
+    let stop = looked.stop;
+    let at = stop.at;
+    let Found::At(k) = at else {
+        return plain(e, Verdict::Refused(14), looked.before);
     };
-    skip_at(e, k, on, looked)
+    let index = index_of(k);
+    if is_behind(e.progress, index) {
+        return plain(e, Verdict::Refused(15), looked.before);
+    }
+    if same(stop.skipped, on) {
+        return plain(e, Verdict::Refused(15), looked.before);
+    }
+    let mut f = plain(e, Verdict::Accepted, looked.before);
+    f.changes = one_change(index, skip_status(on), e.progress);
+    f
 }
 
-// What the conditions look up in the fresh engine.
-fn fresh_looked_up() -> LookedUp
-    ensures { λ r. ⌜ r ≡ lookedUpIn fresh ⌝ }
+// ---- power off
+
+// Power off returns to fresh: no journey, so that 4 and 6 are 0 and 7 is 1.
+pub fn power_off() -> Effect
+    ensures { λ r. ⌜ ((e : Engine) → Gives e cleared (accept powerOff) r) ⌝ }
 {
-    LookedUp {
+    let changes = no_changes();
+    let progress = Progress {
+        next: 0,
+        reached: false,
+    };
+    let after = RouteConditions {
         profiles: false,
         located: false,
         outside: true,
+    };
+    Effect {
+        verdict: Verdict::Accepted,
+        load: engine_value::no_load(),
+        train: engine_value::fresh_train(),
+        progress: progress,
+        inputs: engine_value::fresh_inputs(),
+        control: engine_value::fresh_control(),
+        received: Received::Nothing,
+        nidc: 0,
+        changes: changes,
+        reached: false,
+        after: after,
     }
 }
 
-// Power off returns to fresh.
-fn power_off(e: Engine) -> Effect
-    ensures { λ r. ⌜ r ≡ plainEffect fresh Accepted (lookedUpIn fresh) ⌝ }
+// ---- the load
+
+pub fn kept_of(e: Engine) -> Kept
+    ensures { λ r. ⌜ r ≡ keptIn e ⌝ }
 {
-    let m = engine_value::cleared(e);
-    let after = fresh_looked_up();
-    plain(m, Verdict::Accepted, after)
+    let train = e.train;
+    let inputs = e.inputs;
+    let control = e.control;
+    Kept {
+        train: train,
+        inputs: inputs,
+        control: control,
+    }
 }
 
-// The effect of an event, by its role. Where `looked` is what the conditions look up before the event, the effect has what they look up after it.
-pub fn effect_of(e: Engine, v: Event, journey: &[u8], book: &[u8], looked: LookedUp) -> Effect
-    ensures { λ r. ⌜ Gives e looked (effect e (now (journey .entry)) (now (book .entry)) v) r ⌝ }
+// An engine with the new journey: its points are looked up as those of any other.
+fn with_journey(k: Kept, l: Loaded) -> Engine
+    ensures { λ r. ⌜ r ≡ journeyEngine k l ⌝ }
 {
-    match event::role_of(v) {
-        Role::Off => power_off(e),
-        Role::Load => load(e, journey, book, looked),
-        Role::Report => position(e, v, looked),
-        Role::Other => plain(with_value(e, v), Verdict::Accepted, looked),
-        Role::Skip(nidtp, on) => skip(e, nidtp, on, looked),
+    let points = l.points;
+    let segments = l.segments;
+    let load = l.load;
+    let skips = [false; MAX_POINTS];
+    let train = k.train;
+    let inputs = k.inputs;
+    let control = k.control;
+    let progress = Progress {
+        next: 0,
+        reached: false,
+    };
+    Engine {
+        points: points,
+        skips: skips,
+        segments: segments,
+        load: load,
+        train: train,
+        progress: progress,
+        inputs: inputs,
+        control: control,
+    }
+}
+
+// The effect of a load on the engine that has the new journey.
+fn load_effect(a: Engine, l: Loaded) -> Effect
+    ensures { λ r. ⌜ r ≡ loadedEffect a l ⌝ }
+{
+    let s = position::segment_named(a, a.train.position);
+    let next = timing::target(a, s);
+    let progress = Progress {
+        next: next,
+        reached: false,
+    };
+    let placed = conditions::placed_at(a, next);
+    let profiles = conditions::profiles_there(a.load, progress, placed);
+    let after = conditions::route_conditions(s, a.train.position, profiles);
+    let nidc = event_packets::country(s, a.train.position);
+    let changes = no_changes();
+    let verdict = l.verdict;
+    let head = l.head;
+    let received = Received::Journey(head);
+    let load = a.load;
+    let train = a.train;
+    let inputs = a.inputs;
+    let control = a.control;
+    Effect {
+        verdict: verdict,
+        load: load,
+        train: train,
+        progress: progress,
+        inputs: inputs,
+        control: control,
+        received: received,
+        nidc: nidc,
+        changes: changes,
+        reached: false,
+        after: after,
+    }
+}
+
+pub fn load(k: Kept, journey: &[u8], book: &[u8]) -> LoadEffect
+    ensures { λ r. ⌜ ((e : Engine) (v : Event) → k ≡ keptIn e → roleOf v ≡ load → Gives e (replaced (loadedRoute r)) (loadEffect e (carried v) (now (journey .entry)) (now (book .entry))) (r .effect)) ⌝ }
+{
+    let l = route::load_route(journey, book);
+    let a = with_journey(k, l);
+    let f = load_effect(a, l);
+    let points = l.points;
+    let segments = l.segments;
+    LoadEffect {
+        effect: f,
+        points: points,
+        segments: segments,
     }
 }

@@ -1,62 +1,69 @@
--- What the code's answers stand for, and the rows of the table of numbers from a place on.
+-- What the code's answers stand for.
 use Prim.Native.Nat.{ℕ}
 use mathlib.Core.Path.{_≡_}
 use mathlib.Core.List.{List}
-use mathlib.Core.Bool.{Bool}
-use lib.ListN.{length}
-use lib.Dec.{ltb}
-use Rattle.wire.specs.Judged.{Judged, row, _>>=_, _>>_}
-use Rattle.wire.specs.Judged.Judged.{refuse, accept}
+use mathlib.Core.Bool.{Bool, true, false}
+use lib.ListN.{set}
+use Rattle.wire.specs.declared.Verdict.{Verdict}
+use Rattle.engine_value.specs.Engine.{noRoute, noSkips}
 use Rattle.engine_value.specs.declared.Engine.{Engine}
-use Rattle.event.specs.Kinds.{kindOf}
-use Rattle.event.specs.declared.Event.{Event}
-use Rattle.packets.specs.Packets.{joined}
-use Rattle.state_codes.specs.Codes.{stateAt}
-use Rattle.state_codes.specs.Numbers.{powerRows, stateRow}
-use Rattle.event_packets.specs.declared.Status.{Status}
-use Rattle.event_packets.specs.declared.Writes.{Writes}
-use Rattle.call.specs.Effect as model
-use Rattle.call.specs.Call.{Call, Accepted, Outcome, Step, stepBy}
+use Rattle.position.specs.declared.Found.{Found}
+use Rattle.position.specs.declared.Found.the-variants.{At, Nothing}
+use Rattle.call.specs.Call.{Call, Outcome}
 use Rattle.call.specs.View.{answerView}
 use Rattle.call.specs.declared.Answer.{Answer}
-use Rattle.effects.specs.declared.Effect.{Effect}
+use Rattle.judge.specs.declared.Judgement.{Judgement}
 use Rattle.engine.specs.declared.Stepped.{Stepped}
 
--- ---- the rows of the table of numbers from a place on
+abbrev pub isAccepted : Verdict → Bool
+isAccepted Verdict.Accepted = true
+isAccepted (Verdict.Refused n) = false
 
--- output: "16 shorter than this event's packets"
-unfoldable pub outputRow : List ℕ → Step → Judged Step
-outputRow memory s = do
-  row 16 (ltb (length memory) (length (joined (s .packets))))
-  accept s
+abbrev pub answerAs : Verdict → Judgement → Answer
+answerAs Verdict.Accepted t = Answer.Accepted (t .control .state) (t .control .request) (t .size)
+answerAs (Verdict.Refused n) t = Answer.Refused n
 
--- power, state, and the rest, for an event that was read
-unfoldable pub laterRows : Engine → Event → List ℕ → List ℕ → List ℕ → Judged Step
-laterRows e event journey book memory = do
-  powerRows (stateAt (e .control .state)) (kindOf event)
-  stateRow (stateAt (e .control .state)) (kindOf event)
-  f ← model.effect e journey book event
-  outputRow memory (stepBy e event f)
+abbrev pub answerTo : Judgement → Answer
+answerTo t = answerAs (t .verdict) t
 
--- ---- the call
+-- the driver skips, with that of a stop given or revoked
+abbrev pub skipsFor : List Bool → Found → Bool → List Bool
+skipsFor l (At k) on = set l k on
+skipsFor l Nothing on = l
+
+abbrev pub withoutJourney : Engine → Engine
+withoutJourney e =
+    record {
+      points = noRoute .points;
+      skips = noSkips;
+      segments = noRoute .segments;
+      load = e .load;
+      train = e .train;
+      progress = e .progress;
+      inputs = e .inputs;
+      control = e .control;
+    }
+
+abbrev pub withGroups : Engine → Judgement → Engine
+withGroups e t =
+    record {
+      points = e .points;
+      skips = e .skips;
+      segments = e .segments;
+      load = t .load;
+      train = t .train;
+      progress = t .progress;
+      inputs = t .inputs;
+      control = t .control;
+    }
 
 abbrev pub call : List ℕ → List ℕ → List ℕ → List ℕ → Call
 call event journey book memory = record { event = event; journey = journey; book = book; memory = memory }
 
-abbrev pub refusedStep : Engine → ℕ → Stepped
-refusedStep e n = record { engine = e; answer = Answer.Refused n }
-
-abbrev pub acceptedStep : Engine → ℕ → Stepped
-acceptedStep m n = record { engine = m; answer = Answer.Accepted (m .control .state) (m .control .request) n }
-
-abbrev pub engineStatus : Engine → ℕ → Status
-engineStatus e n = record { state = e .control .state; conditions = n; speed = e .train .position .speed }
-
-abbrev pub effectWrites : Effect → Bool → ℕ → Writes
-effectWrites f due n = record { received = f .received; changes = f .changes; due = due; conditions = n }
-
--- answer, engine and output memory are those of an outcome
-pub record Steps (o : Outcome) (r : Stepped) (memory : List ℕ) : Type 0 where
+-- answer, engine and output memory are those of an outcome of engine e; unless the journey was rewritten, its points and segments stay
+pub record Steps (e : Engine) (o : Outcome) (r : Stepped) (memory : List ℕ) : Type 0 where
   pub engine : r .engine ≡ o .engine
   pub answer : answerView (r .answer) ≡ o .answer
   pub output : memory ≡ o .memory
+  pub points : r .rewritten ≡ false → r .engine .points ≡ e .points
+  pub segments : r .rewritten ≡ false → r .engine .segments ≡ e .segments

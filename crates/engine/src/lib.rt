@@ -1,140 +1,184 @@
-// The event call: one event, with the profiles and the output memory that the host lends.
+// The event call: one event, with the profiles and the output memory that the host lends. It is read; power and state allow it; it looks up
+// the journey; it has its effect, which is judged; and what comes of it is stored and written. There is one engine variable and one way out,
+// and a load stands last: compiled, an event then copies the engine once, beside the arrays that it looks up.
 use call::Answer;
-use conditions::LookedUp;
-use effects::Effect;
+use conditions::RouteConditions;
 use engine_value::Engine;
+use engine_value::MAX_POINTS;
+use engine_value::MAX_SEGMENTS;
 use event::Event;
 use event::EventRead;
 use event_packets::Status;
-use event_packets::Writes;
+use judge::Judgement;
+use position::Found;
 use wire::Verdict;
 ghost use mathlib.Core.Path.{_≡_};
-ghost use Rattle.engine_value.specs.Engine.{routeIn, withControl};
-ghost use Rattle.position.specs.Standing.{standing};
-ghost use Rattle.conditions.specs.Conditions.{conditions};
-ghost use Rattle.states.specs.ControlGroup.{controlAfter};
-ghost use Rattle.call.specs.Call.{stepBy, outcomeOf, stepOf};
-ghost use Rattle.effects.specs.View.{lookedUpIn, acceptedView};
-ghost use Rattle.engine.specs.View.{outputRow, laterRows, call, refusedStep, acceptedStep, engineStatus, effectWrites, Steps};
+ghost use mathlib.Core.Bool.{false, true};
+ghost use Rattle.wire.specs.View.{verdictView};
+ghost use Rattle.event.specs.Kinds.{kindOf};
+ghost use Rattle.state_codes.specs.Codes.{stateAt};
+ghost use Rattle.state_codes.specs.Numbers.{stateRows};
+ghost use Rattle.position.specs.View.{IndexBelow};
+ghost use Rattle.look_up.specs.LookUp.{routeConditionsIn};
+ghost use Rattle.event_packets.specs.View.{statusView};
+ghost use Rattle.call.specs.Call.{statusIn, stepOf};
+ghost use Rattle.engine.specs.View.{isAccepted, answerTo, skipsFor, withoutJourney, withGroups, call, Steps};
 
-// What a call answers, and the engine that it leaves.
+// What a call answers, the engine that it leaves, and whether that has another journey's points and segments.
 pub struct Stepped {
     pub engine: Engine,
     pub answer: Answer,
+    pub rewritten: bool,
 }
 
-// The number only: the engine stays.
-fn refused(e: Engine, number: u8) -> Stepped
-    ensures { λ r. ⌜ r ≡ refusedStep e number ⌝ }
+fn is_accepted(t: Judgement) -> bool
+    ensures { λ r. ⌜ r ≡ isAccepted (t .verdict) ⌝ }
 {
-    Stepped {
-        engine: e,
-        answer: Answer::Refused(number),
+    let verdict = t.verdict;
+    if let Verdict::Accepted = verdict {
+        true
+    } else {
+        false
     }
 }
 
-// State, request and bytes written.
-fn accepted(m: Engine, bytes: usize) -> Stepped
-    ensures { λ r. ⌜ r ≡ acceptedStep m bytes ⌝ }
-{
-    Stepped {
-        engine: m,
-        answer: Answer::Accepted {
-            state: m.control.state,
-            request: m.control.request,
-            bytes: bytes,
-        },
-    }
-}
-
-// The rows of the states over the event's values.
-fn after_rows(m: Engine, v: Event, reached: bool, conditions: u16) -> Engine
-    ensures { λ r. ⌜ r ≡ withControl m (controlAfter (m .train) (m .control) v reached conditions) ⌝ }
-{
-    let mut after = m;
-    let c = states::control_after(m.train, m.control, v, reached, conditions);
-    after.control = c;
-    after
-}
-
-fn status(e: Engine, conditions: u16) -> Status
-    ensures { λ r. ⌜ r ≡ engineStatus e conditions ⌝ }
-{
-    Status {
-        state: e.control.state,
-        conditions: conditions,
-        speed: e.train.position.speed,
-    }
-}
-
-// What the packets are made of.
-fn writes_of(f: Effect, due: bool, conditions: u16) -> Writes
-    ensures { λ r. ⌜ r ≡ effectWrites f due conditions ⌝ }
-{
-    let received = f.received;
-    let changes = f.changes;
-    Writes {
-        received: received,
-        changes: changes,
-        due: due,
-        conditions: conditions,
-    }
-}
-
-// The nine conditions, from what they look up.
-fn conditions(e: Engine, looked: LookedUp) -> u16
-    requires { ⌜ looked ≡ lookedUpIn e ⌝ }
-    ensures { λ r. ⌜ r ≡ conditions (routeIn e) (e .train .reports) (e .train .position) (standing (e .progress)) ⌝ }
-{
-    conditions::word_of(e.load, e.train.reports, looked, e.progress)
-}
-
-// The rows of the states, then 16, then the packets. `looked` is what the conditions look up before the event.
-fn conclude(e: Engine, v: Event, looked: LookedUp, f: Effect, out: &mut [u8]) -> Stepped
-    requires { ⌜ (looked ≡ lookedUpIn e) × (f .after ≡ lookedUpIn (f .engine)) ⌝ }
-    ensures { λ r. ⌜ Steps (outcomeOf e (now (out .entry)) (outputRow (now (out .entry)) (stepBy e v (acceptedView f)))) r (now (out .exit)) ⌝ }
-{
-    let before = status(e, conditions(e, looked));
-    let word = conditions(f.engine, f.after);
-    let m = after_rows(f.engine, v, f.reached, word);
-    let after = status(m, word);
-    let due = event_packets::status_due(before, after);
-    let w = writes_of(f, due, word);
-    let size = event_packets::size(w);
-    if out.len() < size {
-        return refused(e, 16);
-    }
-    let r = accepted(m, size);
-    event_packets::write(m, w, out);
-    r
-}
-
-// An event that was read: power and state, its effect, then the rest.
-fn take(e: Engine, v: Event, journey: &[u8], book: &[u8], out: &mut [u8]) -> Stepped
-    ensures { λ r. ⌜ Steps (outcomeOf e (now (out .entry)) (laterRows e v (now (journey .entry)) (now (book .entry)) (now (out .entry)))) r (now (out .exit)) ⌝ }
+// The rows of power and state.
+fn rows_of(e: Engine, v: Event) -> Verdict
+    ensures { λ r. ⌜ verdictView r ≡ stateRows (stateAt (e .control .state)) (kindOf v) ⌝ }
 {
     let state = state_codes::state_at(e.control.state);
-    if let Verdict::Refused(n) = state_codes::state_rows(state, event::kind_of(v)) {
-        return refused(e, n);
+    state_codes::state_rows(state, event::kind_of(v))
+}
+
+// State, conditions and speed before the event.
+fn status_before(e: Engine, c: RouteConditions) -> Status
+    requires { ⌜ c ≡ routeConditionsIn e ⌝ }
+    ensures { λ r. ⌜ statusView r ≡ statusIn e ⌝ }
+{
+    let word = conditions::word_of(e.load, e.inputs.reports, c, e.progress);
+    judge::status(e.control, e.train, word)
+}
+
+// The driver skips, with that of the stop that was looked up given or revoked.
+fn skips_with(given: [bool; MAX_POINTS], at: Found, on: bool) -> [bool; MAX_POINTS]
+    requires { ⌜ IndexBelow 64 at ⌝ }
+    ensures { λ r. ⌜ r ≡ skipsFor given at on ⌝ }
+{
+    let mut skips = given;
+    if let Found::At(k) = at {
+        skips[k] = on;
     }
-    // conditions::looked_up, written out: a call of it would copy the engine once more
-    let s = position::segment_named(e);
-    let profiles = conditions::profiles_there(e, e.progress);
-    let looked = conditions::look_up(s, e.train.position, profiles);
-    let f = effects::effect_of(e, v, journey, book, looked);
-    let verdict = f.verdict;
+    skips
+}
+
+// No journey.
+fn without_journey(e: Engine) -> Engine
+    ensures { λ r. ⌜ r ≡ withoutJourney e ⌝ }
+{
+    let mut m = e;
+    m.points = [engine_value::blank_point(); MAX_POINTS];
+    m.segments = [engine_value::blank_segment(); MAX_SEGMENTS];
+    m.skips = [false; MAX_POINTS];
+    m
+}
+
+// The groups as they were judged.
+fn with_groups(e: Engine, t: Judgement) -> Engine
+    ensures { λ r. ⌜ r ≡ withGroups e t ⌝ }
+{
+    let load = t.load;
+    let train = t.train;
+    let progress = t.progress;
+    let inputs = t.inputs;
+    let control = t.control;
+    let mut m = e;
+    m.load = load;
+    m.train = train;
+    m.progress = progress;
+    m.inputs = inputs;
+    m.control = control;
+    m
+}
+
+// State, request and bytes written, or the number alone.
+fn answer_of(t: Judgement) -> Answer
+    ensures { λ r. ⌜ r ≡ answerTo t ⌝ }
+{
+    let verdict = t.verdict;
     if let Verdict::Refused(n) = verdict {
-        return refused(e, n);
+        return Answer::Refused(n);
     }
-    conclude(e, v, looked, f, out)
+    Answer::Accepted {
+        state: t.control.state,
+        request: t.control.request,
+        bytes: t.size,
+    }
 }
 
 // One event. A refusal changes neither engine nor memory.
 pub fn step(e: Engine, event: &[u8], journey: &[u8], book: &[u8], out: &mut [u8]) -> Stepped
-    ensures { λ r. ⌜ Steps (stepOf e (call (now (event .entry)) (now (journey .entry)) (now (book .entry)) (now (out .entry)))) r (now (out .exit)) ⌝ }
+    ensures { λ r. ⌜ Steps e (stepOf e (call (now (event .entry)) (now (journey .entry)) (now (book .entry)) (now (out .entry)))) r (now (out .exit)) ⌝ }
 {
-    match event::read_event(event) {
-        EventRead::Event(v) => take(e, v, journey, book, out),
-        EventRead::Refused(n) => refused(e, n),
+    let mut m = e;
+    let mut rewritten = false;
+    let mut answer = Answer::Refused(1);
+    let read = event::read_event(event);
+    if let EventRead::Refused(n) = read {
+        answer = Answer::Refused(n);
+    } else if let EventRead::Event(v) = read {
+        let rows = rows_of(m, v);
+        if let Verdict::Refused(n) = rows {
+            answer = Answer::Refused(n);
+        } else {
+            let looked = look_up::look_up(m, v);
+            let before = status_before(m, looked.before);
+            let room = out.len();
+            let t = if event::is_report(v) {
+                judge::judge(before, v, effects::report(m, v, looked), room)
+            } else if event::is_skip(v) {
+                let t = judge::judge(before, v, effects::skip(m, v, looked), room);
+                if is_accepted(t) {
+                    let stop = looked.stop;
+                    let at = stop.at;
+                    let given = m.skips;
+                    let skips = skips_with(given, at, event::gives_skip(v));
+                    m.skips = skips;
+                }
+                t
+            } else if event::is_power_off(v) {
+                let t = judge::judge(before, v, effects::power_off(), room);
+                if is_accepted(t) {
+                    m = without_journey(m);
+                    rewritten = true;
+                }
+                t
+            } else if event::is_load(v) {
+                let l = effects::load(effects::kept_of(m), journey, book);
+                let f = l.effect;
+                let t = judge::judge(before, v, f, room);
+                if is_accepted(t) {
+                    let points = l.points;
+                    let segments = l.segments;
+                    m.points = points;
+                    m.segments = segments;
+                    m.skips = [false; MAX_POINTS];
+                    rewritten = true;
+                }
+                t
+            } else {
+                judge::judge(before, v, effects::values(m, v, looked), room)
+            };
+            if is_accepted(t) {
+                m = with_groups(m, t);
+                let w = t.writes;
+                event_packets::write(m, w, out);
+            }
+            answer = answer_of(t);
+        }
+    }
+    Stepped {
+        engine: m,
+        answer: answer,
+        rewritten: rewritten,
     }
 }

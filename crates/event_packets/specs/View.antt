@@ -1,12 +1,11 @@
 -- The packets that the code's `Writes` stands for, with the values of the engine after the event.
 use Prim.Native.Nat.{ℕ, _+_, _-_, _*_, _≤_}
 use mathlib.Core.Path.{_≡_}
-use mathlib.Core.List.{List, [], _++_, map}
+use mathlib.Core.List.{List, [], _∷_, _++_, map}
 use mathlib.Core.Option.{Option, none, some}
 use lib.ListN.{length}
-use lib.Dec.{eqb}
 use lib.Seq.{sets}
-use Rattle.wire.specs.Numbers.{flag, if_then_else_}
+use Rattle.wire.specs.Numbers.{flag}
 use Rattle.engine_value.specs.Engine.{routeIn}
 use Rattle.engine_value.specs.declared.Load.{Load}
 use Rattle.engine_value.specs.declared.Point.{Point}
@@ -16,12 +15,10 @@ use Rattle.journey.specs.declared.Head.{Head}
 use Rattle.packets.specs.Layouts.{kindSize, kind62, kind65, kind68}
 use Rattle.packets.specs.Packets.{joined}
 use Rattle.packets.specs.declared.Header.{Header}
-use Rattle.packets.specs.declared.TimingPoint.{TimingPoint}
 use Rattle.packets.specs.declared.Packet.{Packet}
-use Rattle.position.specs.Standing.{standing}
-use Rattle.conditions.specs.Conditions.{endAhead}
+use Rattle.position.specs.Position.{point}
 use Rattle.timing.specs.Changes.{Change, change, passings, when, statusStopped}
-use Rattle.call.specs.Packets.{Status, received, timingPoint, atoStatus, inOrder}
+use Rattle.call.specs.Packets.{Status, headerOf, inOrder, timingPointOf, jpReceivedOf, atoStatusOf}
 use Rattle.event_packets.specs.declared.Changes.{Changes}
 use Rattle.event_packets.specs.declared.Received.{Received}
 use Rattle.event_packets.specs.declared.Status as code
@@ -47,34 +44,38 @@ abbrev pub receivedView : Received → Option Head
 receivedView Received.Nothing = none
 receivedView (Received.Journey h) = some h
 
--- packet 62 for a change of a point, by the load's group
-abbrev pub timingPointView : Header → Load → Point → ℕ → Progress → Packet
-timingPointView h l p status after =
-    Packet.TimingPoint (record {
-      header = h;
-      nidc = p .nidc;
-      nidtp = p .nidtp;
-      «q_eoj_reached» = flag (endAhead l (standing after));
-      alignment = p .alignment;
-      status = status;
-      stopping = if eqb status statusStopped then p .stopping else 0;
-    })
+-- the header of an engine's packets
+abbrev pub headerIn : Engine → Header
+headerIn e = headerOf (e .load) (e .train .position)
 
-abbrev pub packets62 : Engine → List Change → List Packet
-packets62 e l = map (timingPoint (routeIn e) (e .train .position)) l
+-- ---- the packets, by their header
 
-abbrev pub packets65 : Engine → Writes → List Packet
-packets65 e w = received (routeIn e) (e .train .position) (receivedView (w .received))
+-- packet 62 for a change of a point; computed only where a proof asks
+unfoldable pub timingPointView : Header → Load → Point → ℕ → Progress → Packet
+timingPointView h l p status after = timingPointOf h l p status after
 
-abbrev pub packets68 : Engine → Writes → List Packet
-packets68 e w = when (w .due) (atoStatus (routeIn e) (e .train .position) (e .control .state) (w .conditions))
+-- for a change of one of the engine's points
+abbrev pub timingPointIn : Header → Engine → Change → Packet
+timingPointIn h e c = timingPointView h (e .load) (point (routeIn e) (c .index)) (c .status) (c .after)
+
+abbrev pub packets62 : Header → Engine → List Change → List Packet
+packets62 h e l = map (timingPointIn h e) l
+
+abbrev pub packets65 : Header → ℕ → Received → List Packet
+packets65 h nidc Received.Nothing = []
+packets65 h nidc (Received.Journey head) = jpReceivedOf h nidc head ∷ []
+
+abbrev pub packets68 : Header → ℕ → Writes → List Packet
+packets68 h state w = when (w .due) (atoStatusOf h state (w .conditions))
 
 -- the packets that one kind of event alone writes; the kinds of document 01 have none
 abbrev pub ownView : Engine → Writes → List Packet
 ownView e w = []
 
 abbrev pub packetsView : Engine → Writes → List Packet
-packetsView e w = inOrder (packets65 e w) (packets62 e (changesView (w .changes) (e .progress))) (ownView e w) (packets68 e w)
+packetsView e w =
+    let h = headerIn e in
+    inOrder (packets65 h (w .nidc) (w .received)) (packets62 h e (changesView (w .changes) (e .progress))) (ownView e w) (packets68 h (e .control .state) w)
 
 -- the bytes of a packet 65, where there is one
 abbrev pub receivedSize : Received → ℕ

@@ -3,6 +3,7 @@ use engine_value::Engine;
 use engine_value::Load;
 use engine_value::MAX_POINTS;
 use engine_value::Point;
+use engine_value::Position;
 use engine_value::Progress;
 use journey::Head;
 use packets::AtoStatus;
@@ -11,18 +12,18 @@ use packets::JpReceived;
 use packets::Packet;
 use packets::TimingPoint;
 use position::Front;
+use position::Named;
 ghost use mathlib.Core.Path.{_≡_};
 ghost use Prim.Native.Nat.{_-_, _≤_};
 ghost use lib.Dec.{eqb};
 ghost use lib.Seq.{sets};
 ghost use Rattle.wire.specs.Numbers.{flag, if_then_else_};
-ghost use Rattle.engine_value.specs.Engine.{routeIn};
-ghost use Rattle.packets.specs.Layouts.{unknownNidc};
+ghost use Rattle.engine_value.specs.Engine.{Route, routeIn};
 ghost use Rattle.packets.specs.Packets.{joined};
-ghost use Rattle.position.specs.Position.{point, known};
+ghost use Rattle.position.specs.Position.{point, segmentNamed};
 ghost use Rattle.timing.specs.Changes.{change, passings, statusStopped};
-ghost use Rattle.call.specs.Packets.{header, timingPoint, jpReceived, atoStatus, statusDue};
-ghost use Rattle.event_packets.specs.View.{statusView, firstView, stoppedView, timingPointView, packets62, packets65, packets68, packetsView, receivedSize, sizeView, Put};
+ghost use Rattle.call.specs.Packets.{headerOf, country, statusDue, jpReceivedOf, atoStatusOf};
+ghost use Rattle.event_packets.specs.View.{statusView, firstView, stoppedView, timingPointView, timingPointIn, packets62, packets65, packets68, packetsView, receivedSize, sizeView, Put};
 
 // What an event changes of the points: first, perhaps, a departure, a skip or its revocation; then the points from `from` to `to`, without that one,
 // pass; last, perhaps, the first point not passed becomes reached.
@@ -66,9 +67,10 @@ pub struct Status {
     pub speed: u16,
 }
 
-// What an event writes, beside the values of the engine after it.
+// What an event writes, beside the values of the engine after it; `nidc` is that of a packet 65.
 pub struct Writes {
     pub received: Received,
+    pub nidc: u16,
     pub changes: Changes,
     pub due: bool,
     pub conditions: u16,
@@ -76,16 +78,15 @@ pub struct Writes {
 
 // ---- the packets
 
-fn header_of(e: Engine) -> Header
-    ensures { λ r. ⌜ r ≡ header (routeIn e) (e .train .position) ⌝ }
+fn header_of(x: Position, l: Load) -> Header
+    ensures { λ r. ⌜ r ≡ headerOf l x ⌝ }
 {
-    let x = e.train.position;
     Header {
         nidc: x.nidc,
         nidsp: x.nidsp,
         offset: x.offset,
         speed: x.speed,
-        operational: e.load.operational,
+        operational: l.operational,
     }
 }
 
@@ -132,40 +133,27 @@ fn timing_point_of(header: Header, l: Load, p: Point, status: u8, after: Progres
 }
 
 // Packet 62 for a change of the point of an index.
-pub fn timing_point(e: Engine, index: u8, status: u8, after: Progress) -> Packet
-    ensures { λ r. ⌜ r ≡ timingPoint (routeIn e) (e .train .position) (change index status after) ⌝ }
+fn timing_point(e: Engine, header: Header, index: u8, status: u8, after: Progress) -> Packet
+    ensures { λ r. ⌜ r ≡ timingPointIn header e (change index status after) ⌝ }
 {
-    let header = header_of(e);
     let p = point_at(e, index);
     timing_point_of(header, e.load, p, status, after)
 }
 
-fn is_known(e: Engine) -> bool
-    ensures { λ r. ⌜ r ≡ known (routeIn e) (e .train .position) ⌝ }
+// NID_C of the position, 1,024 unless it is known: by the segment that it names.
+pub fn country(s: Named, x: Position) -> u16
+    ensures { λ r. ⌜ ((j : Route) → s ≡ segmentNamed j x → r ≡ country j x) ⌝ }
 {
-    match position::front_position(e) {
-        Front::Known(_) => true,
-        Front::Unknown => false,
-    }
-}
-
-// NID_C of the position, 1,024 unless it is known.
-fn country(e: Engine) -> u16
-    ensures { λ r. ⌜ r ≡ (if known (routeIn e) (e .train .position) then e .train .position .nidc else unknownNidc) ⌝ }
-{
-    if is_known(e) {
-        e.train.position.nidc
-    } else {
-        packets::UNKNOWN_NIDC
+    match position::front_in(s, x) {
+        Front::Known(_) => x.nidc,
+        Front::Unknown => packets::UNKNOWN_NIDC,
     }
 }
 
 // Packet 65 for an accepted load.
-pub fn jp_received(e: Engine, head: Head) -> Packet
-    ensures { λ r. ⌜ r ≡ jpReceived (routeIn e) (e .train .position) head ⌝ }
+fn jp_received(header: Header, nidc: u16, head: Head) -> Packet
+    ensures { λ r. ⌜ r ≡ jpReceivedOf header nidc head ⌝ }
 {
-    let header = header_of(e);
-    let nidc = country(e);
     Packet::JpReceived(JpReceived {
         header: header,
         nidc: nidc,
@@ -178,13 +166,12 @@ pub fn jp_received(e: Engine, head: Head) -> Packet
 }
 
 // Packet 68 with the engine's state.
-pub fn ato_status(e: Engine, conditions: u16) -> Packet
-    ensures { λ r. ⌜ r ≡ atoStatus (routeIn e) (e .train .position) (e .control .state) conditions ⌝ }
+fn ato_status(header: Header, state: u8, conditions: u16) -> Packet
+    ensures { λ r. ⌜ r ≡ atoStatusOf header state conditions ⌝ }
 {
-    let header = header_of(e);
     Packet::AtoStatus(AtoStatus {
         header: header,
-        state: e.control.state,
+        state: state,
         conditions: conditions,
     })
 }
@@ -238,38 +225,37 @@ pub fn size(w: Writes) -> usize
 
 // ---- writing: each of these puts its packets from a position on, and tells the position behind them
 
-fn put_received(e: Engine, w: Writes, out: &mut [u8]) -> usize
-    ensures { λ r. ⌜ Put 0 (packets65 e w) (now (out .entry)) (now (out .exit)) r ⌝ }
+fn put_received(header: Header, w: Writes, out: &mut [u8]) -> usize
+    ensures { λ r. ⌜ Put 0 (packets65 header (w .nidc) (w .received)) (now (out .entry)) (now (out .exit)) r ⌝ }
 {
     let received = w.received;
     let Received::Journey(head) = received else {
         return 0;
     };
-    let p = jp_received(e, head);
+    let p = jp_received(header, w.nidc, head);
     packet_writer::put_packet(p, out, 0);
     packets::JP_RECEIVED_SIZE
 }
 
-fn put_first(e: Engine, c: Changes, out: &mut [u8], at: usize) -> usize
+fn put_first(e: Engine, header: Header, c: Changes, out: &mut [u8], at: usize) -> usize
     requires { ⌜ at ≤ 100000 ⌝ }
-    ensures { λ r. ⌜ Put at (packets62 e (firstView c)) (now (out .entry)) (now (out .exit)) r ⌝ }
+    ensures { λ r. ⌜ Put at (packets62 header e (firstView c)) (now (out .entry)) (now (out .exit)) r ⌝ }
 {
     if !c.first {
         return at;
     }
-    let p = timing_point(e, c.index, c.status, c.after);
+    let p = timing_point(e, header, c.index, c.status, c.after);
     packet_writer::put_packet(p, out, at);
     at + packets::TIMING_POINT_SIZE
 }
 
-fn put_passings(e: Engine, from: u8, to: u8, out: &mut [u8], at: usize) -> usize
+fn put_passings(e: Engine, header: Header, from: u8, to: u8, out: &mut [u8], at: usize) -> usize
     requires { ⌜ at ≤ 100000 ⌝ }
-    ensures { λ r. ⌜ Put at (packets62 e (passings (to - from) from)) (now (out .entry)) (now (out .exit)) r ⌝ }
+    ensures { λ r. ⌜ Put at (packets62 header e (passings (to - from) from)) (now (out .entry)) (now (out .exit)) r ⌝ }
 {
     if to <= from {
         return at;
     }
-    let header = header_of(e);
     let points = e.points;
     let blank = engine_value::blank_point();
     let mut k = from;
@@ -289,25 +275,25 @@ fn put_passings(e: Engine, from: u8, to: u8, out: &mut [u8], at: usize) -> usize
     p
 }
 
-fn put_stopped(e: Engine, c: Changes, out: &mut [u8], at: usize) -> usize
+fn put_stopped(e: Engine, header: Header, c: Changes, out: &mut [u8], at: usize) -> usize
     requires { ⌜ at ≤ 100000 ⌝ }
-    ensures { λ r. ⌜ Put at (packets62 e (stoppedView c (e .progress))) (now (out .entry)) (now (out .exit)) r ⌝ }
+    ensures { λ r. ⌜ Put at (packets62 header e (stoppedView c (e .progress))) (now (out .entry)) (now (out .exit)) r ⌝ }
 {
     if !c.stopped {
         return at;
     }
-    let p = timing_point(e, e.progress.next, STOPPED, e.progress);
+    let p = timing_point(e, header, e.progress.next, STOPPED, e.progress);
     packet_writer::put_packet(p, out, at);
     at + packets::TIMING_POINT_SIZE
 }
 
-fn put_status(e: Engine, w: Writes, out: &mut [u8], at: usize)
-    ensures { λ _. ⌜ now (out .exit) ≡ sets (now (out .entry)) at (joined (packets68 e w)) ⌝ }
+fn put_status(header: Header, state: u8, w: Writes, out: &mut [u8], at: usize)
+    ensures { λ _. ⌜ now (out .exit) ≡ sets (now (out .entry)) at (joined (packets68 header state w)) ⌝ }
 {
     if !w.due {
         return;
     }
-    let p = ato_status(e, w.conditions);
+    let p = ato_status(header, state, w.conditions);
     packet_writer::put_packet(p, out, at);
 }
 
@@ -316,9 +302,10 @@ pub fn write(e: Engine, w: Writes, out: &mut [u8])
     ensures { λ _. ⌜ now (out .exit) ≡ sets (now (out .entry)) 0 (joined (packetsView e w)) ⌝ }
 {
     let c = w.changes;
-    let first = put_received(e, w, out);
-    let passings = put_first(e, c, out, first);
-    let stopped = put_passings(e, c.from, c.to, out, passings);
-    let status = put_stopped(e, c, out, stopped);
-    put_status(e, w, out, status);
+    let header = header_of(e.train.position, e.load);
+    let first = put_received(header, w, out);
+    let passings = put_first(e, header, c, out, first);
+    let stopped = put_passings(e, header, c.from, c.to, out, passings);
+    let status = put_stopped(e, header, c, out, stopped);
+    put_status(header, e.control.state, w, out, status);
 }

@@ -10,7 +10,7 @@ ghost use Rattle.call.specs.View.{shownView, answerView as call·answerView};
 ghost use Rattle.engine.specs.View.{call};
 ghost use Rattle.packets.specs.Packets.{packetOf};
 ghost use Rattle.packet_fields.specs.View.{fieldsView};
-ghost use Rattle.host.specs.View.{answerView, stepView, memoryAfter};
+ghost use Rattle.host.specs.View.{answerView};
 
 // State, request and bytes written, where accepted; else the number of the row that refuses. The fields of the other case are 0.
 #[repr(C)]
@@ -20,11 +20,6 @@ pub struct Answer {
     pub state: u8,
     pub request: bool,
     pub bytes: usize,
-}
-
-pub struct Stepped {
-    pub engine: Engine,
-    pub answer: Answer,
 }
 
 fn plain(a: call::Answer) -> Answer
@@ -52,22 +47,7 @@ fn plain(a: call::Answer) -> Answer
     }
 }
 
-// One event, by value.
-pub fn step_plain(e: Engine, event: &[u8], journey: &[u8], book: &[u8], out: &mut [u8]) -> Stepped
-    ensures { λ r. ⌜ (r ≡ stepView e (now (event .entry)) (now (journey .entry)) (now (book .entry)) (now (out .entry)))
-        × (now (out .exit) ≡ memoryAfter e (now (event .entry)) (now (journey .entry)) (now (book .entry)) (now (out .entry))) ⌝ }
-{
-    let s = engine::step(e, event, journey, book, out);
-    let a = s.answer;
-    let after = s.engine;
-    let answer = plain(a);
-    Stepped {
-        engine: after,
-        answer: answer,
-    }
-}
-
-// One event, on the engine where it is kept.
+// One event, on the engine where it is kept. Points and segments are stored only where the journey was rewritten: they are most of the engine.
 #[no_mangle]
 pub extern "C" fn hollwern_step(
     e: &mut Engine,
@@ -80,9 +60,18 @@ pub extern "C" fn hollwern_step(
         × (now (e .exit) ≡ stepOf (now (e .entry)) (call (now (event .entry)) (now (journey .entry)) (now (book .entry)) (now (out .entry))) .engine)
         × (now (out .exit) ≡ stepOf (now (e .entry)) (call (now (event .entry)) (now (journey .entry)) (now (book .entry)) (now (out .entry))) .memory) ⌝ }
 {
-    let r = step_plain(*e, event, journey, book, out);
-    *e = r.engine;
-    r.answer
+    let s = engine::step(*e, event, journey, book, out);
+    if s.rewritten {
+        (*e).points = s.engine.points;
+        (*e).segments = s.engine.segments;
+    }
+    (*e).skips = s.engine.skips;
+    (*e).load = s.engine.load;
+    (*e).train = s.engine.train;
+    (*e).progress = s.engine.progress;
+    (*e).inputs = s.engine.inputs;
+    (*e).control = s.engine.control;
+    plain(s.answer)
 }
 
 // The fresh engine, made where it is kept.

@@ -16,12 +16,12 @@ use Rattle.event.proofs.Accepted.{PositionFits, Fits, position-fits, event-fits
 use Rattle.event.specs.declared.Event.{Event}
 use Rattle.event.specs.declared.Event.the-variants.{PowerOn}
 use Rattle.event.proofs.Known.{OfPosition, position-of}
-use Rattle.event.specs.Kinds.{carried, Role, off, load, report, other, skip, newer}
+use Rattle.event.specs.Kinds.{carried, Role, off, load, report, other, skip, newer, isOff}
 use Rattle.route.specs.Route.{LoadValue, loadOf}
 use Rattle.route.proofs.Ranges.{PointFits, LoadFits, load-fits}
 use Rattle.position.specs.Position.{point, pointCount}
 use Rattle.call.specs.Call.{Call}
-use Rattle.whole_list.specs.Values.{History, eventOfCall, loadOfCall, roleOfCall, isOff, latest, positionBy, routeLoaded, routeBy}
+use Rattle.whole_list.specs.Values.{History, eventOfCall, loadOfCall, roleOfCall, latest, positionBy, routeLoaded, routeBy}
 use Rattle.whole_list.proofs.Recorded.{Ranged}
 
 -- ---- the position

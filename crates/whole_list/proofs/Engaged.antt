@@ -13,7 +13,7 @@ use Rattle.wire.specs.Judged.{Judged, thenJudge}
 use Rattle.wire.specs.Judged.Judged.{refuse, accept}
 use Rattle.engine_value.specs.Engine.{mode}
 use Rattle.event.specs.Events.{eventOf}
-use Rattle.event.specs.Kinds.{kindOf, carried, Role, off, load, report, other, skip, roleOf, newer}
+use Rattle.event.specs.Kinds.{kindOf, carried, Role, off, load, report, other, skip, roleOf, newer, isOff}
 use Rattle.event.specs.declared.Event.{Event}
 use Rattle.event.specs.declared.Event.the-variants.{PowerOff, Mode, PositionReport}
 use Rattle.event.proofs.Known.{OfRole, OfMode, known, mode-of}
@@ -23,7 +23,7 @@ use Rattle.position.specs.declared.Standing.{Standing}
 use Rattle.position.specs.declared.Standing.the-variants.{Reached}
 use Rattle.timing.proofs.Moments.{as-function}
 use Rattle.state_codes.specs.Codes.{modeAt}
-use Rattle.conditions.specs.Conditions.{lookedUp, nine, allOf, O}
+use Rattle.conditions.specs.Conditions.{routeConditions, nine, allOf, O}
 use Rattle.state_codes.proofs.CodeLaws.{mode-AD}
 use Rattle.state_codes.specs.Numbers.{powerRows, stateRow}
 use Rattle.states.specs.States.{machineAfter, given}
@@ -34,7 +34,7 @@ use Rattle.state_codes.specs.declared.State.the-variants.{EG}
 use Rattle.state_codes.specs.declared.EtcsMode.the-variants.{Other, AD}
 use Rattle.engagement.proofs.Requests.{run-holds}
 use Rattle.call.specs.Call.{Call}
-use Rattle.whole_list.specs.Values.{History, eventOfCall, isOff, latest, modeBy, reportsBy, positionBy, routeBy}
+use Rattle.whole_list.specs.Values.{History, eventOfCall, latest, modeBy, reportsBy, positionBy, routeBy}
 use Rattle.whole_list.specs.Rules.{StandsBy, standingBy, valuesBy, BecameReached, JustReached, newlyReached, becameReachedBy, machineBy, stateBy, requestBy, noCall, callAt, upto, Engaged}
 use Rattle.whole_list.specs.Table.{tableBy}
 use Rattle.whole_list.specs.WholeList.{Requested}
@@ -113,7 +113,7 @@ off-reports c h e = rw (e, latest)
 
 off-unfit : (c : Call) (h : History) → eventOfCall c ≡ PowerOff → valuesBy (c ∷ h) .O ≡ false
 unfolding valuesBy O
-off-unfit c h e = ap (λ n. allOf (nine (routeBy (c ∷ h) .load) n (lookedUp (routeBy (c ∷ h)) (positionBy (c ∷ h)) (standingBy (c ∷ h))) (standingBy (c ∷ h)))) (off-reports c h e)
+off-unfit c h e = ap (λ n. allOf (nine (routeBy (c ∷ h) .load) n (routeConditions (routeBy (c ∷ h)) (positionBy (c ∷ h)) (standingBy (c ∷ h))) (standingBy (c ∷ h)))) (off-reports c h e)
 
 abbrev newMode : Event → ℕ → ℕ
 newMode e n = if isOff (roleOf e) then 0 else newer (carried e .number mode) n

@@ -9,11 +9,12 @@ use lib.ListN.{length, getD, set, replicate, length-set}
 use lib.Seq.{getD-set-same, getD-set-other}
 use borrow.Author.Tests.{eqb-true, eqb-false}
 use Rattle.wire.specs.Numbers.{if_then_else_}
-use Rattle.engine_value.specs.Engine.{trainOf, Route, noSkips, progress, blankPoint}
+use Rattle.engine_value.specs.Engine.{trainOf, inputsOf, Route, noSkips, progress, blankPoint}
 use Rattle.engine_value.specs.declared.Point.{Point}
 use Rattle.engine_value.specs.declared.Position.{Position}
 use Rattle.engine_value.specs.declared.Progress.{Progress}
 use Rattle.engine_value.specs.declared.Train.{Train}
+use Rattle.engine_value.specs.declared.Inputs.{Inputs}
 use Rattle.engine_value.specs.declared.Control.{Control}
 use Rattle.engine_value.specs.declared.Engine.{Engine}
 use Rattle.event.specs.Kinds.{Role, off, load, report, other, skip}
@@ -27,7 +28,7 @@ use Rattle.position.specs.declared.Standing.{Standing}
 use Rattle.timing.proofs.Steps.{InRange, started, run-range, target-most}
 use Rattle.timing.proofs.Rule.{as-rule}
 use Rattle.state_codes.specs.Codes.{code}
-use Rattle.conditions.specs.Conditions.{endAhead, lastAhead, firstAhead, profilesThere, lookedUp, nine, conditions, wordOf}
+use Rattle.conditions.specs.Conditions.{endAhead, lastAhead, firstAhead, profilesThere, routeConditions, nine, conditions, wordOf}
 use Rattle.whole_list.specs.Values.{History, roleOfCall, numberBy, reportsBy, positionBy, lengthBy, routeBy, isPoint, skippedBy, reportsSince, behindAtLoad}
 use Rattle.whole_list.specs.Rules.{standingBy, conditionsBy, machineBy, stateBy, requestBy}
 use Rattle.whole_list.proofs.Decoded.{RouteIn, route-in}
@@ -55,6 +56,9 @@ progressRun h = run (routeBy h) (progress (behindAtLoad h) false) (reportsSince 
 abbrev pub trainBy : History → Train
 trainBy h = trainOf (positionBy h) (λ v. numberBy v h)
 
+abbrev pub inputsBy : History → Inputs
+inputsBy h = inputsOf (λ v. numberBy v h)
+
 abbrev pub controlBy : History → Control
 controlBy h = record { state = code (stateBy h); press = machineBy h .press; request = requestBy h }
 
@@ -64,8 +68,9 @@ engineOf h = record {
   skips = skipsOf h;
   segments = routeBy h .segments;
   load = routeBy h .load;
-  progress = progressRun h;
   train = trainBy h;
+  progress = progressRun h;
+  inputs = inputsBy h;
   control = controlBy h;
 }
 
@@ -184,7 +189,7 @@ module _ (j : Route) (s t : ℕ → Standing) (ends : RouteIn j) (same : (k : �
   profiles-ext : profilesThere j s ≡ profilesThere j t
   profiles-ext = ap (λ k. j .load .valid && (leb (pointCount j) k || placed j k)) (first-ext s t (pointCount j) 0 (λ i l m. same i (omega arith)))
 
-  nine-ext : (reports : ℕ) (x : Position) → nine (j .load) reports (lookedUp j x s) s ≡ nine (j .load) reports (lookedUp j x t) t
+  nine-ext : (reports : ℕ) (x : Position) → nine (j .load) reports (routeConditions j x s) s ≡ nine (j .load) reports (routeConditions j x t) t
   nine-ext reports x = cc (end-ext, last-ext, profiles-ext)
 
 pub conditions-is : (h : History) → conditions (routeBy h) (reportsBy h) (positionBy h) (standing (progressRun h)) ≡ conditionsBy h

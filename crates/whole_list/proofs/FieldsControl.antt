@@ -15,21 +15,22 @@ use Rattle.states.specs.States.{machine, T, byRow, machineAfter, given}
 use Rattle.states.specs.declared.Values.{Values}
 use Rattle.states.specs.declared.Machine.{Machine}
 use Rattle.states.specs.ControlGroup.{valuesIn, machineIn, controlOf, controlAfter}
+use Rattle.call.specs.Effect.{stored}
 use Rattle.call.specs.Call.{Call, conditionsIn, stepBy}
 use Rattle.whole_list.specs.Values.{History, eventOfCall, modeBy, leverBy, reportsBy, positionBy, routeBy}
 use Rattle.whole_list.specs.Rules.{standingBy, conditionsBy, valuesBy, becameReachedBy, machineBy, stateBy, requestBy}
-use Rattle.whole_list.proofs.Fields.{trainBy, controlBy, engineOf, conditions-is}
-use Rattle.whole_list.proofs.FieldsEffect.{kept, effectOf}
+use Rattle.whole_list.proofs.Fields.{inputsBy, controlBy, engineOf, conditions-is}
+use Rattle.whole_list.proofs.FieldsEffect.{untilOff, effectOf, stored-is}
 
-word-is : (h : History) (c : Call) → conditionsIn (effectOf h c .engine) ≡ conditionsBy (c ∷ h)
+word-is : (h : History) (c : Call) → conditionsIn (stored (engineOf h) (effectOf h c)) ≡ conditionsBy (c ∷ h)
 unfolding conditionsIn
-word-is h c = conditions-is (c ∷ h)
+word-is h c = ap conditionsIn (stored-is h c) ∙ conditions-is (c ∷ h)
 
 pub conditions-in : (h : History) → conditionsIn (engineOf h) ≡ conditionsBy h
 unfolding conditionsIn
 conditions-in h = conditions-is h
 
-values-is : (h : History) → valuesIn (trainBy h) (conditionsBy h) ≡ valuesBy h
+values-is : (h : History) → valuesIn (inputsBy h) (conditionsBy h) ≡ valuesBy h
 unfolding valuesBy conditionsBy
 values-is h = λ i. record {
   O = sym (O-word (routeBy h) (reportsBy h) (positionBy h) (standingBy h)) i;
@@ -40,42 +41,42 @@ values-is h = λ i. record {
 
 -- power off does not look at the state before
 module _ (m : Machine) (r : Bool) (v : Values) where
-  machine-kept : (e : Event) → machineAfter (machine (stateAt (kept (roleOf e) 0 (code (m .state)))) (kept (roleOf e) false (m .press))) e r v ≡ machineAfter m e r v
+  machine-kept : (e : Event) → machineAfter (machine (stateAt (untilOff (roleOf e) 0 (code (m .state)))) (untilOff (roleOf e) false (m .press))) e r v ≡ machineAfter m e r v
   unfolding machineAfter
   machine-kept e = go (roleOf e) (known e .role)
     where
       same : byRow (machine (stateAt (code (m .state))) (m .press)) (rowOf e) r v ≡ byRow m (rowOf e) r v
       same = ap (λ s. byRow (machine s (m .press)) (rowOf e) r v) (state-code (m .state))
 
-      go : (x : Role) → OfRole x e → byRow (machine (stateAt (kept x 0 (code (m .state)))) (kept x false (m .press))) (rowOf e) r v ≡ byRow m (rowOf e) r v
+      go : (x : Role) → OfRole x e → byRow (machine (stateAt (untilOff x 0 (code (m .state)))) (untilOff x false (m .press))) (rowOf e) r v ≡ byRow m (rowOf e) r v
       go off k = rw k refl
       go load k = same
       go report k = same
       go other k = same
       go (skip t on) k = same
 
-  given-kept : (e : Event) (before : Bool) → given (machineAfter m e r v .state) v (kept (roleOf e) false before) ≡ given (machineAfter m e r v .state) v before
+  given-kept : (e : Event) (before : Bool) → given (machineAfter m e r v .state) v (untilOff (roleOf e) false before) ≡ given (machineAfter m e r v .state) v before
   unfolding machineAfter
   given-kept e b = go (roleOf e) (known e .role)
     where
-      go : (x : Role) → OfRole x e → given (byRow m (rowOf e) r v .state) v (kept x false b) ≡ given (byRow m (rowOf e) r v .state) v b
+      go : (x : Role) → OfRole x e → given (byRow m (rowOf e) r v .state) v (untilOff x false b) ≡ given (byRow m (rowOf e) r v .state) v b
       go off k = rw k refl
       go load k = refl
       go report k = refl
       go other k = refl
       go (skip t on) k = refl
 
-pub control-is : (h : History) (c : Call) → controlAfter (effectOf h c .engine .train) (effectOf h c .engine .control) (eventOfCall c) (becameReachedBy (c ∷ h)) (conditionsIn (effectOf h c .engine)) ≡ controlBy (c ∷ h)
+pub control-is : (h : History) (c : Call) → controlAfter (effectOf h c .inputs) (effectOf h c .control) (eventOfCall c) (becameReachedBy (c ∷ h)) (conditionsIn (stored (engineOf h) (effectOf h c))) ≡ controlBy (c ∷ h)
 unfolding controlAfter machineBy requestBy
 control-is h c =
-    let taken : Control = effectOf h c .engine .control in
+    let before : Control = effectOf h c .control in
     let e = eventOfCall c in
     let r = becameReachedBy (c ∷ h) in
     let v : Values = valuesBy (c ∷ h) in
-    let value-is : valuesIn (trainBy (c ∷ h)) (conditionsIn (effectOf h c .engine)) ≡ v = ap (valuesIn (trainBy (c ∷ h))) (word-is h c) ∙ values-is (c ∷ h) in
-    let machine-is : machineAfter (machineIn taken) e r v ≡ machineAfter (machineBy h) e r v = machine-kept (machineBy h) r v e in
-    ap (λ u. controlOf taken u (machineAfter (machineIn taken) e r u)) value-is
-    ∙ ap (λ m. controlOf taken v m) machine-is
+    let value-is : valuesIn (inputsBy (c ∷ h)) (conditionsIn (stored (engineOf h) (effectOf h c))) ≡ v = ap (valuesIn (inputsBy (c ∷ h))) (word-is h c) ∙ values-is (c ∷ h) in
+    let machine-is : machineAfter (machineIn before) e r v ≡ machineAfter (machineBy h) e r v = machine-kept (machineBy h) r v e in
+    ap (λ u. controlOf before u (machineAfter (machineIn before) e r u)) value-is
+    ∙ ap (λ m. controlOf before v m) machine-is
     ∙ λ i. record {
       state = code (stateBy (c ∷ h));
       press = machineBy (c ∷ h) .press;
@@ -84,4 +85,6 @@ control-is h c =
 
 -- the engine after the event
 pub engine-is : (h : History) (c : Call) → stepBy (engineOf h) (eventOfCall c) (effectOf h c) .engine ≡ engineOf (c ∷ h)
-engine-is h c = ap (λ x. withControl (engineOf (c ∷ h)) x) (control-is h c)
+engine-is h c =
+    ap (λ m. withControl m (stepBy (engineOf h) (eventOfCall c) (effectOf h c) .engine .control)) (stored-is h c)
+    ∙ ap (λ x. withControl (engineOf (c ∷ h)) x) (control-is h c)

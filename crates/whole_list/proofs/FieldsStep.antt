@@ -9,7 +9,7 @@ use native.Mathlib.Nat.{eq-or-lt-of-le}
 use lib.ListN.{length}
 use Rattle.wire.specs.Numbers.{if_then_else_}
 use Rattle.wire.specs.Judged.Judged.{accept}
-use Rattle.engine_value.specs.Engine.{progress, withPosition}
+use Rattle.engine_value.specs.Engine.{progress}
 use Rattle.engine_value.specs.declared.Position.{Position}
 use Rattle.engine_value.specs.declared.Progress.{Progress}
 use Rattle.event.specs.declared.Event.{Event}
@@ -64,7 +64,7 @@ module _ (c : Call) (h : History) (x : Position) (q : eventOfCall c ≡ Position
   unfolding latest
   length-kept = rw (q, latest)
 
-  pub report-is : reportAt (c ∷ h) ≡ distance.reportIn (withPosition (engineOf h) x)
+  pub report-is : reportAt (c ∷ h) ≡ distance.reportFrom (engineOf h) x
   report-is = λ i. record { position = position-new i; length = length-kept i; skips = λ k. (skipped-kept k ∙ sym (skips-at h k)) i }
 
   pub progress-new : progressRun (c ∷ h) ≡ reported (routeBy h) (reportAt (c ∷ h)) (progressRun h)
@@ -78,14 +78,14 @@ module _ (c : Call) (h : History) (x : Position) (q : eventOfCall c ≡ Position
   after-is : (k : ℕ) → k < pointCount (routeBy h) → standing (reported (routeBy h) (reportAt (c ∷ h)) (progressRun h)) k ≡ standingBy (c ∷ h) k
   after-is k l = ap (λ p. standing p k) (sym progress-new) ∙ stands-at (c ∷ h) k (rw route-kept l)
 
-  pub changes-is : changesFrom (standingBy h) (standingBy (c ∷ h)) (pointCount (routeBy h)) 0 ≡ reportChanges (routeBy h) (distance.reportIn (withPosition (engineOf h) x)) (progressRun h)
+  pub changes-is : changesFrom (standingBy h) (standingBy (c ∷ h)) (pointCount (routeBy h)) 0 ≡ reportChanges (routeBy h) (distance.reportFrom (engineOf h) x) (progressRun h)
   changes-is =
       changes-ext (standingBy h) (standingBy (c ∷ h)) (standing (progressRun h)) (standing (reported (routeBy h) (reportAt (c ∷ h)) (progressRun h))) (pointCount (routeBy h)) 0
       (λ i l m. sym (stands-at h i (omega arith))) (λ i l m. sym (after-is i (omega arith)))
       ∙ changes-same (routeBy h) (reportAt (c ∷ h)) (progressRun h) (in-range h)
       ∙ ap (λ r. reportChanges (routeBy h) r (progressRun h)) report-is
 
-  pub became-is : newlyReached c h ≡ becameReached (routeBy h) (distance.reportIn (withPosition (engineOf h) x)) (progressRun h)
+  pub became-is : newlyReached c h ≡ becameReached (routeBy h) (distance.reportFrom (engineOf h) x) (progressRun h)
   became-is = same-bool _ _ there back ∙ ap (λ r. becameReached (routeBy h) r (progressRun h)) report-is
     where
       there : newlyReached c h ≡ true → becameReached (routeBy h) (reportAt (c ∷ h)) (progressRun h) ≡ true

@@ -16,7 +16,7 @@ use Rattle.state_codes.proofs.CodeLaws.{state-code}
 use Rattle.state_codes.specs.Numbers.{powerRows, stateRow}
 use Rattle.call.specs.Packets.{packetsOf}
 use Rattle.call.specs.Effect.{Effect, effect}
-use Rattle.call.specs.Call.{Call, Step, statusIn, stepTo, stepBy, judged}
+use Rattle.call.specs.Call.{Call, Step, statusIn, stepTo, stepBy, judge, judged}
 use Rattle.whole_list.specs.Values.{History, eventOfCall, positionBy, routeBy}
 use Rattle.whole_list.specs.Rules.{stateBy}
 use Rattle.whole_list.specs.Table.{changesBy, headOfCall, ownBy, statusBy, packetsBy, kindRows, tableBy}
@@ -91,7 +91,7 @@ module _ (h : History) (c : Call) where
       thenJudge (thenJudge (powerRows (stateBy h) k) (λ u. thenJudge (stateRow (stateBy h) k) (λ u. thenJudge (kindRows h c) (λ u. row 16 (shorter (s .packets)))))) (λ u. accept s)) (step-is h c)
 
   pub judged-is : judged (engineOf h) c ≡ thenJudge (tableBy h c) (λ u. accept (ruled h c))
-  unfolding judged tableBy
+  unfolding judged judge tableBy
   judged-is = go (eventOf (c .event)) refl
     where
       go : (m : Judged Event) → eventOf (c .event) ≡ m → thenJudge m engineRows ≡ thenJudge (thenJudge m ruleRows) (λ u. accept (ruled h c))

@@ -12,7 +12,7 @@ use Rattle.engine_value.specs.declared.Position.{Position}
 use Rattle.event.specs.Events.{eventOf}
 use Rattle.event.specs.declared.Event.{Event}
 use Rattle.event.specs.declared.Event.the-variants.{PowerOn}
-use Rattle.event.specs.Kinds.{Role, off, load, report, other, skip, Carried, newer, roleOf, carried}
+use Rattle.event.specs.Kinds.{Role, off, load, report, other, skip, isOff, Carried, newer, roleOf, carried}
 use Rattle.route.specs.Route.{LoadValue, loadOf}
 use Rattle.timing.specs.Distance as distance
 use Rattle.timing.specs.Load.{target}
@@ -34,13 +34,6 @@ loadOfCall c = elim (loadOf (c .journey) (c .book)) [ refuse n ↦ none | accept
 
 abbrev pub roleOfCall : Call → Role
 roleOfCall c = roleOf (eventOfCall c)
-
-abbrev pub isOff : Role → Bool
-isOff off = true
-isOff load = false
-isOff report = false
-isOff other = false
-isOff (skip t on) = false
 
 -- ---- "Mode, lever, reports, position and train length come from the latest accepted event since power off that carries them, else are fresh"
 

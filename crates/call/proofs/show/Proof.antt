@@ -1,7 +1,5 @@
-use mathlib.Core.Path.{_≡_}
 use borrow.Author.Needs.{needs}
 use Rattle.call.specs.Call.{conditionsIn}
-use Rattle.call.specs.View.{shownView}
 use Rattle.call.proofs.show.Statement.{statement}
 use Rattle.call.proofs.show.Tie as tie
 

@@ -5,13 +5,13 @@ use Rattle.event_packets.proofs.put_first.Statement.{statement}
 use Rattle.event_packets.proofs.put_first.Tie as tie
 
 returns : tie.Need-returns
-returns c = let a = c .before .before .before .args in none-62 (a .e) (a .at) _ (a .c .first) _ (not-true (a .c .first) (c .if1 .taken))
+returns c = let a = c .before .before .before .args in none-62 (a .header) (a .at) _ (a .e) (a .c .first) _ (not-true (a .c .first) (c .if1 .taken))
 
 returns-2 : tie.Need-returns-2
 returns-2 c = let b = c .before .before in
     let s = b .before .before .before in
     let a = s .before .before .before .args in
-    put-62 (a .e) (a .at) _ (a .c .first) _ _ _ (not-false (a .c .first) (s .if1 .left)) (b .before .before .timing-point .ensures) (b .put-packet .ensures)
+    put-62 (a .header) (a .at) _ (a .e) (a .c .first) _ _ _ (not-false (a .c .first) (s .if1 .left)) (b .before .before .timing-point .ensures) (b .put-packet .ensures)
 
 pub put-first-spec : {M : Type 1} → statement M
 put-first-spec =

@@ -1,13 +1,13 @@
 use mathlib.Core.Path.{ap, _∙_}
 use Rattle.wire.specs.Numbers.{flag}
-use Rattle.event_packets.proofs.Stored.{point-of}
 use borrow.Author.Needs.{needs}
+use Rattle.event_packets.specs.View.{timingPointView}
 use Rattle.event_packets.proofs.timing_point_of.Statement.{statement}
 use Rattle.event_packets.proofs.timing_point_of.Tie as tie
 
 returns : tie.Need-returns
-returns c = let a = c .before .before .before .args in
-    point-of (a .header) (a .l) (a .p) (a .status) (a .after) _ _ (c .before .bit-of .ensures ∙ ap flag (c .before .before .end-ahead .ensures)) (c .stopping-of .ensures)
+unfolding timingPointView
+returns c = rw (c .before .bit-of .ensures ∙ ap flag (c .before .before .end-ahead .ensures), c .stopping-of .ensures)
 
 pub timing-point-of-spec : {M : Type 1} → statement M
 timing-point-of-spec =

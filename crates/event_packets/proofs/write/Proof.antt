@@ -10,10 +10,11 @@ returns c =
     let s₃ = s₄ .before .before .before .before in
     let s₂ = s₃ .before .before .before .before in
     let s₁ = s₂ .before .before .before .before in
-    let a = s₁ .before .before .before .before .args in
-    put-all (a .e) (a .w) _ _ _ _ _ _ _ _ _ _ (s₁ .put-received .ensures) (s₂ .put-first .ensures) (s₃ .put-passings .ensures) (s₄ .put-stopped .ensures) (s₅ .put-status .ensures)
+    let h = s₁ .before .before in
+    let a = h .before .before .before .args in
+    put-all (a .e) (a .w) _ (h .header-of .ensures) _ _ _ _ _ _ _ _ _ _ (s₁ .put-received .ensures) (s₂ .put-first .ensures) (s₃ .put-passings .ensures) (s₄ .put-stopped .ensures) (s₅ .put-status .ensures)
 
 pub write-spec : {M : Type 1} → statement M
 write-spec =
     tie.close
-    (tie.spec (search needs) (search needs) (search needs) (search needs) (search needs) (search needs) returns)
+    (tie.spec (search needs) (search needs) (search needs) (search needs) (search needs) (search needs) (search needs) returns)

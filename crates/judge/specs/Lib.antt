@@ -1,0 +1,2 @@
+-- What the code's judgement stands for.
+pub mod View

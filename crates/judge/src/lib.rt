@@ -1,0 +1,98 @@
+// The rows of the states over an effect, the packets that are due, and 16.
+use effects::Effect;
+use engine_value::Control;
+use engine_value::Inputs;
+use engine_value::Load;
+use engine_value::Progress;
+use engine_value::Train;
+use event::Event;
+use event_packets::Status;
+use event_packets::Writes;
+use wire::Verdict;
+ghost use mathlib.Core.Path.{_≡_};
+ghost use mathlib.Core.List.{List};
+ghost use Prim.Native.Nat.{ℕ};
+ghost use lib.ListN.{length};
+ghost use Rattle.wire.specs.Judged.{Judged};
+ghost use Rattle.wire.specs.View.{verdictView};
+ghost use Rattle.engine_value.specs.declared.Engine as engine;
+ghost use Rattle.call.specs.Call.{statusIn};
+ghost use Rattle.call.specs.Effect as model;
+ghost use Rattle.event_packets.specs.View.{statusView};
+ghost use Rattle.effects.specs.View.{Gives};
+ghost use Rattle.judge.specs.View.{outputRow, statusOf, effectWrites, Judges};
+
+// The engine's groups after the event, what it writes, and in how many bytes; where a row refuses, its number alone counts.
+pub struct Judgement {
+    pub verdict: Verdict,
+    pub load: Load,
+    pub train: Train,
+    pub progress: Progress,
+    pub inputs: Inputs,
+    pub control: Control,
+    pub writes: Writes,
+    pub size: usize,
+}
+
+pub fn status(control: Control, train: Train, conditions: u16) -> Status
+    ensures { λ r. ⌜ r ≡ statusOf control train conditions ⌝ }
+{
+    Status {
+        state: control.state,
+        conditions: conditions,
+        speed: train.position.speed,
+    }
+}
+
+// What the packets are made of.
+fn writes_of(f: Effect, due: bool, conditions: u16) -> Writes
+    ensures { λ r. ⌜ r ≡ effectWrites f due conditions ⌝ }
+{
+    let received = f.received;
+    let changes = f.changes;
+    Writes {
+        received: received,
+        nidc: f.nidc,
+        changes: changes,
+        due: due,
+        conditions: conditions,
+    }
+}
+
+// 16, where no row before it refuses.
+fn output_row(verdict: Verdict, room: usize, size: usize) -> Verdict
+    ensures { λ r. ⌜ verdictView r ≡ outputRow (verdictView verdict) room size ⌝ }
+{
+    if let Verdict::Refused(n) = verdict {
+        return Verdict::Refused(n);
+    }
+    if room < size {
+        return Verdict::Refused(16);
+    }
+    Verdict::Accepted
+}
+
+pub fn judge(before: Status, v: Event, f: Effect, room: usize) -> Judgement
+    ensures { λ r. ⌜ ((e : engine.Engine) (j : model.JourneyAfter) (memory : List ℕ) (x : Judged model.Effect) → statusView before ≡ statusIn e → room ≡ length memory → Gives e j x f → Judges e j v memory x r) ⌝ }
+{
+    let word = conditions::word_of(f.load, f.inputs.reports, f.after, f.progress);
+    let control = states::control_after(f.inputs, f.control, v, f.reached, word);
+    let due = event_packets::status_due(before, status(control, f.train, word));
+    let w = writes_of(f, due, word);
+    let size = event_packets::size(w);
+    let verdict = f.verdict;
+    let load = f.load;
+    let train = f.train;
+    let progress = f.progress;
+    let inputs = f.inputs;
+    Judgement {
+        verdict: output_row(verdict, room, size),
+        load: load,
+        train: train,
+        progress: progress,
+        inputs: inputs,
+        control: control,
+        writes: w,
+        size: size,
+    }
+}
