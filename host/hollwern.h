@@ -6,11 +6,14 @@
  *   some value;
  * - during a call the engine, `out` and the lent event, journey, book and packet are touched by nobody else, and neither engine nor
  *   `out` overlaps any of them;
- * - an engine's memory is all zero before hollwern_fresh, and from then on is changed by these calls alone.
+ * - an engine's memory is all zero before hollwern_fresh (each bool in it is then 0 or 1, as every call takes for granted), and from
+ *   then on is changed by these calls alone.
  * Everything else is refused by number: any bytes, of any length, may be lent as event, journey, book and packet.
  * There is no hidden state: a host may keep several engines, copy them, and use each from its own thread. Beside memcpy nothing is
  * linked in.
- * Stack: provide 64 KB; docs/ASSURANCE.md has what a call took (measured, not proved). */
+ * Equal calls on equal engines leave equal bytes: no byte of an engine is padding. A host may compare engines by memcmp, and keep a
+ * checksum of one. Answer, Shown and PacketFields do have padding: compare their fields.
+ * Stack: a load takes 31 KB, any other call 11 KB: provide 40 KB (read from the compiled code and measured, not proved). */
 #ifndef HOLLWERN_H
 #define HOLLWERN_H
 #include <assert.h>
@@ -24,45 +27,39 @@ extern "C" {
 /* Layouts as in crates/engine_value/src/lib.rt; a host need not look inside. */
 typedef struct { uint32_t start, end; } Zone;
 typedef struct {
-    uint16_t nidc;
-    uint32_t nidsp;
-    bool booked, placed;
-    uint32_t start, length;
-    uint8_t zone_count;
+    uint32_t nidsp, start, length, zone_count;
     Zone zones[4];
+    uint16_t nidc;
+    bool booked, placed;
 } Segment;
 typedef struct {
-    uint32_t nidtp;
+    uint32_t nidtp, place, reach;
     uint16_t nidc;
     uint8_t alignment, stopping;
     bool stop, trackside, placed;
-    uint32_t place;
-    uint16_t reach;
+    uint8_t spare; /* always 0 */
 } Point;
 typedef struct {
-    bool valid;
     uint32_t operational;
+    bool valid;
     uint8_t ending, point_count, segment_count;
 } Load;
-typedef struct { uint8_t next; bool reached; } Progress;
 typedef struct {
-    uint16_t nidc;
     uint32_t nidsp, offset;
-    uint16_t speed;
+    uint16_t nidc, speed;
 } Position;
-typedef struct {
-    Position position;
-    uint32_t length;
-    uint8_t mode, lever, reports;
-} Train;
+typedef struct { Position position; uint32_t length; } Train;
+typedef struct { uint8_t next; bool reached; } Progress;
+typedef struct { uint8_t mode, lever, reports; } Inputs;
 typedef struct { uint8_t state; bool press, request; } Control;
 typedef struct {
     Point points[64];
     bool skips[64];
     Segment segments[40];
     Load load;
-    Progress progress;
     Train train;
+    Progress progress;
+    Inputs inputs;
     Control control;
 } Engine;
 
@@ -109,8 +106,35 @@ typedef struct {
 } PacketFields;
 
 static_assert(sizeof(bool) == 1 && sizeof(size_t) == 8, "x86-64");
-static_assert(sizeof(Segment) == 56 && sizeof(Point) == 20 && sizeof(Load) == 12 && sizeof(Train) == 24, "layout");
-static_assert(offsetof(Engine, load) == 3584 && offsetof(Engine, control) == 3624 && sizeof(Engine) == 3628, "layout");
+static_assert(sizeof(Zone) == 8 && sizeof(Segment) == 52 && sizeof(Point) == 20 && sizeof(Load) == 8, "layout");
+static_assert(sizeof(Position) == 12 && sizeof(Train) == 16 && sizeof(Progress) == 2, "layout");
+static_assert(sizeof(Inputs) == 3 && sizeof(Control) == 3 && sizeof(Engine) == 3456, "layout");
+static_assert(offsetof(Engine, skips) == 1280 && offsetof(Engine, segments) == 1344 && offsetof(Engine, load) == 3424, "layout");
+static_assert(offsetof(Engine, train) == 3432 && offsetof(Engine, progress) == 3448, "layout");
+static_assert(offsetof(Engine, inputs) == 3450 && offsetof(Engine, control) == 3453, "layout");
+/* Each size is the sum of the fields'. */
+#define HOLLWERN_OF(type, field) sizeof(((type *)0)->field)
+static_assert(sizeof(Zone) == HOLLWERN_OF(Zone, start) + HOLLWERN_OF(Zone, end), "padding");
+static_assert(sizeof(Segment) == HOLLWERN_OF(Segment, nidsp) + HOLLWERN_OF(Segment, start)
+              + HOLLWERN_OF(Segment, length) + HOLLWERN_OF(Segment, zone_count) + HOLLWERN_OF(Segment, zones)
+              + HOLLWERN_OF(Segment, nidc) + HOLLWERN_OF(Segment, booked) + HOLLWERN_OF(Segment, placed), "padding");
+static_assert(sizeof(Point) == HOLLWERN_OF(Point, nidtp) + HOLLWERN_OF(Point, place) + HOLLWERN_OF(Point, reach)
+              + HOLLWERN_OF(Point, nidc) + HOLLWERN_OF(Point, alignment) + HOLLWERN_OF(Point, stopping)
+              + HOLLWERN_OF(Point, stop) + HOLLWERN_OF(Point, trackside) + HOLLWERN_OF(Point, placed)
+              + HOLLWERN_OF(Point, spare), "padding");
+static_assert(sizeof(Load) == HOLLWERN_OF(Load, operational) + HOLLWERN_OF(Load, valid) + HOLLWERN_OF(Load, ending)
+              + HOLLWERN_OF(Load, point_count) + HOLLWERN_OF(Load, segment_count), "padding");
+static_assert(sizeof(Position) == HOLLWERN_OF(Position, nidsp) + HOLLWERN_OF(Position, offset)
+              + HOLLWERN_OF(Position, nidc) + HOLLWERN_OF(Position, speed), "padding");
+static_assert(sizeof(Train) == HOLLWERN_OF(Train, position) + HOLLWERN_OF(Train, length), "padding");
+static_assert(sizeof(Progress) == HOLLWERN_OF(Progress, next) + HOLLWERN_OF(Progress, reached), "padding");
+static_assert(sizeof(Inputs) == HOLLWERN_OF(Inputs, mode) + HOLLWERN_OF(Inputs, lever) + HOLLWERN_OF(Inputs, reports), "padding");
+static_assert(sizeof(Control) == HOLLWERN_OF(Control, state) + HOLLWERN_OF(Control, press)
+              + HOLLWERN_OF(Control, request), "padding");
+static_assert(sizeof(Engine) == HOLLWERN_OF(Engine, points) + HOLLWERN_OF(Engine, skips)
+              + HOLLWERN_OF(Engine, segments) + HOLLWERN_OF(Engine, load) + HOLLWERN_OF(Engine, train)
+              + HOLLWERN_OF(Engine, progress) + HOLLWERN_OF(Engine, inputs) + HOLLWERN_OF(Engine, control), "padding");
+#undef HOLLWERN_OF
 static_assert(offsetof(Answer, request) == 3 && offsetof(Answer, bytes) == 8 && sizeof(Answer) == 16, "layout");
 static_assert(offsetof(Shown, conditions) == 2 && offsetof(Shown, standings) == 5 && sizeof(Shown) == 70, "layout");
 static_assert(sizeof(Header) == 20 && offsetof(PacketFields, size) == 8 && offsetof(PacketFields, header) == 16, "layout");

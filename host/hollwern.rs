@@ -1,12 +1,51 @@
 //! The calls of hollwern.h for a host in Rust. The borrows give what the header asks: valid memory that nobody else touches.
 
-/// The engine's size in bytes, by the layout in `crates/engine_value`.
-pub const SIZE: usize = 3_628;
+/// The layouts of an engine, as in `crates/engine_value`; a host need not look inside. Each is declared with its size, which is the sum
+/// of its fields': there is no padding.
+#[allow(dead_code)]
+pub mod layout {
+    use std::mem::{offset_of, size_of};
 
-/// `Engine` of hollwern.h, which a host need not look into.
+    macro_rules! layout {
+        ($name:ident, $size:literal, $($field:ident: $type:ty),+) => {
+            #[repr(C)]
+            pub struct $name { $(pub $field: $type),+ }
+            const _: () = assert!(size_of::<$name>() == $size && $size == 0 $(+ size_of::<$type>())+);
+        };
+    }
+
+    layout!(Zone, 8, start: u32, end: u32);
+    layout!(
+        Segment, 52, nidsp: u32, start: u32, length: u32, zone_count: u32, zones: [Zone; 4], nidc: u16, booked: bool, placed: bool
+    );
+    layout!(
+        Point, 20, nidtp: u32, place: u32, reach: u32, nidc: u16, alignment: u8, stopping: u8, stop: bool, trackside: bool,
+        placed: bool, spare: u8
+    );
+    layout!(Load, 8, operational: u32, valid: bool, ending: u8, point_count: u8, segment_count: u8);
+    layout!(Position, 12, nidsp: u32, offset: u32, nidc: u16, speed: u16);
+    layout!(Train, 16, position: Position, length: u32);
+    layout!(Progress, 2, next: u8, reached: bool);
+    layout!(Inputs, 3, mode: u8, lever: u8, reports: u8);
+    layout!(Control, 3, state: u8, press: bool, request: bool);
+    layout!(
+        Engine, 3456, points: [Point; 64], skips: [bool; 64], segments: [Segment; 40], load: Load, train: Train, progress: Progress,
+        inputs: Inputs, control: Control
+    );
+    const _: () = assert!(offset_of!(Engine, skips) == 1280 && offset_of!(Engine, segments) == 1344);
+    const _: () = assert!(offset_of!(Engine, load) == 3424 && offset_of!(Engine, train) == 3432);
+    const _: () = assert!(offset_of!(Engine, progress) == 3448 && offset_of!(Engine, inputs) == 3450);
+    const _: () = assert!(offset_of!(Engine, control) == 3453);
+}
+
+/// The engine's size in bytes.
+pub const SIZE: usize = std::mem::size_of::<layout::Engine>();
+
+/// `Engine` of hollwern.h, by its bytes. Equal calls on equal engines leave equal ones.
 #[repr(C, align(4))]
-#[derive(Clone)]
+#[derive(Clone, PartialEq, Eq)]
 pub struct Engine([u8; SIZE]);
+const _: () = assert!(std::mem::align_of::<Engine>() == std::mem::align_of::<layout::Engine>());
 
 #[repr(C)]
 pub struct Answer {
