@@ -8,6 +8,7 @@ pub mod lists;
 pub mod packet_trials;
 pub mod profiles;
 mod random;
+pub mod rows;
 mod script;
 pub mod sizes;
 pub mod trials;

@@ -1,8 +1,9 @@
-//! `bench`: what calls cost through the C interface, beside the model and the copy of one engine by memcpy.
+//! `bench`: what calls cost through the C interface, beside the model and the copy of one engine by memcpy. For
+//! information: `copies` has the bounds.
 
-use inputs::lists::new_ended_list;
 use inputs::profiles::Profiles;
-use inputs::sizes::{largest, point_name, profiles, reversed, segment};
+use inputs::rows::{at, on, ready, rows, Row};
+use inputs::sizes::{largest, profiles};
 use model::calls::{Call, MEMORY};
 use model::engine::{Answer, Engine};
 use model::packets::{split_packets, Packet};
@@ -11,24 +12,6 @@ use proved::hollwern::{read, SIZE};
 use proved::measure::{stack_of, Timer};
 use proved::pair::{Memory, Pair};
 use std::hint::black_box;
-
-/// What a row may cost. By value, a call has two copies of the engine in any case; two more are left to it.
-#[derive(Clone, Copy)]
-enum Limit {
-    Copies(f64),
-    TimesModel(f64),
-}
-
-const FEW_COPIES: Limit = Limit::Copies(4.0);
-const STACK_MOST: usize = 48 * 1024;
-
-/// The calls that lead to it, and the call that is measured.
-struct Row {
-    name: String,
-    before: Vec<Call>,
-    call: Call,
-    limit: Limit,
-}
 
 struct Cost {
     answer: Result<Answer, u8>,
@@ -41,62 +24,6 @@ struct Bench {
     timer: Timer,
     /// Nanoseconds of the copy of one engine.
     copy: f64,
-    over: usize,
-}
-
-fn row(name: &str, before: &[Call], call: Call, limit: Limit) -> Row {
-    Row { name: name.into(), before: before.to_vec(), call, limit }
-}
-
-/// At an offset of the k-th segment.
-fn at(k: usize, offset: u32, speed: u16) -> Call {
-    let (nidc, nidsp) = segment(k);
-    Call::position(nidc, nidsp, offset, speed)
-}
-
-fn on() -> Vec<Call> {
-    vec![Call::power_on(), Call::length(20)]
-}
-
-/// Ready, standing at the beginning of the k-th segment.
-fn ready(profiles: &Profiles, k: usize) -> Vec<Call> {
-    let calls = [Call::reports(31), profiles.load(), at(k, 500, 0), Call::configured()];
-    [on(), calls.to_vec()].concat()
-}
-
-fn rows() -> Vec<Row> {
-    let largest = largest();
-    let (ready_first, ready_last) = (ready(&largest, 0), ready(&largest, 39));
-    let skipped = [&ready_first[..], &[Call::skip(point_name(39, 0))]].concat();
-    let mut rows = vec![
-        row("report without change, segment 1", &ready_first, at(0, 500, 0), FEW_COPIES),
-        row("report without change, segment 40", &ready_last, at(39, 500, 0), FEW_COPIES),
-        row("report that passes 64 points", &ready_first, at(39, 9_000, 100), Limit::TimesModel(3.0)),
-        row("largest load, journey order", &on(), largest.load(), Limit::TimesModel(3.0)),
-        row("largest load, reverse order", &on(), reversed(largest.clone()).load(), Limit::TimesModel(3.0)),
-        row("power on", &[], Call::power_on(), FEW_COPIES),
-        row("configured", &ready_first[..5], Call::configured(), FEW_COPIES),
-        row("power off", &ready_first, Call::power_off(), FEW_COPIES),
-        row("fault", &ready_first, Call::fault(), FEW_COPIES),
-        row("reports", &ready_first, Call::reports(30), FEW_COPIES),
-        row("mode", &ready_first, Call::mode(1), FEW_COPIES),
-        row("lever", &ready_first, Call::lever(2), FEW_COPIES),
-        row("press", &ready_first, Call::press(), FEW_COPIES),
-        row("train length", &ready_first, Call::length(30), FEW_COPIES),
-        row("driver skip of point 63", &ready_first, Call::skip(point_name(39, 0)), FEW_COPIES),
-        row("its revocation", &skipped, Call::revoke(point_name(39, 0)), FEW_COPIES),
-    ];
-    rows.extend(refused_rows(&largest, &ready_first));
-    rows
-}
-
-fn refused_rows(largest: &Profiles, ready: &[Call]) -> Vec<Row> {
-    let cut = Profiles { book_cut: 1, ..largest.clone() };
-    vec![
-        row("refused: unknown kind", ready, Call::of(vec![14]), FEW_COPIES),
-        row("refused: skip of an unknown name", ready, Call::skip(99_999_999), FEW_COPIES),
-        row("refused: largest book cut by a byte", ready, cut.load(), Limit::TimesModel(3.0)),
-    ]
 }
 
 impl Bench {
@@ -104,7 +31,7 @@ impl Bench {
         let timer = Timer::new();
         let engine = Proved::fresh();
         let copy = timer.time(&engine, |to| to.clone_from(black_box(&engine)));
-        Bench { timer, copy, over: 0 }
+        Bench { timer, copy }
     }
 
     /// Both engines are first seen to agree.
@@ -121,26 +48,16 @@ impl Bench {
         Cost { answer, proved, model, stack }
     }
 
-    fn print_row(&mut self, row: &Row) {
+    fn print_row(&self, row: &Row) {
         let Cost { answer, proved, model, stack } = self.cost(&row.before, &row.call);
         let (copies, ratio) = (proved / self.copy, proved / model);
-        let over = match row.limit {
-            Limit::Copies(most) => copies > most,
-            Limit::TimesModel(most) => ratio > most,
-        } || stack > STACK_MOST;
-        self.over += usize::from(over);
         let answer = answer.map_or_else(|number| format!("R {number}"), |answer| format!("A {}", answer.bytes));
-        let mark = if over { "over" } else { "" };
-        println!("{:36} {answer:>6} {proved:>8.0} {model:>8.0} {ratio:>7.1} {copies:>7.1} {stack:>7} {mark}", row.name);
+        println!("{:36} {answer:>6} {proved:>8.0} {model:>8.0} {ratio:>7.1} {copies:>7.1} {stack:>7}", row.name);
     }
 
-    fn print_rows(&mut self) {
+    fn print_rows(&self) {
         println!("{:36} answer   proved    model   ratio  copies   stack", "nanoseconds");
         rows().iter().for_each(|row| self.print_row(row));
-        println!(
-            "{} rows over: more than 4 copies, for 64 points and books 3 times the model, or 48 KiB of stack",
-            self.over
-        );
     }
 
     /// Two calls in one line of a table, each proved and model.
@@ -202,16 +119,8 @@ impl Bench {
     }
 }
 
-/// The deepest stack over guided random lists.
-fn deepest_stack() -> usize {
-    let mut out = [0; MEMORY];
-    let mut proved = Proved::fresh();
-    let calls: Vec<Call> = (0..200).flat_map(new_ended_list).collect();
-    stack_of(|| calls.iter().filter(|call| proved.call(call, &mut out).is_ok()).count())
-}
-
 fn main() {
-    let mut bench = Bench::new();
+    let bench = Bench::new();
     println!(
         "engine: {SIZE} bytes; its copy by memcpy: {:.0} ns; the model's engine: {} bytes",
         bench.copy,
@@ -219,6 +128,5 @@ fn main() {
     );
     bench.print_rows();
     bench.print_reading();
-    println!("deepest stack in 200 random lists: {} bytes", deepest_stack());
     bench.print_tables();
 }

@@ -4,6 +4,10 @@ use crate::hollwern::{self, Shown};
 use model::calls::Call;
 use model::engine::{Answer, Engine};
 
+extern "C" {
+    fn hollwern_fresh(e: *mut hollwern::Engine);
+}
+
 /// An engine that only the calls of the C interface look into.
 #[derive(Clone)]
 pub struct Proved(hollwern::Engine);
@@ -11,6 +15,16 @@ pub struct Proved(hollwern::Engine);
 impl Proved {
     pub fn fresh() -> Proved {
         Proved(hollwern::Engine::fresh())
+    }
+
+    /// Fresh again, in its place, whatever it was.
+    pub fn make_fresh(&mut self) {
+        unsafe { hollwern_fresh(&mut self.0) }
+    }
+
+    /// Every byte that it takes.
+    pub fn bytes(&self) -> &[u8; hollwern::SIZE] {
+        unsafe { &*(&raw const self.0).cast() }
     }
 
     /// One call, answered as the model answers it.

@@ -1,5 +1,6 @@
 //! Time and stack of calls.
 
+use crate::stack::Stack;
 use std::hint::black_box;
 use std::time::{Duration, Instant};
 
@@ -45,32 +46,9 @@ impl Timer {
     }
 }
 
-/// Bytes of stack that `call` uses, by a painted stack of its own (x86-64).
-pub fn stack_of<R>(mut call: impl FnMut() -> R) -> usize {
-    const PAINT: u8 = 0xA5;
-    extern "C" fn run(call: *mut &mut dyn FnMut()) {
-        unsafe { (*call)() }
-    }
-    let mut stack = vec![PAINT; 1 << 20];
-    let bottom = stack.as_mut_ptr() as usize;
-    let top = (bottom + stack.len()) & !15;
-    let mut call = || {
-        black_box(call());
-    };
-    let mut call: &mut dyn FnMut() = &mut call;
-    unsafe {
-        std::arch::asm!(
-            "mov r12, rsp",
-            "mov rsp, {top}",
-            "call {run}",
-            "mov rsp, r12",
-            top = in(reg) top,
-            run = in(reg) run as extern "C" fn(*mut &mut dyn FnMut()),
-            in("rdi") &mut call as *mut &mut dyn FnMut(),
-            out("r12") _,
-            clobber_abi("C"),
-        );
-    }
-    let untouched = black_box(&stack).iter().take_while(|&&byte| byte == PAINT).count();
-    top - bottom - untouched
+/// Bytes of stack that `call` uses.
+pub fn stack_of<R>(call: impl FnOnce() -> R) -> usize {
+    let mut stack = Stack::new(1 << 20);
+    stack.run(0xA5, || black_box(call()));
+    stack.used()
 }
