@@ -9,8 +9,8 @@
  * - an engine's memory is all zero before hollwern_fresh (each bool in it is then 0 or 1, as every call takes for granted), and from
  *   then on is changed by these calls alone.
  * Everything else is refused by number: any bytes, of any length, may be lent as event, journey, book and packet.
- * There is no hidden state: a host may keep several engines, copy them, and use each from its own thread. Beside memcpy nothing is
- * linked in.
+ * There is no hidden state: a host may keep several engines, copy them, and use each from its own thread. Beside memcpy and memset
+ * nothing is linked in.
  * Equal calls on equal engines leave equal bytes: no byte of an engine is padding. A host may compare engines by memcmp, and keep a
  * checksum of one. Answer, Shown and PacketFields do have padding: compare their fields.
  * Stack: a load takes 31 KB, any other call 11 KB: provide 40 KB (read from the compiled code and measured, not proved). */
