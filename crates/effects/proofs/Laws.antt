@@ -47,7 +47,7 @@ use Rattle.call.specs.Effect as model
 use Rattle.call.specs.Effect.{JourneyAfter, kept, cleared, replaced, routeAfter, powerOff, trainWith, inputsWith, valuesOnly, offsetBeyond, positionEffect, loadedIn, loadEffect, sameBool, skippedIn, skipEffect}
 use Rattle.effects.specs.declared.Effect.{Effect}
 use Rattle.effects.specs.declared.Kept.{Kept}
-use Rattle.effects.specs.View.{noChanges, oneChange, reportedChanges, skipStatus, skipJourney, plainEffect, keptIn, journeyEngine, loadedEffect, acceptedView, effectView, Gives}
+use Rattle.effects.specs.View.{noChanges, oneChange, reportedChanges, skipStatus, skipJourney, unchanged, plainEffect, keptIn, journeyEngine, loadedEffect, acceptedView, effectView, Gives}
 
 -- an effect that is no load's has no NID_C of a packet 65
 abbrev told : Received → Bool
@@ -308,29 +308,12 @@ gives-power-off e f q = subst (λ f. Gives e cleared (accept powerOff) f) (sym q
 
 -- ---- the load
 
--- the effect of a load by the point that is then targeted, NID_C and conditions
-abbrev loadedBy : Engine → Loaded → ℕ → ℕ → Changes → RouteConditions → Effect
-loadedBy a l next nidc c w =
-    record {
-      verdict = l .verdict;
-      load = a .load;
-      train = a .train;
-      progress = progress next false;
-      inputs = a .inputs;
-      control = a .control;
-      received = Received.Journey (l .head);
-      nidc = nidc;
-      changes = c;
-      reached = false;
-      after = w;
-    }
-
-pub load-effect : (a : Engine) (l : Loaded) (next nidc : ℕ) (c : Changes) (w : RouteConditions) → next ≡ target (routeIn a) (a .train .position) (a .train .length)
-    → nidc ≡ country (routeIn a) (a .train .position) → c ≡ noChanges → w ≡ routeConditions (routeIn a) (a .train .position) (standing (progress next false))
-    → loadedBy a l next nidc c w ≡ loadedEffect a l
-load-effect a l next nidc c w p q r u =
+pub load-effect : (a : Engine) (l : Loaded) (next nidc : ℕ) (w : RouteConditions) → next ≡ target (routeIn a) (a .train .position) (a .train .length)
+    → nidc ≡ country (routeIn a) (a .train .position) → w ≡ routeConditions (routeIn a) (a .train .position) (standing (progress next false))
+    → unchanged a (l .verdict) (progress next false) (Received.Journey (l .head)) nidc w ≡ loadedEffect a l
+load-effect a l next nidc w p q u =
     let after = u ∙ ap (λ (k : ℕ). routeConditions (routeIn a) (a .train .position) (standing (progress k false))) p in
-    λ i. loadedBy a l (p i) (q i) (r i) (after i)
+    λ i. unchanged a (l .verdict) (progress (p i) false) (Received.Journey (l .head)) (q i) (after i)
 
 -- the route that an answer has
 abbrev pub routeView : Loaded → Route

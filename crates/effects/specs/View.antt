@@ -45,22 +45,26 @@ reportedChanges k t =
 abbrev pub skipStatus : Bool → ℕ
 skipStatus on = if on then statusSkipped else statusRevoked
 
--- the groups of an engine as they are
-abbrev pub plainEffect : Engine → Verdict → RouteConditions → Effect
-plainEffect e v after =
+-- the groups of an engine with that progress, and no point changed
+abbrev pub unchanged : Engine → Verdict → Progress → Received → ℕ → RouteConditions → Effect
+unchanged e v p received nidc after =
     record {
       verdict = v;
       load = e .load;
       train = e .train;
-      progress = e .progress;
+      progress = p;
       inputs = e .inputs;
       control = e .control;
-      received = Received.Nothing;
-      nidc = 0;
+      received = received;
+      nidc = nidc;
       changes = noChanges;
       reached = false;
       after = after;
     }
+
+-- the groups of an engine as they are
+abbrev pub plainEffect : Engine → Verdict → RouteConditions → Effect
+plainEffect e v after = unchanged e v (e .progress) Received.Nothing 0 after
 
 -- what a load leaves as it is
 abbrev pub keptIn : Engine → Kept
@@ -84,19 +88,7 @@ journeyEngine k l =
 abbrev pub loadedEffect : Engine → Loaded → Effect
 loadedEffect a l =
     let after = progress (target (routeIn a) (a .train .position) (a .train .length)) false in
-    record {
-      verdict = l .verdict;
-      load = a .load;
-      train = a .train;
-      progress = after;
-      inputs = a .inputs;
-      control = a .control;
-      received = Received.Journey (l .head);
-      nidc = country (routeIn a) (a .train .position);
-      changes = noChanges;
-      reached = false;
-      after = routeConditions (routeIn a) (a .train .position) (standing after);
-    }
+    unchanged a (l .verdict) after (Received.Journey (l .head)) (country (routeIn a) (a .train .position)) (routeConditions (routeIn a) (a .train .position) (standing after))
 
 abbrev pub loadedRoute : LoadEffect → Route
 loadedRoute l = record { load = l .effect .load; points = l .points; segments = l .segments }

@@ -33,7 +33,7 @@ ghost use Rattle.position.specs.Standing.{standing, behind};
 ghost use Rattle.event.specs.Kinds.{other, report, skip, load, roleOf, carried};
 ghost use Rattle.look_up.specs.LookUp.{lookUp};
 ghost use Rattle.call.specs.Effect.{kept, cleared, replaced, trainWith, inputsWith, valuesOnly, powerOff, offsetBeyond, positionEffect, loadEffect, sameBool, skipEffect};
-ghost use Rattle.effects.specs.View.{noChanges, oneChange, reportedChanges, skipStatus, skipJourney, plainEffect, keptIn, journeyEngine, loadedEffect, loadedRoute, Gives};
+ghost use Rattle.effects.specs.View.{noChanges, oneChange, reportedChanges, skipStatus, skipJourney, unchanged, plainEffect, keptIn, journeyEngine, loadedEffect, loadedRoute, Gives};
 
 // The groups with the event's values, the head of a journey that was loaded and the NID_C of its packet, the points that changed, whether one
 // became reached, and conditions 4, 6 and 7 after it; where a row refuses, its number alone counts.
@@ -97,14 +97,20 @@ fn one_change(index: u8, status: u8, after: Progress) -> Changes
     }
 }
 
-// The groups of an engine as they are.
-fn plain(e: Engine, verdict: Verdict, after: RouteConditions) -> Effect
-    ensures { λ r. ⌜ r ≡ plainEffect e verdict after ⌝ }
+// The groups of an engine with that progress, and no point changed.
+fn unchanged(
+    e: Engine,
+    verdict: Verdict,
+    progress: Progress,
+    received: Received,
+    nidc: u16,
+    after: RouteConditions,
+) -> Effect
+    ensures { λ r. ⌜ r ≡ unchanged e verdict progress received nidc after ⌝ }
 {
     let changes = no_changes();
     let load = e.load;
     let train = e.train;
-    let progress = e.progress;
     let inputs = e.inputs;
     let control = e.control;
     Effect {
@@ -114,12 +120,19 @@ fn plain(e: Engine, verdict: Verdict, after: RouteConditions) -> Effect
         progress: progress,
         inputs: inputs,
         control: control,
-        received: Received::Nothing,
-        nidc: 0,
+        received: received,
+        nidc: nidc,
         changes: changes,
         reached: false,
         after: after,
     }
+}
+
+// The groups of an engine as they are.
+fn plain(e: Engine, verdict: Verdict, after: RouteConditions) -> Effect
+    ensures { λ r. ⌜ r ≡ plainEffect e verdict after ⌝ }
+{
+    unchanged(e, verdict, e.progress, Received::Nothing, 0, after)
 }
 
 // ---- the values that an event brings
@@ -374,27 +387,9 @@ fn load_effect(a: Engine, l: Loaded) -> Effect
     let profiles = conditions::profiles_there(a.load, progress, placed);
     let after = conditions::route_conditions(s, a.train.position, profiles);
     let nidc = event_packets::country(s, a.train.position);
-    let changes = no_changes();
     let verdict = l.verdict;
     let head = l.head;
-    let received = Received::Journey(head);
-    let load = a.load;
-    let train = a.train;
-    let inputs = a.inputs;
-    let control = a.control;
-    Effect {
-        verdict: verdict,
-        load: load,
-        train: train,
-        progress: progress,
-        inputs: inputs,
-        control: control,
-        received: received,
-        nidc: nidc,
-        changes: changes,
-        reached: false,
-        after: after,
-    }
+    unchanged(a, verdict, progress, Received::Journey(head), nidc, after)
 }
 
 pub fn load(k: Kept, journey: &[u8], book: &[u8]) -> LoadEffect

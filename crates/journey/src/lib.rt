@@ -15,7 +15,7 @@ ghost use mathlib.Core.Bool.{not, _&&_, _||_};
 ghost use lib.ListN.{drop};
 ghost use Rattle.wire.specs.Numbers.{bit};
 ghost use Rattle.fields.specs.Parse.{mapFits};
-ghost use Rattle.journey.specs.Journey.{nameRecord, pointRecord, headRecord};
+ghost use Rattle.journey.specs.Journey.{blankHead, nameRecord, pointRecord, headRecord};
 ghost use Rattle.journey.specs.View.{nameView, pointView, headView, NamesRead, PointsRead, refusedJourney, JourneyRead};
 
 // "date (2, 0-32,767)"
@@ -328,6 +328,19 @@ fn read_points(s: &[u8], at: usize) -> Points
     }
 }
 
+// The head of a journey that is refused.
+pub fn blank_head() -> Head
+    ensures { λ r. ⌜ r ≡ blankHead ⌝ }
+{
+    Head {
+        operational: 0,
+        date: 0,
+        seconds: 0,
+        counter: 0,
+        atots: 0,
+    }
+}
+
 // A journey that is refused has no value beside the number.
 fn refused(number: u8) -> Journey
     ensures { λ r. ⌜ r ≡ refusedJourney number ⌝ }
@@ -342,13 +355,7 @@ fn refused(number: u8) -> Journey
         trackside: false,
         end: false,
     };
-    let head = Head {
-        operational: 0,
-        date: 0,
-        seconds: 0,
-        counter: 0,
-        atots: 0,
-    };
+    let head = blank_head();
     let names = [name; MAX_SEGMENTS];
     let points = [point; MAX_POINTS];
     Journey {

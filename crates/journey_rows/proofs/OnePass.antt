@@ -2,7 +2,7 @@
 use Prim.Native.Nat.{ℕ, _+_, _≤_, _<_}
 use mathlib.Core.Path.{_≡_, refl, sym, ap, _∙_}
 use mathlib.Core.List.{List, [], _∷_, _++_}
-use mathlib.Core.Bool.{Bool, true, false, not, _&&_, _||_}
+use mathlib.Core.Bool.{Bool, true, false, not, _&&_, _||_, or-false, or-assoc}
 use native.Mathlib.Omega.{arith}
 use lib.ListN.{length, take, drop, set, length-set}
 use lib.Dec.{eqb, ltb, leb}
@@ -19,14 +19,6 @@ nidtpOf p = p .nidtp
 
 abbrev pub beyondFrom : ℕ → List JourneyPoint → Bool
 beyondFrom m l = any (λ p. leb m (p .index)) l
-
-or-or : (a b c : Bool) → (a || (b || c)) ≡ ((a || b) || c)
-or-or true b c = refl
-or-or false b c = refl
-
-or-none : (a : Bool) → (a || false) ≡ a
-or-none true = refl
-or-none false = refl
 
 -- before the End of Journey: the count so far, and what is left while none was seen
 abbrev endingAfter : ℕ → List JourneyPoint → ℕ
@@ -72,9 +64,9 @@ module _ (m : ℕ) (l : List JourneyPoint) where
         copied = copied-more nidtpOf names i _ _ (w .copied) p rest _ (omega arith) d refl;
         counted = rw e1 (omega (arith, c));
         before = rw (e1, e2) (omega (arith, g));
-        past = w .past ∙ ap (λ (x : List JourneyPoint). beyond || beyondFrom m x) d ∙ or-or beyond (leb m (p .index)) (beyondFrom m rest) ∙ ap (λ (x : Bool). x || beyondFrom m rest) (sym eb);
+        past = w .past ∙ ap (λ (x : List JourneyPoint). beyond || beyondFrom m x) d ∙ sym (or-assoc beyond (leb m (p .index)) (beyondFrom m rest)) ∙ ap (λ (x : Bool). x || beyondFrom m rest) (sym eb);
         fallen =
-            w .fallen ∙ ap (λ (x : List JourneyPoint). falls || fallsFrom last (indices x)) d ∙ or-or falls (ltb (p .index) last) (fallsFrom (p .index) (indices rest))
+            w .fallen ∙ ap (λ (x : List JourneyPoint). falls || fallsFrom last (indices x)) d ∙ sym (or-assoc falls (ltb (p .index) last) (fallsFrom (p .index) (indices rest)))
             ∙ ap (λ (x : Bool). x || fallsFrom (p .index) (indices rest)) (sym ef);
       }
 
@@ -93,7 +85,7 @@ module _ (m : ℕ) (l : List JourneyPoint) where
         none false = refl
 
     pub beyond-end : beyond ≡ beyondFrom m l
-    beyond-end = sym (w .past ∙ ap (λ (x : List JourneyPoint). beyond || beyondFrom m x) d ∙ or-none beyond)
+    beyond-end = sym (w .past ∙ ap (λ (x : List JourneyPoint). beyond || beyondFrom m x) d ∙ or-false beyond)
 
     pub falls-end : fell ≡ falls (indices l)
-    falls-end = sym (sym (falls-from (indices l)) ∙ w .fallen ∙ ap (λ (x : List JourneyPoint). fell || fallsFrom last (indices x)) d ∙ or-none fell)
+    falls-end = sym (sym (falls-from (indices l)) ∙ w .fallen ∙ ap (λ (x : List JourneyPoint). fell || fallsFrom last (indices x)) d ∙ or-false fell)

@@ -2,7 +2,7 @@
 use Prim.Native.Nat.{ℕ, zero, suc, _+_, _*_, _^_, _≤_, _<_, min}
 use mathlib.Core.Path.{_≡_, refl, sym, ap, _∙_}
 use mathlib.Core.List.{List, [], _∷_, _++_, map, append-assoc, append-nil}
-use mathlib.Core.Bool.{Bool, true, false, not, _&&_, _||_}
+use mathlib.Core.Bool.{Bool, true, false, not, _&&_, _||_, or-false, or-assoc}
 use mathlib.Core.Option.{Option, some}
 use native.Mathlib.Omega.{arith}
 use native.Mathlib.Numerals.{add-one}
@@ -264,14 +264,6 @@ module _ (s : List ℕ) (m : Placing) (p : JourneyPoint) (g : Segment) (o : Opti
   pub lacks-is : o ≡ pointFound (recordsView s m) p → (g .booked && not (isSome o)) ≡ lacks (m .segments) (recordsView s m) p
   lacks-is f = rw (e, f)
 
-or-or : (a b c : Bool) → (a || (b || c)) ≡ ((a || b) || c)
-or-or true b c = refl
-or-or false b c = refl
-
-or-none : (a : Bool) → (a || false) ≡ a
-or-none true = refl
-or-none false = refl
-
 -- the first i points are placed; `missing` says whether one of them is lacked by its segment's record
 module _ (segments : List Segment) (records : List (List BookPoint)) (l : List JourneyPoint) where
   pub record PlacedPoints (i : ℕ) (points : List Point) (missing : Bool) : Type 0 where
@@ -296,12 +288,12 @@ module _ (segments : List Segment) (records : List (List BookPoint)) (l : List J
         left = f .left ∙ ap (λ (x : List JourneyPoint). take i points ++ map (pointFrom segments records) x) d ∙ sym (rw (one-more i points q (omega arith), append-assoc, e));
         lacked =
             f .lacked ∙ ap (λ (x : List JourneyPoint). before || any (lacks segments records) x) d
-            ∙ or-or before (lacks segments records p) (any (lacks segments records) (drop (i + 1) l))
+            ∙ sym (or-assoc before (lacks segments records p) (any (lacks segments records) (drop (i + 1) l)))
             ∙ ap (λ (b : Bool). b || any (lacks segments records) (drop (i + 1) l)) (sym n);
       }
 
   pub lacked-end : (i : ℕ) (points : List Point) (missing : Bool) → drop i l ≡ [] → PlacedPoints i points missing → missing ≡ any (lacks segments records) l
-  lacked-end i points missing d f = sym (f .lacked ∙ ap (λ (x : List JourneyPoint). missing || any (lacks segments records) x) d ∙ or-none missing)
+  lacked-end i points missing d f = sym (f .lacked ∙ ap (λ (x : List JourneyPoint). missing || any (lacks segments records) x) d ∙ or-false missing)
 
   pub points-end : (i : ℕ) (points : List Point) (missing : Bool) → drop i l ≡ [] → PlacedPoints i points missing → points ≡ filled 64 blankPoint (map (pointFrom segments records) l)
   points-end i points missing d f =

@@ -4,7 +4,6 @@ use engine_value::Load;
 use engine_value::MAX_POINTS;
 use engine_value::MAX_SEGMENTS;
 use engine_value::MAX_ZONES;
-use engine_value::NO_OPERATIONAL;
 use engine_value::Point;
 use engine_value::Segment;
 use engine_value::Zone;
@@ -303,20 +302,8 @@ fn refused(number: u8) -> Loaded
     let segment = engine_value::blank_segment();
     let points = [point; MAX_POINTS];
     let segments = [segment; MAX_SEGMENTS];
-    let load = Load {
-        operational: NO_OPERATIONAL,
-        valid: false,
-        ending: 0,
-        point_count: 0,
-        segment_count: 0,
-    };
-    let head = Head {
-        operational: 0,
-        date: 0,
-        seconds: 0,
-        counter: 0,
-        atots: 0,
-    };
+    let load = engine_value::no_load();
+    let head = journey::blank_head();
     Loaded {
         verdict: Verdict::Refused(number),
         load: load,
