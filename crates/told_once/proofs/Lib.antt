@@ -1,0 +1,5 @@
+-- What was told as a story of the points; what one call tells; then the corollary.
+pub mod Story
+pub mod Reports
+pub mod Packets
+pub mod Names

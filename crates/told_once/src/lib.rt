@@ -1,0 +1,1 @@
+// Told once, in order: definitions and proofs only.
