@@ -2,4 +2,6 @@
 pub mod Story
 pub mod Reports
 pub mod Packets
+pub mod Calls
 pub mod Names
+pub mod ToldOnce

@@ -1,6 +1,6 @@
 -- What the packets of one call tell: the points that the call changes, each by its index and status.
 use mathlib.Core.Path.{_≡_, refl, sym, _∙_, ap}
-use mathlib.Core.Bool.{Bool, true, false, cond, _||_}
+use mathlib.Core.Bool.{Bool, true, false, cond}
 use mathlib.Core.List.{List, [], _∷_, _++_, map, append-nil, append-assoc}
 use mathlib.Core.Option.{Option, none, some}
 use Prim.Native.Nat.{ℕ}
@@ -19,8 +19,8 @@ use Rattle.whole_list.specs.Values.{History, positionBy, routeBy}
 use Rattle.whole_list.specs.Table.{changesBy, headOfCall, ownBy, statusBy, packetsBy}
 use Rattle.whole_list.specs.WholeList.{bytesOfEach}
 use Rattle.whole_list.proofs.Readable.{Fits, packets-fit}
-use Rattle.told_once.specs.Recording.{Told, stops, passes, toldBy, toldIn}
-use Rattle.told_once.proofs.Reports.{marked}
+use Rattle.told_once.specs.Recording.{Told, toldBy, toldIn}
+use Rattle.told_once.proofs.Reports.{counts, marked}
 
 pub told-append : (a b : List (List ℕ)) → toldIn (a ++ b) ≡ toldIn a ++ toldIn b
 unfolding toldIn
@@ -46,10 +46,6 @@ read-back (p ∷ l) f =
     ∙ ap (λ (m : List Told). toldBy (accept p) ++ m) (read-back l (f .1))
 
 -- ---- the packets of an event
-
--- the packets 62 that are looked at
-abbrev pub counts : Told → Bool
-counts t = passes t || stops t
 
 module _ (j : Route) (x : Position) where
   of-65 : (o : Option Head) → toldOfEach (received j x o) ≡ []

@@ -1,19 +1,24 @@
 -- A position report carries the story on: by what it changes, from the progress before it to the one after.
 use mathlib.Core.Path.{_≡_, refl, sym, _∙_, ap, subst}
-use mathlib.Core.Bool.{Bool, true, false, not, _&&_}
+use mathlib.Core.Bool.{Bool, true, false, _||_}
 use mathlib.Core.List.{List, [], _∷_, _++_, map, append-nil, append-assoc}
 use Prim.Native.Nat.{ℕ, zero, suc, _+_, _-_, _≤_, _<_}
 use native.Mathlib.Omega.{arith}
+use Rattle.wire.specs.Lists.{those}
 use Rattle.wire.proofs.ListLaws.{map-append}
 use Rattle.engine_value.specs.Engine.{Route, progress}
 use Rattle.engine_value.specs.declared.Progress.{Progress}
 use Rattle.position.specs.Position.{pointCount}
 use Rattle.timing.specs.Distance.{Report, moving}
-use Rattle.timing.specs.Report.{stays, departs, firstLooked, reported, becameReached}
-use Rattle.timing.specs.Changes.{Change, change, statusStopped, statusDeparted, passings, when, reportChanges}
+use Rattle.timing.specs.Report.{departs, firstLooked, reported, becameReached}
+use Rattle.timing.specs.Changes.{Change, change, statusPassed, statusStopped, statusDeparted, passings, when, reportChanges}
 use Rattle.timing.proofs.Steps.{InRange, following-is, looked-range, reported-stays, reported-departs, reported-looks}
-use Rattle.told_once.specs.Recording.{Told}
-use Rattle.told_once.proofs.Story.{tell, Story, passing, stopping, departing}
+use Rattle.told_once.specs.Recording.{Told, stops, passes}
+use Rattle.told_once.proofs.Story.{those-append, tell, Story, passing, stopping, departing}
+
+-- the packets 62 that are looked at
+abbrev pub counts : Told → Bool
+counts t = passes t || stops t
 
 -- what a change tells in a packet 62
 abbrev pub marked : Route → Change → Told
@@ -101,3 +106,35 @@ module _ (j : Route) (start : ℕ) where
             let up : p .next ≤ q .next = rw (reported-looks j r p e) (looked-range j r (p .next) (range .most) .0) in
             subst Goes (sym (changes-by false (p .next) (q .reached) q (rw e) (rw e) (rw e) refl))
             (looking (p .next) q told up (story-of (λ i. record { next = p .next; reached = e i }) refl s))
+
+-- all that a report changes is looked at
+module _ (j : Route) where
+  all-append : (a b : List Change) → those counts (map (marked j) a) ≡ map (marked j) a → those counts (map (marked j) b) ≡ map (marked j) b
+      → those counts (map (marked j) (a ++ b)) ≡ map (marked j) (a ++ b)
+  all-append a b e f =
+      ap (those counts) (map-append (marked j) a b) ∙ those-append counts (map (marked j) a) (map (marked j) b)
+      ∙ ap (λ (l : List Told). l ++ those counts (map (marked j) b)) e ∙ ap (λ (l : List Told). map (marked j) a ++ l) f
+      ∙ sym (map-append (marked j) a b)
+
+  all-passings : (n k : ℕ) → those counts (map (marked j) (passings n k)) ≡ map (marked j) (passings n k)
+  unfolding passings
+  all-passings zero k = refl
+  all-passings (suc n) k = ap (λ (l : List Told). tell j k statusPassed ∷ l) (all-passings n (k + 1))
+
+  departure : (b : Bool) (k : ℕ) (p : Progress) → those counts (map (marked j) (when b (change k statusDeparted p))) ≡ map (marked j) (when b (change k statusDeparted p))
+  departure true k p = refl
+  departure false k p = refl
+
+  stop : (b : Bool) (k : ℕ) (p : Progress) → those counts (map (marked j) (when b (change k statusStopped p))) ≡ map (marked j) (when b (change k statusStopped p))
+  stop true k p = refl
+  stop false k p = refl
+
+  pub all-count : (r : Report) (p : Progress) → those counts (map (marked j) (reportChanges j r p)) ≡ map (marked j) (reportChanges j r p)
+  unfolding reportChanges
+  all-count r p =
+      let f = firstLooked r p in
+      let q = reported j r p in
+      let first = when (departs r p) (change (p .next) statusDeparted (progress f false)) in
+      let last = when (becameReached j r p) (change (q .next) statusStopped q) in
+      all-append first (passings (q .next - f) f ++ last) (departure (departs r p) _ _)
+      (all-append (passings (q .next - f) f) last (all-passings (q .next - f) f) (stop (becameReached j r p) _ _))

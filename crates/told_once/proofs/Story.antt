@@ -1,11 +1,11 @@
 -- What was told, and how far the journey's points are: each point passes, stops or departs where the one before left off.
-use mathlib.Core.Path.{_≡_, refl, sym, _∙_, ap}
+use mathlib.Core.Path.{_≡_, refl, sym, _∙_, ap, subst}
 use mathlib.Core.Logic.{_⊎_, inl, inr}
-use mathlib.Core.Bool.{Bool, true, false, cond, _&&_, false≢true}
+use mathlib.Core.Bool.{Bool, true, false, cond, false≢true}
 use mathlib.Core.List.{List, [], _∷_, _++_, map, append-nil}
 use Prim.Native.Nat.{ℕ, zero, suc, _+_, _-_, _≤_, _<_}
 use native.Mathlib.Omega.{arith}
-use lib.ListN.{length}
+use lib.Dec.{eqb}
 use Rattle.wire.specs.Lists.{those}
 use Rattle.wire.proofs.ListLaws.{map-append}
 use Rattle.engine_value.specs.Engine.{Route, progress}
@@ -33,7 +33,7 @@ tail-same e = cc
 head-same : {A : Type 0} {x y : A} {l m : List A} → x ∷ l ≡ y ∷ m → x ≡ y
 head-same e = cc
 
-not-empty : {A : Type 0} (a b : List A) (t : A) → [] ≡ a ++ (t ∷ b) → ⊥
+pub not-empty : {A : Type 0} (a b : List A) (t : A) → [] ≡ a ++ (t ∷ b) → ⊥
 not-empty [] b t e = zero-one (cc)
 not-empty (x ∷ a) b t e = zero-one (cc)
 
@@ -49,7 +49,7 @@ parted {A} (z ∷ l) (y ∷ a) b x t e = go (parted l a b x t (tail-same e))
     go (inl (p, q, r)) = inl (ap (λ (m : List A). z ∷ m) p ∙ ap (λ w. w ∷ a) (head-same e), q, r)
     go (inr (c, p, q)) = inr (c, ap (λ (m : List A). z ∷ m) p ∙ ap (λ w. w ∷ (a ++ (t ∷ c))) (head-same e), q)
 
-last-is : (b : Bool) (l : List Told) (t : Told) → lastStops b (l ++ (t ∷ [])) ≡ stops t
+pub last-is : (b : Bool) (l : List Told) (t : Told) → lastStops b (l ++ (t ∷ [])) ≡ stops t
 unfolding lastStops
 last-is b [] t = refl
 last-is b (x ∷ l) t = last-is (stops x) l t
@@ -69,10 +69,16 @@ module _ (j : Route) where
   abbrev pub Departures : List Told → Type 0
   Departures told = (before : List Told) (t : Told) (after : List Told) → told ≡ before ++ (t ∷ after) → t .status ≡ statusDeparted → StoppedBefore before (t .name)
 
+  -- behind a 1 stands nothing, or first a 2
+  abbrev pub Follows : List Told → Type 0
+  Follows told = (before : List Told) (t : Told) (after : List Told) → told ≡ before ++ (t ∷ after) → t .status ≡ statusStopped
+      → (after ≡ []) ⊎ ((s : Told) × (rest : List Told) × (after ≡ s ∷ rest) × (s .status ≡ statusDeparted))
+
   pub record Story (start : ℕ) (p : Progress) (told : List Told) : Type 0 where
     pub low : start ≤ p .next
     pub names : namesIn (those passes told) ≡ map (nameOf j) (numbers start (p .next - start))
     pub departures : Departures told
+    pub follows : Follows told
     pub resting : p .reached ≡ true → (earlier : List Told) × (told ≡ earlier ++ (tell (p .next) statusStopped ∷ []))
     pub last : lastStops false told ≡ p .reached
 
@@ -84,6 +90,7 @@ module _ (j : Route) where
         low = omega arith;
         names = sym (ap (λ n. map (nameOf j) (numbers start n)) z);
         departures = λ before t after e s. absurd (not-empty before after t e);
+        follows = λ before t after e s. absurd (not-empty before after t e);
         resting = λ e. absurd (false≢true e);
         last = refl;
       }
@@ -96,6 +103,22 @@ module _ (j : Route) where
         go : ((told ≡ before) × (t ≡ s) × (after ≡ [])) ⊎ ((c : List Told) × (told ≡ before ++ (s ∷ c)) × (after ≡ c ++ (t ∷ []))) → StoppedBefore before (s .name)
         go (inl (a, b, c)) = absurd (n (ap (λ (x : Told). x .status) b ∙ q))
         go (inr (c, a, b)) = d before s c a q
+
+    one-follows : (t : Told) → (lastStops false told ≡ true → t .status ≡ statusDeparted) → Follows told → Follows (told ++ (t ∷ []))
+    one-follows t d f before s after e q = go (parted told before after t s e)
+      where
+        Then : List Told → Type 0
+        Then l = (l ≡ []) ⊎ ((x : Told) × (rest : List Told) × (l ≡ x ∷ rest) × (x .status ≡ statusDeparted))
+
+        further : (c : List Told) → told ≡ before ++ (s ∷ c) → Then c → Then (c ++ (t ∷ []))
+        further c a (inl z) =
+            let stands : lastStops false told ≡ true = ap (lastStops false) (a ∙ ap (λ (l : List Told). before ++ (s ∷ l)) z) ∙ last-is false before s ∙ ap (λ n. eqb n statusStopped) q in
+            inr (t, [], ap (λ (l : List Told). l ++ (t ∷ [])) z, d stands)
+        further c a (inr (x, rest, z, w)) = inr (x, rest ++ (t ∷ []), ap (λ (l : List Told). l ++ (t ∷ [])) z, w)
+
+        go : ((told ≡ before) × (t ≡ s) × (after ≡ [])) ⊎ ((c : List Told) × (told ≡ before ++ (s ∷ c)) × (after ≡ c ++ (t ∷ []))) → Then after
+        go (inl (a, b, c)) = inl c
+        go (inr (c, a, b)) = subst Then (sym b) (further c a (f before s c a q))
 
     one-more : start ≤ k → map (nameOf j) (numbers start (k - start)) ++ (nameOf j k ∷ []) ≡ map (nameOf j) (numbers start (k + 1 - start))
     unfolding numbers
@@ -115,6 +138,7 @@ module _ (j : Route) where
       low = omega (arith, s .low);
       names = names-more (tell k statusPassed) refl ∙ ap (λ (l : List Name). l ++ (nameOf j k ∷ [])) (s .names) ∙ one-more (s .low);
       departures = no-departure (tell k statusPassed) (λ e. omega arith) (s .departures);
+      follows = one-follows (tell k statusPassed) (λ e. absurd (false≢true (sym (s .last) ∙ e))) (s .follows);
       resting = λ e. absurd (false≢true e);
       last = last-is false told (tell k statusPassed);
     }
@@ -124,6 +148,7 @@ module _ (j : Route) where
       low = s .low;
       names = ap namesIn (those-append passes told (tell k statusStopped ∷ [])) ∙ ap namesIn (append-nil (those passes told)) ∙ s .names;
       departures = no-departure (tell k statusStopped) (λ e. omega arith) (s .departures);
+      follows = one-follows (tell k statusStopped) (λ e. absurd (false≢true (sym (s .last) ∙ e))) (s .follows);
       resting = λ e. (told, refl);
       last = last-is false told (tell k statusStopped);
     }
@@ -132,6 +157,7 @@ module _ (j : Route) where
     departing s = record {
       low = omega (arith, s .low);
       names = names-more (tell k statusDeparted) refl ∙ ap (λ (l : List Name). l ++ (nameOf j k ∷ [])) (s .names) ∙ one-more (s .low);
+      follows = one-follows (tell k statusDeparted) (λ e. refl) (s .follows);
       departures = λ before t after e q. go before t after q (parted told before after (tell k statusDeparted) t e);
       resting = λ e. absurd (false≢true e);
       last = last-is false told (tell k statusDeparted);
