@@ -5,3 +5,4 @@ pub mod Packets
 pub mod Calls
 pub mod Names
 pub mod ToldOnce
+pub mod Example

@@ -9,7 +9,7 @@ use Rattle.wire.specs.Judged.Judged.{accept}
 use Rattle.engine_value.specs.Engine.{Route}
 use Rattle.engine_value.specs.declared.Position.{Position}
 use Rattle.journey.specs.declared.Head.{Head}
-use Rattle.packets.specs.Packets.{packetBytes, packetOf}
+use Rattle.packets.specs.Packets.{packetOf}
 use Rattle.packets.specs.declared.Packet.{Packet}
 use Rattle.packets.proofs.RoundTrips.{read-written}
 use Rattle.timing.specs.Changes.{Change, when}

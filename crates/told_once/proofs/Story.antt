@@ -3,7 +3,7 @@ use mathlib.Core.Path.{_≡_, refl, sym, _∙_, ap, subst}
 use mathlib.Core.Logic.{_⊎_, inl, inr}
 use mathlib.Core.Bool.{Bool, true, false, cond, false≢true}
 use mathlib.Core.List.{List, [], _∷_, _++_, map, append-nil}
-use Prim.Native.Nat.{ℕ, zero, suc, _+_, _-_, _≤_, _<_}
+use Prim.Native.Nat.{ℕ, zero, suc, _+_, _-_, _≤_}
 use native.Mathlib.Omega.{arith}
 use lib.Dec.{eqb}
 use Rattle.wire.specs.Lists.{those}
@@ -11,7 +11,7 @@ use Rattle.wire.proofs.ListLaws.{map-append}
 use Rattle.engine_value.specs.Engine.{Route, progress}
 use Rattle.engine_value.specs.declared.Progress.{Progress}
 use Rattle.timing.specs.Changes.{statusPassed, statusStopped, statusDeparted}
-use Rattle.told_once.specs.Recording.{Name, Told, stops, departs, passes}
+use Rattle.told_once.specs.Recording.{Name, Told, stops, passes}
 use Rattle.told_once.specs.ToldOnce.{nameOf, namesIn, StoppedBefore, lastStops}
 
 zero-one : _≡_ {A = ℕ} 0 1 → ⊥

@@ -1,13 +1,13 @@
 -- TOLD ONCE, IN ORDER, for every list of calls.
-use mathlib.Core.Path.{_≡_, refl, sym, _∙_, ap, subst}
-use mathlib.Core.Logic.{_⊎_, _↔_, inl, inr}
+use mathlib.Core.Path.{_≡_, refl, sym, _∙_, ap}
+use mathlib.Core.Logic.{_⊎_, inl, inr}
 use mathlib.Core.Bool.{Bool, true, false, cond, _&&_, false≢true}
 use mathlib.Core.List.{List, [], _∷_, _++_, map, append-nil}
 use Prim.Native.Nat.{ℕ, zero, suc, _+_, _-_, min, _≤_, _<_}
 use native.Mathlib.Omega.{arith}
 use lib.Dec.{eqb, ltb, leb}
 use lib.ListN.{length}
-use borrow.Author.Tests.{lt-ltb, le-ltb, ltb-true, ltb-false, le-leb, leb-true, leb-false, eqb-true, eqb-false, lt-leb}
+use borrow.Author.Tests.{ltb-true, ltb-false, leb-true, leb-false, eqb-true}
 use Rattle.wire.specs.Numbers.{if_then_else_}
 use Rattle.wire.specs.Lists.{any, those, tabulate}
 use Rattle.wire.proofs.ListLaws.{or-false, tabulate-more}
@@ -20,14 +20,14 @@ use Rattle.position.specs.declared.Standing.the-variants.{Unused, Targeted, Rea
 use Rattle.timing.specs.Changes.{statusStopped, statusDeparted}
 use Rattle.call.specs.Call.{Call}
 use Rattle.whole_list.specs.Values.{History, routeBy, behindAtLoad}
-use Rattle.whole_list.specs.Rules.{StandsBy, standingBy}
+use Rattle.whole_list.specs.Rules.{StandsBy}
 use Rattle.whole_list.specs.Calls.{historyOf}
 use Rattle.whole_list.proofs.Fields.{progressRun, in-range, stands-at}
 use Rattle.whole_list.proofs.TableChanges.{standing-reached}
 use Rattle.whole_list.proofs.Engaged.{stands-exactly}
-use Rattle.told_once.specs.Recording.{Name, Told, stops, departs, passes}
-use Rattle.told_once.specs.ToldOnce.{nameOf, namesIn, indices, passedSince, StoppedLast, lastStops, standingTold, ToldOnce, InOrder}
-use Rattle.told_once.proofs.Story.{those-append, not-empty, parted, last-is, numbers, tell, Story}
+use Rattle.told_once.specs.Recording.{Name, Told, departs, passes}
+use Rattle.told_once.specs.ToldOnce.{nameOf, indices, passedSince, StoppedLast, lastStops, standingTold, ToldOnce, InOrder}
+use Rattle.told_once.proofs.Story.{those-append, not-empty, parted, last-is, numbers, tell}
 use Rattle.told_once.proofs.Calls.{StoryBy, story}
 use Rattle.told_once.proofs.Names.{one-point}
 
