@@ -1,11 +1,10 @@
 -- The story goes on through every list of calls.
 use mathlib.Core.Path.{_≡_, refl, sym, _∙_, ap, subst}
-use mathlib.Core.Bool.{Bool, true, false}
-use mathlib.Core.List.{List, [], _∷_, _++_, map, append-nil}
+use mathlib.Core.Bool.{false}
+use mathlib.Core.List.{List, [], _∷_, _++_, append-nil}
 use Prim.Native.Nat.{ℕ}
 use Rattle.wire.specs.Judged.{Judged}
 use Rattle.wire.specs.Judged.Judged.{refuse, accept}
-use Rattle.wire.specs.Lists.{those}
 use Rattle.engine_value.specs.Engine.{Route, fresh, progress}
 use Rattle.engine_value.specs.declared.Engine.{Engine}
 use Rattle.engine_value.specs.declared.Position.{Position}
@@ -13,26 +12,22 @@ use Rattle.engine_value.specs.declared.Progress.{Progress}
 use Rattle.event.specs.declared.Event.the-variants.{PositionReport}
 use Rattle.event.specs.Kinds.{Role, off, load, report, other, skip}
 use Rattle.event.proofs.Known.{OfRole, known}
-use Rattle.position.specs.Skips.{stopNamed}
-use Rattle.position.specs.declared.Found.{Found}
-use Rattle.position.specs.declared.Found.the-variants.{At, Nothing}
 use Rattle.timing.specs.Report.{run}
-use Rattle.timing.specs.Changes.{reportChanges}
 use Rattle.call.specs.Call.{Call, Outcome, outcomeOf, stepOf}
 use Rattle.whole_list.specs.Values.{History, eventOfCall, roleOfCall, routeBy, reportAt, reportsSince, behindAtLoad}
-use Rattle.whole_list.specs.Table.{skipChange, changesBy, progressBy, packetsBy, tableBy}
+use Rattle.whole_list.specs.Table.{packetsBy, tableBy}
 use Rattle.whole_list.specs.Calls.{play, trace, withAccepted, acceptedIn, historyOf}
 use Rattle.whole_list.specs.Recorded.{packetsAfter}
 use Rattle.whole_list.specs.WholeList.{bytesOfEach}
 use Rattle.whole_list.proofs.Recorded.{memory-read}
 use Rattle.whole_list.proofs.Fields.{progressRun, engineOf, in-range}
-use Rattle.whole_list.proofs.FieldsStep.{route-kept, report-is, progress-new, changes-is}
+use Rattle.whole_list.proofs.FieldsStep.{route-kept, progress-new}
 use Rattle.whole_list.proofs.WholeList.{outcomeBy, outcome-is, kept}
 use Rattle.told_once.specs.Recording.{Told, goesOn, goesOnIf, recordingFrom, toldIn}
 use Rattle.told_once.specs.ToldOnce.{toldSince}
 use Rattle.told_once.proofs.Story.{Story, begins}
-use Rattle.told_once.proofs.Reports.{counts, marked, reporting, all-count}
-use Rattle.told_once.proofs.Packets.{told-append, call-tells}
+use Rattle.told_once.proofs.Reports.{reporting}
+use Rattle.told_once.proofs.Packets.{told-append, report-tells, quiet}
 
 -- ---- one accepted call
 
@@ -47,10 +42,13 @@ module _ (h : History) (c : Call) where
   -- with no report since, the story begins
   anew : reportsSince (c ∷ h) ≡ [] → StoryBy (c ∷ h) []
   unfolding progressRun run
-  anew e = moved refl refl (sym (ap (run (routeBy (c ∷ h)) (progress (behindAtLoad (c ∷ h)) false)) e)) refl (begins (routeBy (c ∷ h)) (behindAtLoad (c ∷ h)))
+  anew e =
+      moved refl refl (sym (ap (run (routeBy (c ∷ h)) (progress (behindAtLoad (c ∷ h)) false)) e)) refl
+      (begins (routeBy (c ∷ h)) (behindAtLoad (c ∷ h)))
 
   -- the points stand as they did, and nothing is told
-  goes-on : routeBy (c ∷ h) ≡ routeBy h → behindAtLoad (c ∷ h) ≡ behindAtLoad h → reportsSince (c ∷ h) ≡ reportsSince h → (told : List Told) → StoryBy h told → StoryBy (c ∷ h) told
+  goes-on : routeBy (c ∷ h) ≡ routeBy h → behindAtLoad (c ∷ h) ≡ behindAtLoad h → reportsSince (c ∷ h) ≡ reportsSince h
+      → (told : List Told) → StoryBy h told → StoryBy (c ∷ h) told
   unfolding progressRun
   goes-on a b d told s =
       moved (sym a) (sym b)
@@ -60,53 +58,34 @@ module _ (h : History) (c : Call) where
 
   reports-on : (x : Position) → eventOfCall c ≡ PositionReport x → behindAtLoad (c ∷ h) ≡ behindAtLoad h → (told : List Told) → StoryBy h told
       → StoryBy (c ∷ h) (told ++ toldIn (bytesOfEach (packetsBy h c)))
-  unfolding changesBy
   reports-on x e b told s =
-      let j = routeBy h in
-      let r = reportAt (c ∷ h) in
-      let p = progressRun h in
-      let by-steps : changesBy h c ≡ reportChanges j r p = rw (e, changesBy) (changes-is c h x e) ∙ ap (λ y. reportChanges j y p) (sym (report-is c h x e)) in
-      let tells : toldIn (bytesOfEach (packetsBy h c)) ≡ map (marked j) (reportChanges j r p) =
-      call-tells h c ∙ ap (λ i. those counts (map (marked i) (changesBy h c))) (route-kept c h x e)
-      ∙ ap (λ l. those counts (map (marked j) l)) by-steps ∙ all-count j r p in
-      moved (sym (route-kept c h x e)) (sym b) (sym (progress-new c h x e)) (ap (λ (l : List Told). told ++ l) (sym tells))
-      (reporting j (behindAtLoad h) r p (in-range h) told s)
+      moved (sym (route-kept c h x e)) (sym b) (sym (progress-new c h x e)) (ap (λ (l : List Told). told ++ l) (sym (report-tells h c x e)))
+      (reporting (routeBy h) (behindAtLoad h) (reportAt (c ∷ h)) (progressRun h) (in-range h) told s)
 
-skip-tells : (j : Route) (f : Found) (on : Bool) (p : Progress) → those counts (map (marked j) (skipChange f on p)) ≡ []
-skip-tells j Nothing on p = refl
-skip-tells j (At k) true p = refl
-skip-tells j (At k) false p = refl
-
-after-call : (h : History) (c : Call) (l : List (List ℕ)) → StoryBy h (toldIn l) → StoryBy (c ∷ h) (toldIn (goesOn (roleOfCall c) l (bytesOfEach (packetsBy h c))))
-unfolding routeBy behindAtLoad reportsSince changesBy toldIn
+after-call : (h : History) (c : Call) (l : List (List ℕ)) → StoryBy h (toldIn l)
+    → StoryBy (c ∷ h) (toldIn (goesOn (roleOfCall c) l (bytesOfEach (packetsBy h c))))
+unfolding routeBy behindAtLoad reportsSince toldIn
 after-call h c l s = go (roleOfCall c) refl (known (eventOfCall c) .role)
   where
     written : List (List ℕ)
     written = bytesOfEach (packetsBy h c)
 
-    none-told : changesBy h c ≡ [] → toldIn written ≡ []
-    none-told e = call-tells h c ∙ ap (λ d. those counts (map (marked (routeBy (c ∷ h))) d)) e
-
     as-told : (r : Role) → roleOfCall c ≡ r → StoryBy (c ∷ h) (toldIn (goesOn r l written)) → StoryBy (c ∷ h) (toldIn (goesOn (roleOfCall c) l written))
     as-told r q t = subst (λ x. StoryBy (c ∷ h) (toldIn (goesOn x l written))) (sym q) t
 
-    nothing-more : toldIn written ≡ [] → toldIn l ≡ toldIn (l ++ written)
-    nothing-more e = sym (told-append l written ∙ ap (λ (m : List Told). toldIn l ++ m) e ∙ append-nil (toldIn l))
+    nothing-more : toldIn written ≡ [] → StoryBy (c ∷ h) (toldIn l) → StoryBy (c ∷ h) (toldIn (l ++ written))
+    nothing-more e t =
+        moved refl refl refl (sym (told-append l written ∙ ap (λ (m : List Told). toldIn l ++ m) e ∙ append-nil (toldIn l))) t
 
     go : (r : Role) → roleOfCall c ≡ r → OfRole r (eventOfCall c) → StoryBy (c ∷ h) (toldIn (goesOn (roleOfCall c) l written))
     go off q k = as-told off q (anew h c (rw (q, reportsSince)))
-    go load q k = as-told load q (moved refl refl refl (sym (none-told (rw (q, changesBy)))) (anew h c (rw (q, reportsSince))))
-    go report q (x, e) =
-        as-told report q (moved refl refl refl (sym (told-append l written)) (reports-on h c x e (rw (q, behindAtLoad)) (toldIn l) s))
+    go load q k = as-told load q (moved refl refl refl (sym (quiet h c load q tt)) (anew h c (rw (q, reportsSince))))
+    go report q (x, e) = as-told report q (moved refl refl refl (sym (told-append l written)) (reports-on h c x e (rw (q, behindAtLoad)) (toldIn l) s))
     go other q k =
-        as-told other q (moved refl refl refl (nothing-more (none-told (rw (q, changesBy))))
-        (goes-on h c (rw (q, routeBy)) (rw (q, behindAtLoad)) (rw (q, reportsSince)) (toldIn l) s))
+        as-told other q (nothing-more (quiet h c other q tt) (goes-on h c (rw (q, routeBy)) (rw (q, behindAtLoad)) (rw (q, reportsSince)) (toldIn l) s))
     go (skip t on) q k =
-        let by : changesBy h c ≡ skipChange (stopNamed (routeBy h) t) on (progressBy h) = rw (q, changesBy) in
-        let none : toldIn written ≡ [] =
-        call-tells h c ∙ ap (λ d. those counts (map (marked (routeBy (c ∷ h))) d)) by ∙ skip-tells (routeBy (c ∷ h)) (stopNamed (routeBy h) t) on (progressBy h) in
-        as-told (skip t on) q (moved refl refl refl (nothing-more none)
-        (goes-on h c (rw (q, routeBy)) (rw (q, behindAtLoad)) (rw (q, reportsSince)) (toldIn l) s))
+        as-told (skip t on) q
+        (nothing-more (quiet h c (skip t on) q tt) (goes-on h c (rw (q, routeBy)) (rw (q, behindAtLoad)) (rw (q, reportsSince)) (toldIn l) s))
 
 -- ---- a list of calls
 

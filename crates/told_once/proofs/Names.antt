@@ -70,7 +70,8 @@ checked-once book j v = go (ten j) (eleven book j) refl (twelve (pointsOf book j
     go false false q false e = (cc, tells q)
 
 -- the points of a load bear the journey's NID_TPs
-nidtp-at : (book : List BookSegment) (names : List journeyName.Name) (ps : List JourneyPoint) (k : ℕ) → getD (map (pointAt book names) ps) k blankPoint .nidtp ≡ getD (nidtps ps) k 0
+nidtp-at : (book : List BookSegment) (names : List journeyName.Name) (ps : List JourneyPoint) (k : ℕ)
+    → getD (map (pointAt book names) ps) k blankPoint .nidtp ≡ getD (nidtps ps) k 0
 unfolding pointOf
 nidtp-at book names [] k = refl
 nidtp-at book names (p ∷ ps) zero = refl
@@ -89,13 +90,15 @@ value-once book j few e i k a b q =
     once (nidtps (j .points)) i k e (omega (arith, nidtps-length (j .points))) (omega (arith, nidtps-length (j .points))) (sym (at i) ∙ q ∙ at k)
   where
     at : (k : ℕ) → point (routeOf book j) k .nidtp ≡ getD (nidtps (j .points)) k 0
-    at k = ap (λ p. p .nidtp) (filled-at blankPoint 64 (pointsOf book j) k (omega (arith, points-length book j))) ∙ nidtp-at book (j .names) (j .points) k
+    at k =
+        ap (λ p. p .nidtp) (filled-at blankPoint 64 (pointsOf book j) k (omega (arith, points-length book j))) ∙ nidtp-at book (j .names) (j .points) k
 
 load-once : (journey bytes : List ℕ) (v : LoadValue) → loadOf journey bytes ≡ accept v → Distinct (v .route)
 unfolding loadOf journeyOf routeOf
 load-once journey bytes v read = go (bookOf bytes) (journeyValue journey) read
   where
-    distinct : (book : List BookSegment) (j : JourneyValue) → (q : Judged JourneyValue) → checked book j ≡ q → thenJudge q (λ j. accept (loadValue book j)) ≡ accept v → Distinct (v .route)
+    distinct : (book : List BookSegment) (j : JourneyValue) → (q : Judged JourneyValue) → checked book j ≡ q
+        → thenJudge q (λ j. accept (loadValue book j)) ≡ accept v → Distinct (v .route)
     distinct book j (refuse n) p e = absurd (zero-one (cc))
     distinct book j (accept w) p e =
         let c = checked-once book j w p in
@@ -103,7 +106,8 @@ load-once journey bytes v read = go (bookOf bytes) (journeyValue journey) read
         let few : length (w .points) ≤ 64 = rw (← same) at (load-fits journey bytes v read .most-points) in
         subst (λ (x : LoadValue). Distinct (x .route)) same (value-once book w few (rw (c .0) at (c .1)))
 
-    go : (b : Judged (List BookSegment)) (q : Judged JourneyValue) → thenJudge b (λ book. thenJudge (thenJudge q (checked book)) (λ j. accept (loadValue book j))) ≡ accept v → Distinct (v .route)
+    go : (b : Judged (List BookSegment)) (q : Judged JourneyValue)
+        → thenJudge b (λ book. thenJudge (thenJudge q (checked book)) (λ j. accept (loadValue book j))) ≡ accept v → Distinct (v .route)
     go (refuse n) q e = absurd (zero-one (cc))
     go (accept book) (refuse n) e = absurd (zero-one (cc))
     go (accept book) (accept j) e = distinct book j (checked book j) refl e
@@ -131,7 +135,13 @@ one-point (c ∷ h) = go (roleOfCall c) (one-point h)
     by (some l) e d = load-of c l e
 
     go : (r : Role) → Distinct (routeBy h)
-        → Distinct (elim r [ off ↦ noRoute | load ↦ routeLoaded (loadOfCall c) (routeBy h) | report ↦ routeBy h | other ↦ routeBy h | skip t on ↦ routeBy h ])
+        → Distinct (elim r [
+          | off ↦ noRoute
+          | load ↦ routeLoaded (loadOfCall c) (routeBy h)
+          | report ↦ routeBy h
+          | other ↦ routeBy h
+          | skip t on ↦ routeBy h
+        ])
     go off d = none-loaded
     go load d = by (loadOfCall c) refl d
     go report d = d

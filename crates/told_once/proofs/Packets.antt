@@ -1,4 +1,4 @@
--- What the packets of one call tell: the points that the call changes, each by its index and status.
+-- What the packets of one call tell: a position report the points that it changes, each by its index and status; any other event nothing.
 use mathlib.Core.Path.{_≡_, refl, sym, _∙_, ap}
 use mathlib.Core.Bool.{Bool, true, false, cond}
 use mathlib.Core.List.{List, [], _∷_, _++_, map, append-nil, append-assoc}
@@ -8,24 +8,33 @@ use Rattle.wire.specs.Lists.{All, those}
 use Rattle.wire.specs.Judged.Judged.{accept}
 use Rattle.engine_value.specs.Engine.{Route}
 use Rattle.engine_value.specs.declared.Position.{Position}
+use Rattle.engine_value.specs.declared.Progress.{Progress}
+use Rattle.event.specs.declared.Event.the-variants.{PositionReport}
+use Rattle.event.specs.Kinds.{Role, off, load, report, other, skip}
 use Rattle.journey.specs.declared.Head.{Head}
 use Rattle.packets.specs.Packets.{packetOf}
 use Rattle.packets.specs.declared.Packet.{Packet}
 use Rattle.packets.proofs.RoundTrips.{read-written}
-use Rattle.timing.specs.Changes.{Change, when}
+use Rattle.position.specs.Skips.{stopNamed}
+use Rattle.position.specs.declared.Found.{Found}
+use Rattle.position.specs.declared.Found.the-variants.{At, Nothing}
+use Rattle.timing.specs.Changes.{Change, when, reportChanges}
 use Rattle.call.specs.Call.{Call}
 use Rattle.call.specs.Packets.{timingPoint, jpReceived, atoStatus, statusDue, received, packetsOf}
-use Rattle.whole_list.specs.Values.{History, positionBy, routeBy}
-use Rattle.whole_list.specs.Table.{changesBy, headOfCall, ownBy, statusBy, packetsBy}
+use Rattle.whole_list.specs.Values.{History, eventOfCall, roleOfCall, positionBy, routeBy, reportAt}
+use Rattle.whole_list.specs.Table.{skipChange, changesBy, headOfCall, ownBy, statusBy, progressBy, packetsBy}
 use Rattle.whole_list.specs.WholeList.{bytesOfEach}
 use Rattle.whole_list.proofs.Readable.{Fits, packets-fit}
+use Rattle.whole_list.proofs.Fields.{progressRun}
+use Rattle.whole_list.proofs.FieldsStep.{route-kept, report-is, changes-is}
 use Rattle.told_once.specs.Recording.{Told, toldBy, toldIn}
-use Rattle.told_once.proofs.Reports.{counts, marked}
+use Rattle.told_once.proofs.Reports.{counts, marked, all-count}
 
 pub told-append : (a b : List (List ℕ)) → toldIn (a ++ b) ≡ toldIn a ++ toldIn b
 unfolding toldIn
 told-append [] b = refl
-told-append (p ∷ a) b = ap (λ (l : List Told). toldBy (packetOf p) ++ l) (told-append a b) ∙ sym (append-assoc (toldBy (packetOf p)) (toldIn a) (toldIn b))
+told-append (p ∷ a) b =
+    ap (λ (l : List Told). toldBy (packetOf p) ++ l) (told-append a b) ∙ sym (append-assoc (toldBy (packetOf p)) (toldIn a) (toldIn b))
 
 -- ---- packets that are read back
 
@@ -36,7 +45,8 @@ toldOfEach (p ∷ l) = toldBy (accept p) ++ toldOfEach l
 each-append : (a b : List Packet) → toldOfEach (a ++ b) ≡ toldOfEach a ++ toldOfEach b
 unfolding toldOfEach
 each-append [] b = refl
-each-append (p ∷ a) b = ap (λ (l : List Told). toldBy (accept p) ++ l) (each-append a b) ∙ sym (append-assoc (toldBy (accept p)) (toldOfEach a) (toldOfEach b))
+each-append (p ∷ a) b =
+    ap (λ (l : List Told). toldBy (accept p) ++ l) (each-append a b) ∙ sym (append-assoc (toldBy (accept p)) (toldOfEach a) (toldOfEach b))
 
 read-back : (l : List Packet) → All Fits l → toldIn (bytesOfEach l) ≡ toldOfEach l
 unfolding toldIn toldOfEach
@@ -64,12 +74,13 @@ module _ (j : Route) (x : Position) where
   of-62 (c ∷ l) = go (counts (marked j c)) (of-62 l)
     where
       go : (b : Bool) → toldOfEach (map (timingPoint j x) l) ≡ those counts (map (marked j) l)
-          → when b (marked j c) ++ toldOfEach (map (timingPoint j x) l) ≡ cond b (marked j c ∷ those counts (map (marked j) l)) (those counts (map (marked j) l))
+          → when b (marked j c) ++ toldOfEach (map (timingPoint j x) l)
+          ≡ cond b (marked j c ∷ those counts (map (marked j) l)) (those counts (map (marked j) l))
       go true e = ap (λ (m : List Told). marked j c ∷ m) e
       go false e = e
 
 -- the packets 62 that a call writes, by index and status of the points that it changes
-pub call-tells : (h : History) (c : Call) → toldIn (bytesOfEach (packetsBy h c)) ≡ those counts (map (marked (routeBy (c ∷ h))) (changesBy h c))
+call-tells : (h : History) (c : Call) → toldIn (bytesOfEach (packetsBy h c)) ≡ those counts (map (marked (routeBy (c ∷ h))) (changesBy h c))
 unfolding packetsBy packetsOf toldOfEach
 call-tells h c =
     let j = routeBy (c ∷ h) in
@@ -81,6 +92,51 @@ call-tells h c =
     ∙ each-append (received j x (headOfCall c)) (points ++ (ownBy h c ++ last))
     ∙ ap (λ (l : List Told). l ++ toldOfEach (points ++ (ownBy h c ++ last))) (of-65 j x (headOfCall c))
     ∙ each-append points (ownBy h c ++ last)
-    ∙ ap (λ (l : List Told). toldOfEach points ++ l) (each-append (ownBy h c) last ∙ of-68 j x (statusDue (statusBy h) after) (after .state) (after .conditions))
+    ∙ ap (λ (l : List Told). toldOfEach points ++ l)
+    (each-append (ownBy h c) last ∙ of-68 j x (statusDue (statusBy h) after) (after .state) (after .conditions))
     ∙ append-nil (toldOfEach points)
     ∙ of-62 j x (changesBy h c)
+
+-- ---- by kind
+
+-- a position report: what its steps change
+pub report-tells : (h : History) (c : Call) (x : Position) → eventOfCall c ≡ PositionReport x
+    → toldIn (bytesOfEach (packetsBy h c)) ≡ map (marked (routeBy h)) (reportChanges (routeBy h) (reportAt (c ∷ h)) (progressRun h))
+unfolding changesBy
+report-tells h c x e =
+    let j = routeBy h in
+    let r = reportAt (c ∷ h) in
+    let p = progressRun h in
+    let by-steps : changesBy h c ≡ reportChanges j r p =
+    rw (e, changesBy) (changes-is c h x e) ∙ ap (λ y. reportChanges j y p) (sym (report-is c h x e)) in
+    call-tells h c
+    ∙ ap (λ i. those counts (map (marked i) (changesBy h c))) (route-kept c h x e)
+    ∙ ap (λ l. those counts (map (marked j) l)) by-steps
+    ∙ all-count j r p
+
+abbrev pub Quiet : Role → Type 0
+Quiet off = Unit {0}
+Quiet load = Unit {0}
+Quiet report = ⊥
+Quiet other = Unit {0}
+Quiet (skip t on) = Unit {0}
+
+-- any other event: a driver skip writes 5 or 6
+pub quiet : (h : History) (c : Call) (r : Role) → roleOfCall c ≡ r → Quiet r → toldIn (bytesOfEach (packetsBy h c)) ≡ []
+unfolding changesBy
+quiet h c r q n = call-tells h c ∙ go r q n
+  where
+    j : Route
+    j = routeBy (c ∷ h)
+
+    skipped : (f : Found) (on : Bool) (p : Progress) → those counts (map (marked j) (skipChange f on p)) ≡ []
+    skipped Nothing on p = refl
+    skipped (At k) true p = refl
+    skipped (At k) false p = refl
+
+    go : (r : Role) → roleOfCall c ≡ r → Quiet r → those counts (map (marked j) (changesBy h c)) ≡ []
+    go off q n = rw (q, changesBy)
+    go load q n = rw (q, changesBy)
+    go report q n = absurd n
+    go other q n = rw (q, changesBy)
+    go (skip t on) q n = rw (q, changesBy) (skipped (stopNamed (routeBy h) t) on (progressBy h))

@@ -29,7 +29,8 @@ module _ (j : Route) (start : ℕ) where
   story-of {q = q} {l = l} e f s = subst (Story j start q) f (subst (λ x. Story j start x l) e s)
 
   -- the n points from k on pass
-  passing-all : (n k : ℕ) (told : List Told) → Story j start (progress k false) told → Story j start (progress (k + n) false) (told ++ map (marked j) (passings n k))
+  passing-all : (n k : ℕ) (told : List Told)
+      → Story j start (progress k false) told → Story j start (progress (k + n) false) (told ++ map (marked j) (passings n k))
   unfolding passings
   passing-all zero k told s = let z : k ≡ k + 0 = omega arith in story-of (ap (λ n. progress n false) z) (sym (append-nil told)) s
   passing-all (suc n) k told s =
@@ -40,7 +41,8 @@ module _ (j : Route) (start : ℕ) where
   abbrev on : ℕ → Progress → List Change
   on f q = passings (q .next - f) f ++ when (q .reached) (change (q .next) statusStopped q)
 
-  looking : (f : ℕ) (q : Progress) (told : List Told) → f ≤ q .next → Story j start (progress f false) told → Story j start q (told ++ map (marked j) (on f q))
+  looking : (f : ℕ) (q : Progress) (told : List Told)
+      → f ≤ q .next → Story j start (progress f false) told → Story j start q (told ++ map (marked j) (on f q))
   looking f q told l s =
       let z : f + (q .next - f) ≡ q .next = omega arith in
       go _ refl (story-of (ap (λ n. progress n false) z) refl (passing-all (q .next - f) f told s))
@@ -49,12 +51,14 @@ module _ (j : Route) (start : ℕ) where
       among = map (marked j) (passings (q .next - f) f)
 
       parts : (l : List Change) → told ++ map (marked j) (passings (q .next - f) f ++ l) ≡ (told ++ among) ++ map (marked j) l
-      parts l = ap (λ (m : List Told). told ++ m) (map-append (marked j) (passings (q .next - f) f) l) ∙ sym (append-assoc told among (map (marked j) l))
+      parts l =
+          ap (λ (m : List Told). told ++ m) (map-append (marked j) (passings (q .next - f) f) l) ∙ sym (append-assoc told among (map (marked j) l))
 
       go : (b : Bool) → q .reached ≡ b → Story j start (progress (q .next) false) (told ++ among) → Story j start q (told ++ map (marked j) (on f q))
       go false e t =
           story-of (λ i. record { next = q .next; reached = sym e i })
-          (sym (ap (λ b. told ++ map (marked j) (passings (q .next - f) f ++ when b (change (q .next) statusStopped q))) e ∙ parts [] ∙ append-nil (told ++ among))) t
+          (sym (ap (λ b. told ++ map (marked j) (passings (q .next - f) f ++ when b (change (q .next) statusStopped q))) e
+          ∙ parts [] ∙ append-nil (told ++ among))) t
       go true e t =
           story-of (λ i. record { next = q .next; reached = sym e i })
           (sym (ap (λ b. told ++ map (marked j) (passings (q .next - f) f ++ when b (change (q .next) statusStopped q))) e ∙ parts _))
@@ -64,9 +68,11 @@ module _ (j : Route) (start : ℕ) where
     -- what a report changes, with what decides it
     abbrev by : Bool → ℕ → Bool → Progress → List Change
     by departed f reached q =
-        when departed (change (p .next) statusDeparted (progress f false)) ++ (passings (q .next - f) f ++ when reached (change (q .next) statusStopped q))
+        when departed (change (p .next) statusDeparted (progress f false))
+        ++ (passings (q .next - f) f ++ when reached (change (q .next) statusStopped q))
 
-    changes-by : (departed : Bool) (f : ℕ) (reached : Bool) (q : Progress) → departs r p ≡ departed → firstLooked r p ≡ f → becameReached j r p ≡ reached → reported j r p ≡ q
+    changes-by : (departed : Bool) (f : ℕ) (reached : Bool) (q : Progress)
+        → departs r p ≡ departed → firstLooked r p ≡ f → becameReached j r p ≡ reached → reported j r p ≡ q
         → reportChanges j r p ≡ by departed f reached q
     unfolding reportChanges
     changes-by departed f reached q a b c d =
@@ -97,7 +103,8 @@ module _ (j : Route) (start : ℕ) where
             let f : firstLooked r p ≡ p .next + 1 = rw (e, m) (omega (arith, following-is j (p .next) l)) in
             let z : suc (p .next) ≡ p .next + 1 = omega arith in
             let q = reported j r p in
-            let up : p .next + 1 ≤ q .next = rw (reported-departs j r p e m, following-is j (p .next) l) (omega (arith, looked-range j r (suc (p .next)) l .0)) in
+            let up : p .next + 1 ≤ q .next =
+            rw (reported-departs j r p e m, following-is j (p .next) l) (omega (arith, looked-range j r (suc (p .next)) l .0)) in
             subst Goes (sym (changes-by true (p .next + 1) (q .reached) q (rw (e, m)) f (rw (e, m)) refl))
             (story-of refl (append-assoc told _ _)
             (looking (p .next + 1) q _ up (departing j start (p .next) told (story-of (λ i. record { next = p .next; reached = e i }) refl s))))
@@ -121,11 +128,13 @@ module _ (j : Route) where
   all-passings zero k = refl
   all-passings (suc n) k = ap (λ (l : List Told). tell j k statusPassed ∷ l) (all-passings n (k + 1))
 
-  departure : (b : Bool) (k : ℕ) (p : Progress) → those counts (map (marked j) (when b (change k statusDeparted p))) ≡ map (marked j) (when b (change k statusDeparted p))
+  departure : (b : Bool) (k : ℕ) (p : Progress)
+      → those counts (map (marked j) (when b (change k statusDeparted p))) ≡ map (marked j) (when b (change k statusDeparted p))
   departure true k p = refl
   departure false k p = refl
 
-  stop : (b : Bool) (k : ℕ) (p : Progress) → those counts (map (marked j) (when b (change k statusStopped p))) ≡ map (marked j) (when b (change k statusStopped p))
+  stop : (b : Bool) (k : ℕ) (p : Progress)
+      → those counts (map (marked j) (when b (change k statusStopped p))) ≡ map (marked j) (when b (change k statusStopped p))
   stop true k p = refl
   stop false k p = refl
 

@@ -23,7 +23,8 @@ pub those-append : {A : Type 0} (f : A → Bool) (a b : List A) → those f (a +
 those-append f [] b = refl
 those-append {A} f (x ∷ a) b = go (f x) (those-append f a b)
   where
-    go : (t : Bool) → those f (a ++ b) ≡ those f a ++ those f b → cond t (x ∷ those f (a ++ b)) (those f (a ++ b)) ≡ cond t (x ∷ those f a) (those f a) ++ those f b
+    go : (t : Bool) → those f (a ++ b) ≡ those f a ++ those f b
+        → cond t (x ∷ those f (a ++ b)) (those f (a ++ b)) ≡ cond t (x ∷ those f a) (those f a) ++ those f b
     go true e = ap (λ (l : List A). x ∷ l) e
     go false e = e
 
@@ -38,14 +39,16 @@ not-empty [] b t e = zero-one (cc)
 not-empty (x ∷ a) b t e = zero-one (cc)
 
 -- a list with one more, parted at t: t is that one, or stands in the list
-pub parted : {A : Type 0} (l a b : List A) (x t : A) → l ++ (x ∷ []) ≡ a ++ (t ∷ b) → ((l ≡ a) × (x ≡ t) × (b ≡ [])) ⊎ ((c : List A) × (l ≡ a ++ (t ∷ c)) × (b ≡ c ++ (x ∷ [])))
+abbrev pub Parted : {A : Type 0} → List A → List A → List A → A → A → Type 0
+Parted {A} l a b x t = ((l ≡ a) × (x ≡ t) × (b ≡ [])) ⊎ ((c : List A) × (l ≡ a ++ (t ∷ c)) × (b ≡ c ++ (x ∷ [])))
+
+pub parted : {A : Type 0} (l a b : List A) (x t : A) → l ++ (x ∷ []) ≡ a ++ (t ∷ b) → Parted l a b x t
 parted [] [] b x t e = inl (refl, head-same e, sym (tail-same e))
 parted [] (y ∷ a) b x t e = absurd (not-empty a b t (tail-same e))
 parted (z ∷ l) [] b x t e = inr (l, ap (λ y. y ∷ l) (head-same e), sym (tail-same e))
 parted {A} (z ∷ l) (y ∷ a) b x t e = go (parted l a b x t (tail-same e))
   where
-    go : ((l ≡ a) × (x ≡ t) × (b ≡ [])) ⊎ ((c : List A) × (l ≡ a ++ (t ∷ c)) × (b ≡ c ++ (x ∷ [])))
-        → ((z ∷ l ≡ y ∷ a) × (x ≡ t) × (b ≡ [])) ⊎ ((c : List A) × (z ∷ l ≡ y ∷ a ++ (t ∷ c)) × (b ≡ c ++ (x ∷ [])))
+    go : Parted l a b x t → Parted (z ∷ l) (y ∷ a) b x t
     go (inl (p, q, r)) = inl (ap (λ (m : List A). z ∷ m) p ∙ ap (λ w. w ∷ a) (head-same e), q, r)
     go (inr (c, p, q)) = inr (c, ap (λ (m : List A). z ∷ m) p ∙ ap (λ w. w ∷ (a ++ (t ∷ c))) (head-same e), q)
 
@@ -67,7 +70,8 @@ module _ (j : Route) where
   tell k s = record { name = nameOf j k; status = s }
 
   abbrev pub Departures : List Told → Type 0
-  Departures told = (before : List Told) (t : Told) (after : List Told) → told ≡ before ++ (t ∷ after) → t .status ≡ statusDeparted → StoppedBefore before (t .name)
+  Departures told = (before : List Told) (t : Told) (after : List Told) → told ≡ before ++ (t ∷ after) → t .status ≡ statusDeparted
+      → StoppedBefore before (t .name)
 
   -- behind a 1 stands nothing, or first a 2
   abbrev pub Follows : List Told → Type 0
@@ -100,7 +104,7 @@ module _ (j : Route) where
     no-departure : (t : Told) → (t .status ≡ statusDeparted → ⊥) → Departures told → Departures (told ++ (t ∷ []))
     no-departure t n d before s after e q = go (parted told before after t s e)
       where
-        go : ((told ≡ before) × (t ≡ s) × (after ≡ [])) ⊎ ((c : List Told) × (told ≡ before ++ (s ∷ c)) × (after ≡ c ++ (t ∷ []))) → StoppedBefore before (s .name)
+        go : Parted told before after t s → StoppedBefore before (s .name)
         go (inl (a, b, c)) = absurd (n (ap (λ (x : Told). x .status) b ∙ q))
         go (inr (c, a, b)) = d before s c a q
 
@@ -112,11 +116,12 @@ module _ (j : Route) where
 
         further : (c : List Told) → told ≡ before ++ (s ∷ c) → Then c → Then (c ++ (t ∷ []))
         further c a (inl z) =
-            let stands : lastStops false told ≡ true = ap (lastStops false) (a ∙ ap (λ (l : List Told). before ++ (s ∷ l)) z) ∙ last-is false before s ∙ ap (λ n. eqb n statusStopped) q in
+            let ends : told ≡ before ++ (s ∷ []) = a ∙ ap (λ (l : List Told). before ++ (s ∷ l)) z in
+            let stands : lastStops false told ≡ true = ap (lastStops false) ends ∙ last-is false before s ∙ ap (λ n. eqb n statusStopped) q in
             inr (t, [], ap (λ (l : List Told). l ++ (t ∷ [])) z, d stands)
         further c a (inr (x, rest, z, w)) = inr (x, rest ++ (t ∷ []), ap (λ (l : List Told). l ++ (t ∷ [])) z, w)
 
-        go : ((told ≡ before) × (t ≡ s) × (after ≡ [])) ⊎ ((c : List Told) × (told ≡ before ++ (s ∷ c)) × (after ≡ c ++ (t ∷ []))) → Then after
+        go : Parted told before after t s → Then after
         go (inl (a, b, c)) = inl c
         go (inr (c, a, b)) = subst Then (sym b) (further c a (f before s c a q))
 
@@ -164,7 +169,7 @@ module _ (j : Route) where
     }
       where
         go : (before : List Told) (t : Told) (after : List Told) → t .status ≡ statusDeparted
-            → ((told ≡ before) × (tell k statusDeparted ≡ t) × (after ≡ [])) ⊎ ((c : List Told) × (told ≡ before ++ (t ∷ c)) × (after ≡ c ++ (tell k statusDeparted ∷ [])))
+            → Parted told before after (tell k statusDeparted) t
             → StoppedBefore before (t .name)
         go before t after q (inl (a, b, c)) =
             let r = s .resting refl in

@@ -27,7 +27,7 @@ use Rattle.whole_list.proofs.TableChanges.{standing-reached}
 use Rattle.whole_list.proofs.Engaged.{stands-exactly}
 use Rattle.told_once.specs.Recording.{Name, Told, departs, passes}
 use Rattle.told_once.specs.ToldOnce.{nameOf, indices, passedSince, StoppedLast, lastStops, standingTold, ToldOnce, InOrder}
-use Rattle.told_once.proofs.Story.{those-append, not-empty, parted, last-is, numbers, tell}
+use Rattle.told_once.proofs.Story.{those-append, not-empty, Parted, parted, last-is, numbers, tell}
 use Rattle.told_once.proofs.Calls.{StoryBy, story}
 use Rattle.told_once.proofs.Names.{one-point}
 
@@ -159,7 +159,8 @@ module _ (h : History) (told : List Told) (s : StoryBy h told) where
     reached-now : StoppedLast told (nameOf j k) → StandsBy h k Reached
     reached-now t =
         let ends : told ≡ t .before ++ (t .stop ∷ []) = t .among ∙ ap (λ (m : List Told). t .before ++ (t .stop ∷ m)) (nothing-behind t) in
-        let rests : p .reached ≡ true = sym (s .last) ∙ ap (lastStops false) ends ∙ last-is false (t .before) (t .stop) ∙ ap (λ n. eqb n statusStopped) (t .is-stop) in
+        let rests : p .reached ≡ true =
+        sym (s .last) ∙ ap (lastStops false) ends ∙ last-is false (t .before) (t .stop) ∙ ap (λ n. eqb n statusStopped) (t .is-stop) in
         let at = s .resting rests in
         let same : t .stop ≡ tell j (p .next) statusStopped = last-same (t .before) (at .0) (sym ends ∙ at .1) in
         let here : k ≡ p .next = one-name k (p .next) l (in-range h .reached-one rests) (sym (t .same-point) ∙ ap (λ (x : Told). x .name) same) in
@@ -168,7 +169,7 @@ module _ (h : History) (told : List Told) (s : StoryBy h told) where
         last-same : (a b : List Told) {x y : Told} → a ++ (x ∷ []) ≡ b ++ (y ∷ []) → x ≡ y
         last-same a b {x} {y} e = go (parted a b [] x y e)
           where
-            go : ((a ≡ b) × (x ≡ y) × (_≡_ {A = List Told} [] [])) ⊎ ((c : List Told) × (a ≡ b ++ (y ∷ c)) × ([] ≡ c ++ (x ∷ []))) → x ≡ y
+            go : Parted a b [] x y → x ≡ y
             go (inl (_, q, _)) = q
             go (inr (c, _, q)) = absurd (not-empty c [] x q)
 

@@ -74,7 +74,8 @@ pub record ToldOnce (h : History) (told : List Told) : Type 0 where
   -- a name is that of one point only
   pub one-point : (i k : ℕ) → i < pointCount (routeBy h) → k < pointCount (routeBy h) → nameOf (routeBy h) i ≡ nameOf (routeBy h) k → i ≡ k
   -- "a 2 follows the 1 of the same point, with no other 1 between": nothing is told between
-  pub departed : (before : List Told) (t : Told) (after : List Told) → told ≡ before ++ (t ∷ after) → t .status ≡ statusDeparted → StoppedBefore before (t .name)
+  pub departed : (before : List Told) (t : Told) (after : List Told) → told ≡ before ++ (t ∷ after) → t .status ≡ statusDeparted
+      → StoppedBefore before (t .name)
   -- "a point is reached now exactly where the last 1 has no 2 behind it"
   pub reached : (k : ℕ) → k < pointCount (routeBy h) → StandsBy h k Reached ↔ StoppedLast told (nameOf (routeBy h) k)
   -- "So whoever holds the recording since the load, the journey, and how many points that load put behind, knows where each point stands."
