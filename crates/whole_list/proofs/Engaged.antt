@@ -33,7 +33,7 @@ use Rattle.engagement.proofs.Run as run
 use Rattle.state_codes.specs.declared.State.the-variants.{EG}
 use Rattle.state_codes.specs.declared.EtcsMode.the-variants.{Other, AD}
 use Rattle.engagement.proofs.Requests.{run-holds}
-use Rattle.call.specs.Call.{Call}
+use Rattle.call_values.specs.Call.{Call}
 use Rattle.whole_list.specs.Values.{History, eventOfCall, latest, modeBy, reportsBy, positionBy, routeBy}
 use Rattle.whole_list.specs.Rules.{StandsBy, standingBy, valuesBy, BecameReached, JustReached, newlyReached, becameReachedBy, machineBy, stateBy, requestBy, noCall, callAt, upto, Engaged}
 use Rattle.whole_list.specs.Table.{tableBy}

@@ -26,7 +26,8 @@ use Rattle.states.specs.States.{machine, byRow, machineAfter}
 use Rattle.states.specs.declared.Values.{Values}
 use Rattle.state_codes.specs.declared.State.{State}
 use Rattle.state_codes.specs.declared.State.the-variants.{NP, CO, EG}
-use Rattle.call.specs.Call.{Call, Accepted, Outcome, Step, conditionsIn, judged, outcomeOf, stepOf}
+use Rattle.call_values.specs.Call.{Call, Accepted}
+use Rattle.call.specs.Call.{Outcome, Step, conditionsIn, judged, outcomeOf, stepOf}
 use Rattle.call.proofs.Rows.{memory-length}
 use Rattle.whole_list.specs.Values.{History, eventOfCall, latest, routeBy, reportsSince, behindAtLoad}
 use Rattle.whole_list.specs.Rules.{conditionsBy, machineBy, stateBy, requestBy, Engaged}

@@ -1,4 +1,4 @@
--- The rules over a history: where the points stand, the conditions, the state, the AD request, the engagement rule.
+-- The rules over a history: where the points stand, the conditions, the state, the AD request, the engagement rule. Nothing here is of crate `call`.
 use mathlib.Core.Path.{_≡_}
 use mathlib.Core.Bool.{Bool, false, not, _&&_, _||_}
 use mathlib.Core.List.{[], _∷_}
@@ -21,7 +21,7 @@ use Rattle.states.specs.declared.Machine.{Machine}
 use Rattle.engagement.specs.Engagement.{Engagement}
 use Rattle.state_codes.specs.declared.State.{State}
 use Rattle.state_codes.specs.declared.State.the-variants.{NP}
-use Rattle.call.specs.Call.{Call}
+use Rattle.call_values.specs.Call.{Call}
 use Rattle.whole_list.specs.Values.{History, eventOfCall, roleOfCall, modeBy, leverBy, reportsBy, positionBy, routeBy, reportsSince, behindAtLoad}
 
 -- point k of the journey in force stands so, by the history rule

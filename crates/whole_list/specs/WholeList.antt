@@ -23,7 +23,8 @@ use Rattle.position.specs.declared.Standing.{Standing}
 use Rattle.state_codes.specs.Codes.{code}
 use Rattle.states.specs.States.{wanted}
 use Rattle.state_codes.specs.declared.EtcsMode.the-variants.{Other}
-use Rattle.call.specs.Call.{Call, Accepted, Outcome, stepOf, conditionsIn}
+use Rattle.call_values.specs.Call.{Call, Accepted}
+use Rattle.call.specs.Call.{Outcome, stepOf, conditionsIn}
 use Rattle.whole_list.specs.Values.{History, eventOfCall, routeBy, reportAt}
 use Rattle.whole_list.specs.Rules.{StandsBy, conditionsBy, valuesBy, stateBy, requestBy, upto, Engaged}
 use Rattle.whole_list.specs.Table.{packetsBy, answerBy, tableBy}
