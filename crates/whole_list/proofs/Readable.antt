@@ -191,6 +191,11 @@ module _ (h : History) (c : Call) where
       (all-62 _ _ r (changesBy h c) (route-in (c ∷ h)) (status-in h c))
       (all-68 _ _ r (statusDue (statusBy h) (statusBy (c ∷ h))) _ _ (code-most (stateBy (c ∷ h))) (conditions-most _ _ _ _)))
 
+-- each is read back as it was
+pub read-back : (ps : List Packet) → All Fits ps → map packetOf (bytesOfEach ps) ≡ map accept ps
+read-back [] a = refl
+read-back (p ∷ ps) a = ap (λ x. x ∷ map packetOf (bytesOfEach ps)) (read-written p (a .0 .0) (a .0 .1)) ∙ ap (λ l. accept p ∷ l) (read-back ps (a .1))
+
 -- bytes among those of packets are the bytes of one of them, and read so
 pub record ReadAs (bytes : List ℕ) (ps : List Packet) : Type 0 where
   pub packet : Packet

@@ -94,6 +94,12 @@ callAt h k = getD h (length h - suc k) noCall
 abbrev pub upto : History → ℕ → History
 upto h v = drop (length h - v) h
 
+-- what they are: after all events the whole history, after none nothing, and with each event one call more
+pub record Moments (h : History) : Type 0 where
+  pub after-all : upto h (length h) ≡ h
+  pub after-none : upto h 0 ≡ []
+  pub after-one-more : (k : ℕ) → k < length h → upto h (suc k) ≡ callAt h k ∷ upto h k
+
 -- the engagement rule, read in a history
 abbrev pub Engaged : History → Type 0
 Engaged h = Engagement (λ k. eventOfCall (callAt h k)) (λ v. valuesBy (upto h v)) (λ k. JustReached (upto h (suc k))) (length h)
