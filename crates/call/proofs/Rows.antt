@@ -22,7 +22,8 @@ use Rattle.position.specs.Standing.{standing, standingCode}
 use Rattle.state_codes.specs.Codes.{stateAt}
 use Rattle.state_codes.specs.Numbers.{powerRows, stateRow}
 use Rattle.call.specs.Effect.{Effect, powerOff, effect, stored}
-use Rattle.call.specs.Call.{Call, Step, stepBy, judge, judged, outcomeOf, stepOf}
+use Rattle.call_values.specs.Call.{Call}
+use Rattle.call.specs.Call.{Step, stepBy, judge, judged, outcomeOf, stepOf}
 use Rattle.call.specs.Shown.{standingIn, standingsIn}
 
 -- ---- standings

@@ -4,7 +4,7 @@ use mathlib.Core.Path.{_≡_, refl, ap, subst, _∙_}
 use mathlib.Core.List.{List, [], _∷_, _++_, map}
 use mathlib.Core.Bool.{Bool, true, false, _&&_, _||_}
 use mathlib.Core.Option.{Option, none, some}
-use lib.ListN.{length, length-append}
+use lib.ListN.{length, length-append, length-map}
 use lib.Dec.{ltb}
 use borrow.Author.Tests.{le-ltb}
 use native.Mathlib.Omega.{arith}
@@ -24,15 +24,17 @@ use Rattle.position.specs.Position.{pointCount, placed, known}
 use Rattle.timing.specs.Distance as distance
 use Rattle.timing.specs.Distance.{reportFrom, beyond, moving}
 use Rattle.timing.specs.Report.{following, looked, lookedFrom, departs, firstLooked, reported, becameReached}
-use Rattle.timing.specs.Changes.{Change, change, passings, when, changesOf, reportChanges, statusDeparted, statusStopped}
+use Rattle.timing.specs.Changes.{change, passings, when, changesOf, reportChanges, statusDeparted, statusStopped}
 use Rattle.position.specs.Standing.{standing, behind}
 use Rattle.timing.proofs.Steps.{reported-stays, reported-departs, reported-looks}
 use Rattle.position.specs.declared.Found.{Found}
 use Rattle.position.specs.declared.Found.the-variants.{At, Nothing}
-use Rattle.call.specs.Packets.{timingPoint, jpReceived, atoStatus, received, statusDue, packetsOf}
+use Rattle.call_values.specs.Packets.{PointChange, timingPoint, jpReceived, atoStatus, received, statusDue, packetsOf}
+use Rattle.call.specs.Packets.{changeIn}
 use Rattle.look_up.specs.LookUp.{positionAfter, lookUp}
 use Rattle.look_up.specs.declared.LookedUp.{LookedUp}
-use Rattle.call.specs.Effect.{Effect, effectAs, effect, trainWith, positionEffect, reportedIn, loadEffect, skipAt, skipEffect, skippedIn, loadedIn, offsetBeyond, sameBool}
+use Rattle.call_values.specs.Rows.{offsetBeyond, sameBool}
+use Rattle.call.specs.Effect.{Effect, effectAs, effect, trainWith, positionEffect, reportedIn, loadEffect, skipAt, skipEffect, skippedIn, loadedIn}
 use Rattle.call.specs.Call.{statusIn, stepBy}
 
 -- ---- the points that a report changes
@@ -118,7 +120,7 @@ small e journey book event = go (roleOf event) refl
 -- ---- the packets
 
 module _ (j : Route) (x : Position) where
-  size-62s : (l : List Change) → length (joined (map (timingPoint j x) l)) ≡ 25 * length l
+  size-62s : (l : List PointChange) → length (joined (map (timingPoint j x) l)) ≡ 25 * length l
   unfolding timingPoint
   size-62s [] = refl
   size-62s (c ∷ l) = length-append (packetBytes (timingPoint j x c)) _ ∙ omega (arith, length-packetBytes (timingPoint j x c), size-62s l)
@@ -142,9 +144,11 @@ bytes-most e journey book event f q =
     let x = m .train .position in
     let h : loadBytes (f .loaded) + 25 * length (f .changes) ≤ 1650 = subst Small q (small e journey book event) in
     let due = statusDue (statusIn e) (statusIn m) in
-    let a = length-joined (received j x (f .loaded)) (map (timingPoint j x) (f .changes) ++ when due (atoStatus j x (statusIn m .state) (statusIn m .conditions))) in
-    let b = length-joined (map (timingPoint j x) (f .changes)) (when due (atoStatus j x (statusIn m .state) (statusIn m .conditions))) in
-    omega (arith, h, a, b, size-65 j x (f .loaded), size-62s j x (f .changes), size-68 j x due (statusIn m .state) (statusIn m .conditions))
+    let changes = map (changeIn (m .load)) (f .changes) in
+    let n : length changes ≡ length (f .changes) = length-map (f .changes) (changeIn (m .load)) in
+    let a = length-joined (received j x (f .loaded)) (map (timingPoint j x) changes ++ when due (atoStatus j x (statusIn m .state) (statusIn m .conditions))) in
+    let b = length-joined (map (timingPoint j x) changes) (when due (atoStatus j x (statusIn m .state) (statusIn m .conditions))) in
+    omega (arith, h, a, b, size-65 j x (f .loaded), size-62s j x changes, n, size-68 j x due (statusIn m .state) (statusIn m .conditions))
 
 -- with so much memory that row does not refuse
 pub row-16 : (e : Engine) (journey book memory : List ℕ) (event : Event) (f : Effect) → effect e journey book event ≡ accept f → 1669 ≤ length memory

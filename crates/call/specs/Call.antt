@@ -1,6 +1,6 @@
 -- The meaning of a call: the table of numbers from top to bottom, else the new engine, its answer and the output memory.
 use Prim.Native.Nat.{ℕ}
-use mathlib.Core.List.{List, _++_}
+use mathlib.Core.List.{List, _++_, map}
 use mathlib.Core.Bool.{Bool, true, false, cond}
 use lib.ListN.{length, drop}
 use lib.Dec.{ltb}
@@ -18,21 +18,10 @@ use Rattle.state_codes.specs.Codes.{stateAt}
 use Rattle.conditions.specs.Conditions.{conditions}
 use Rattle.state_codes.specs.Numbers.{powerRows, stateRow}
 use Rattle.states.specs.ControlGroup.{controlAfter}
-use Rattle.call.specs.Packets.{Status, ownPackets, packetsOf}
+use Rattle.call_values.specs.Call.{Call, Accepted}
+use Rattle.call_values.specs.Packets.{Status, packetsOf}
+use Rattle.call.specs.Packets.{changeIn, ownPackets}
 use Rattle.call.specs.Effect.{Effect, effect, stored}
-
--- "A call brings any event, profiles and output memory"
-pub record Call : Type 0 where
-  pub event : List ℕ
-  pub journey : List ℕ
-  pub book : List ℕ
-  pub memory : List ℕ
-
--- "An accepted event returns state, request and bytes written."
-pub record Accepted : Type 0 where
-  pub state : ℕ
-  pub request : Bool
-  pub bytes : ℕ
 
 -- what a call answers and leaves
 pub record Outcome : Type 0 where
@@ -55,7 +44,7 @@ pub record Step : Type 0 where
 abbrev pub stepTo : Engine → Event → Effect → Engine → Step
 stepTo e event f m = record {
   engine = m;
-  packets = packetsOf (routeIn m) (m .train .position) (f .loaded) (f .changes) (ownPackets e event m) (statusIn e) (statusIn m);
+  packets = packetsOf (routeIn m) (m .train .position) (f .loaded) (map (changeIn (m .load)) (f .changes)) (ownPackets e event m) (statusIn e) (statusIn m);
 }
 
 -- "After each accepted event": the rows of the states over the event's values

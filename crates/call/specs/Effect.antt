@@ -1,14 +1,13 @@
 -- What an event does, and the places "book" to "skip" of the table of numbers.
 use Prim.Native.Nat.{ℕ}
 use mathlib.Core.List.{List, [], _∷_}
-use mathlib.Core.Bool.{Bool, true, false, cond, not, _&&_, _||_}
+use mathlib.Core.Bool.{Bool, true, false, cond, _||_}
 use mathlib.Core.Option.{Option, none, some}
 use lib.ListN.{set}
 use Rattle.wire.specs.Numbers.{if_then_else_}
 use Rattle.wire.specs.Judged.{Judged, thenJudge, row, _>>=_, _>>_}
 use Rattle.wire.specs.Judged.Judged.{refuse, accept}
 use Rattle.engine_value.specs.Engine.{Route, Value, routeIn, noRoute, noSkips, numberIn, trainOf, inputsOf, progress, freshTrain, freshInputs, freshControl}
-use Rattle.engine_value.specs.declared.Position.{Position}
 use Rattle.engine_value.specs.declared.Progress.{Progress}
 use Rattle.engine_value.specs.declared.Train.{Train}
 use Rattle.engine_value.specs.declared.Inputs.{Inputs}
@@ -18,16 +17,14 @@ use Rattle.event.specs.declared.Event.{Event}
 use Rattle.event.specs.Kinds.{Role, off, load, report, other, skip, Carried, newer, roleOf, carried}
 use Rattle.journey.specs.declared.Head.{Head}
 use Rattle.route.specs.Route.{LoadValue, loadOf}
-use Rattle.position.specs.Position.{offsetDefined}
 use Rattle.position.specs.Standing.{standing, behind}
-use Rattle.position.specs.declared.Named.{Named}
 use Rattle.position.specs.declared.Stop.{Stop}
 use Rattle.position.specs.declared.Found.{Found}
 use Rattle.position.specs.declared.Found.the-variants.{At, Nothing}
 use Rattle.timing.specs.Load.{target}
 use Rattle.timing.specs.Changes.{Change, change, changesOf, statusSkipped, statusRevoked}
 use Rattle.timing.specs.declared.Reported.{Reported}
-use Rattle.conditions.specs.Conditions.{tooFar}
+use Rattle.call_values.specs.Rows.{offsetBeyond, sameBool}
 use Rattle.look_up.specs.LookUp.{lookUp}
 use Rattle.look_up.specs.declared.LookedUp.{LookedUp}
 
@@ -73,10 +70,6 @@ abbrev pub powerOff : Effect
 powerOff =
     record { journey = cleared; train = freshTrain; progress = progress 0 false; inputs = freshInputs; control = freshControl; loaded = none; changes = []; reached = false }
 
--- position: "13 journey segment that is in the book, offset defined and beyond its length"
-unfoldable pub offsetBeyond : Named → Position → Bool
-offsetBeyond s x = offsetDefined x && (s .found && tooFar x s)
-
 -- what a position report tells of the points
 abbrev pub reportedIn : Engine → Carried → Reported → Effect
 reportedIn e c r =
@@ -91,6 +84,7 @@ reportedIn e c r =
       reached = r .reached;
     }
 
+-- position: 13
 unfoldable pub positionEffect : Engine → Carried → LookedUp → Judged Effect
 positionEffect e c l = do
   row 13 (offsetBeyond (l .segment) (trainWith e c .position))
@@ -132,9 +126,6 @@ skippedIn e c k on =
 
 -- skip: "14 no stop of that name; 15 point reached or passed, driver skip already given, or no driver skip to revoke (a trackside skip counts
 -- for neither)"
-abbrev pub sameBool : Bool → Bool → Bool
-sameBool a b = if a then b else not b
-
 abbrev pub skipAt : Engine → Carried → Bool → Bool → Found → Judged Effect
 skipAt e c on skipped Nothing = refuse 14
 skipAt e c on skipped (At k) = do

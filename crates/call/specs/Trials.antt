@@ -12,7 +12,8 @@ use Rattle.engine_value.specs.declared.Engine.{Engine}
 use Rattle.position.specs.Standing.{standing}
 use Rattle.position.specs.declared.Standing.{Standing}
 use Rattle.position.specs.declared.Standing.the-variants.{Targeted, Reached, Passed}
-use Rattle.call.specs.Call.{Call, Accepted, Outcome, stepOf}
+use Rattle.call_values.specs.Call.{Call, Accepted}
+use Rattle.call.specs.Call.{Outcome, stepOf}
 
 -- ---- calls
 

@@ -4,7 +4,8 @@ use Rattle.wire.specs.Judged.Judged.{refuse, accept}
 use Rattle.engine_value.specs.Engine.{routeIn, maxPoints}
 use Rattle.engine_value.specs.declared.Engine.{Engine}
 use Rattle.position.specs.Position.{pointCount}
-use Rattle.call.specs.Call.{Accepted, conditionsIn}
+use Rattle.call_values.specs.Call.{Accepted}
+use Rattle.call.specs.Call.{conditionsIn}
 use Rattle.call.specs.Shown.{stateIn, requestIn, standingsIn}
 use Rattle.call.specs.declared.Answer.{Answer}
 use Rattle.call.specs.declared.Shown.{Shown}

@@ -42,9 +42,10 @@ use Rattle.route.specs.declared.Loaded.{Loaded}
 use Rattle.journey.specs.declared.Head.{Head}
 use Rattle.event_packets.specs.declared.Changes.{Changes}
 use Rattle.event_packets.specs.declared.Received.{Received}
-use Rattle.call.specs.Packets.{country}
+use Rattle.call_values.specs.Packets.{country}
 use Rattle.call.specs.Effect as model
-use Rattle.call.specs.Effect.{JourneyAfter, kept, cleared, replaced, routeAfter, powerOff, trainWith, inputsWith, valuesOnly, offsetBeyond, positionEffect, loadedIn, loadEffect, sameBool, skippedIn, skipEffect}
+use Rattle.call_values.specs.Rows.{offsetBeyond, sameBool}
+use Rattle.call.specs.Effect.{JourneyAfter, kept, cleared, replaced, routeAfter, powerOff, trainWith, inputsWith, valuesOnly, positionEffect, loadedIn, loadEffect, skippedIn, skipEffect}
 use Rattle.effects.specs.declared.Effect.{Effect}
 use Rattle.effects.specs.declared.Kept.{Kept}
 use Rattle.effects.specs.View.{noChanges, oneChange, reportedChanges, skipStatus, skipJourney, unchanged, plainEffect, keptIn, journeyEngine, loadedEffect, acceptedView, effectView, Gives}

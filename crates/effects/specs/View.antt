@@ -24,7 +24,7 @@ use Rattle.route.specs.declared.Loaded.{Loaded}
 use Rattle.event_packets.specs.View.{changesView, receivedView}
 use Rattle.event_packets.specs.declared.Changes.{Changes}
 use Rattle.event_packets.specs.declared.Received.{Received}
-use Rattle.call.specs.Packets.{country}
+use Rattle.call_values.specs.Packets.{country}
 use Rattle.call.specs.Effect as model
 use Rattle.call.specs.Effect.{JourneyAfter, kept, skipSet, routeAfter, stored}
 use Rattle.effects.specs.declared.Effect.{Effect}

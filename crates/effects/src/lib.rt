@@ -32,7 +32,8 @@ ghost use Rattle.wire.specs.View.{verdictView};
 ghost use Rattle.position.specs.Standing.{standing, behind};
 ghost use Rattle.event.specs.Kinds.{other, report, skip, load, roleOf, carried};
 ghost use Rattle.look_up.specs.LookUp.{lookUp};
-ghost use Rattle.call.specs.Effect.{kept, cleared, replaced, trainWith, inputsWith, valuesOnly, powerOff, offsetBeyond, positionEffect, loadEffect, sameBool, skipEffect};
+ghost use Rattle.call_values.specs.Rows.{offsetBeyond, sameBool};
+ghost use Rattle.call.specs.Effect.{kept, cleared, replaced, trainWith, inputsWith, valuesOnly, powerOff, positionEffect, loadEffect, skipEffect};
 ghost use Rattle.effects.specs.View.{noChanges, oneChange, reportedChanges, skipStatus, skipJourney, unchanged, plainEffect, keptIn, journeyEngine, loadedEffect, loadedRoute, Gives};
 
 // The groups with the event's values, the head of a journey that was loaded and the NID_C of its packet, the points that changed, whether one

@@ -16,7 +16,8 @@ use Rattle.event.specs.declared.Event.{Event}
 use Rattle.state_codes.specs.Codes.{stateAt}
 use Rattle.state_codes.specs.Numbers.{powerRows, stateRow, stateRows}
 use Rattle.call.specs.Effect.{effect}
-use Rattle.call.specs.Call.{Call, Step, judge, judged}
+use Rattle.call_values.specs.Call.{Call}
+use Rattle.call.specs.Call.{Step, judge, judged}
 
 -- ---- the rows
 

@@ -9,7 +9,8 @@ use Rattle.engine_value.specs.Engine.{noRoute, noSkips}
 use Rattle.engine_value.specs.declared.Engine.{Engine}
 use Rattle.position.specs.declared.Found.{Found}
 use Rattle.position.specs.declared.Found.the-variants.{At, Nothing}
-use Rattle.call.specs.Call.{Call, Outcome}
+use Rattle.call_values.specs.Call.{Call}
+use Rattle.call.specs.Call.{Outcome}
 use Rattle.call.specs.View.{answerView}
 use Rattle.call.specs.declared.Answer.{Answer}
 use Rattle.judge.specs.declared.Judgement.{Judgement}

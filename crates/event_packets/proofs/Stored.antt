@@ -1,7 +1,7 @@
 -- The sizes of the packets, packets put one behind the other, and that they are those of a call.
 use Prim.Native.Nat.{ℕ, zero, suc, _+_, _-_, _*_, _≤_}
 use mathlib.Core.Path.{_≡_, refl, sym, ap, _∙_}
-use mathlib.Core.List.{List, [], _∷_, _++_, map, map-append, append-assoc, append-nil}
+use mathlib.Core.List.{List, [], _∷_, _++_, map, map-append, map-map, append-assoc, append-nil}
 use mathlib.Core.Bool.{Bool, true, false}
 use lib.ListN.{length, length-append}
 use lib.Seq.{sets}
@@ -19,7 +19,8 @@ use Rattle.packets.specs.declared.Packet.{Packet}
 use Rattle.journey.specs.declared.Head.{Head}
 use Rattle.position.specs.Position.{point}
 use Rattle.timing.specs.Changes.{Change, change, passings, when, statusPassed, statusStopped}
-use Rattle.call.specs.Packets.{Status, statusDue, header, country, timingPoint, jpReceived, atoStatus, received, packetsOf, jpReceivedOf, atoStatusOf}
+use Rattle.call_values.specs.Packets.{Status, statusDue, header, country, timingPoint, jpReceived, atoStatus, received, packetsOf, jpReceivedOf, atoStatusOf}
+use Rattle.call.specs.Packets.{changeIn}
 use Rattle.event_packets.specs.View.{headerIn, timingPointView, timingPointIn, packets62, packets65, packets68, changesView, firstView, passingsView, stoppedView, receivedView, ownView, packetsView, receivedSize, sizeView, Put}
 use Rattle.event_packets.specs.declared.Received.{Received}
 use Rattle.event_packets.specs.declared.Writes.{Writes}
@@ -163,6 +164,7 @@ packets65-in j x n (Received.Journey h) q = rw (q h refl)
 pub packets-in : (m : Engine) (w : Writes) (before after : Status)
     → ((h : Head) → w .received ≡ Received.Journey h → w .nidc ≡ country (routeIn m) (m .train .position))
     → w .due ≡ statusDue before after → m .control .state ≡ after .state → w .conditions ≡ after .conditions
-    → packetsView m w ≡ packetsOf (routeIn m) (m .train .position) (receivedView (w .received)) (changesView (w .changes) (m .progress)) (ownView m w) before after
+    → packetsView m w ≡ packetsOf (routeIn m) (m .train .position) (receivedView (w .received)) (map (changeIn (m .load)) (changesView (w .changes) (m .progress))) (ownView m w) before after
 unfolding packetsOf timingPoint atoStatus timingPointView
-packets-in m w before after n d s c = rw (packets65-in (routeIn m) (m .train .position) (w .nidc) (w .received) n, d, s, c)
+packets-in m w before after n d s c =
+    rw (packets65-in (routeIn m) (m .train .position) (w .nidc) (w .received) n, d, s, c, map-map (timingPoint (routeIn m) (m .train .position)) (changeIn (m .load)) (changesView (w .changes) (m .progress)))

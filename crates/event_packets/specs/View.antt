@@ -17,8 +17,10 @@ use Rattle.packets.specs.Packets.{joined}
 use Rattle.packets.specs.declared.Header.{Header}
 use Rattle.packets.specs.declared.Packet.{Packet}
 use Rattle.position.specs.Position.{point}
+use Rattle.position.specs.Standing.{standing}
 use Rattle.timing.specs.Changes.{Change, change, passings, when, statusStopped}
-use Rattle.call.specs.Packets.{Status, headerOf, inOrder, timingPointOf, jpReceivedOf, atoStatusOf}
+use Rattle.conditions.specs.Conditions.{endAhead}
+use Rattle.call_values.specs.Packets.{Status, headerOf, inOrder, timingPointOf, jpReceivedOf, atoStatusOf}
 use Rattle.event_packets.specs.declared.Changes.{Changes}
 use Rattle.event_packets.specs.declared.Received.{Received}
 use Rattle.event_packets.specs.declared.Status as code
@@ -52,7 +54,7 @@ headerIn e = headerOf (e .load) (e .train .position)
 
 -- packet 62 for a change of a point; computed only where a proof asks
 unfoldable pub timingPointView : Header → Load → Point → ℕ → Progress → Packet
-timingPointView h l p status after = timingPointOf h l p status after
+timingPointView h l p status after = timingPointOf h p status (endAhead l (standing after))
 
 -- for a change of one of the engine's points
 abbrev pub timingPointIn : Header → Engine → Change → Packet

@@ -22,7 +22,7 @@ ghost use Rattle.engine_value.specs.Engine.{Route, routeIn};
 ghost use Rattle.packets.specs.Packets.{joined};
 ghost use Rattle.position.specs.Position.{point, segmentNamed};
 ghost use Rattle.timing.specs.Changes.{change, passings, statusStopped};
-ghost use Rattle.call.specs.Packets.{headerOf, country, statusDue, jpReceivedOf, atoStatusOf};
+ghost use Rattle.call_values.specs.Packets.{headerOf, country, statusDue, jpReceivedOf, atoStatusOf};
 ghost use Rattle.event_packets.specs.View.{statusView, firstView, stoppedView, timingPointView, timingPointIn, packets62, packets65, packets68, packetsView, receivedSize, sizeView, Put};
 
 // What an event changes of the points: first, perhaps, a departure, a skip or its revocation; then the points from `from` to `to`, without that one,

@@ -2,7 +2,7 @@
 use mathlib.Core.Bool.{true, false}
 use Rattle.wire.specs.Judged.{Judged}
 use Rattle.wire.specs.Judged.Judged.{refuse, accept}
-use Rattle.call.specs.Call.{Accepted}
+use Rattle.call_values.specs.Call.{Accepted}
 use Rattle.host.specs.declared.Answer.{Answer}
 
 -- "An accepted event returns state, request and bytes written."

@@ -21,8 +21,8 @@ use Rattle.position.specs.Standing.{standing}
 use Rattle.conditions.specs.Conditions.{nine, wordOf, conditions}
 use Rattle.conditions.specs.declared.RouteConditions.{RouteConditions}
 use Rattle.states.specs.ControlGroup.{controlAfter}
-use Rattle.call.specs.Packets as packets
-use Rattle.call.specs.Packets.{statusDue}
+use Rattle.call_values.specs.Packets as packets
+use Rattle.call_values.specs.Packets.{statusDue}
 use Rattle.call.specs.Effect as model
 use Rattle.call.specs.Effect.{JourneyAfter}
 use Rattle.call.specs.Call.{Step, conditionsIn, statusIn, stepBy, judge}

@@ -2,7 +2,8 @@
 use Prim.Native.Nat.{ℕ}
 use mathlib.Core.Path.{_≡_}
 use mathlib.Core.List.{List}
-use Rattle.call.specs.Call.{Call, Outcome}
+use Rattle.call_values.specs.Call.{Call}
+use Rattle.call.specs.Call.{Outcome}
 use Rattle.player_text.specs.Calls.{Given}
 use Rattle.player_text.specs.Lines.{lines}
 use Rattle.player_text.specs.View.{Put}

@@ -19,7 +19,7 @@ use Rattle.packets.specs.Packets.{frontSize, cut, cutPackets}
 use Rattle.packets.proofs.Cutting.{front-some}
 use Rattle.event.specs.Kinds.{kindOf}
 use Rattle.event.specs.declared.Event.the-variants.{Load}
-use Rattle.call.specs.Call.{Accepted}
+use Rattle.call_values.specs.Call.{Accepted}
 use Rattle.player_text.specs.Calls.{Given, some, block, profiles, call}
 use Rattle.player_text.specs.Lines.{hex, hexLines, decimal, mostDigits, lines, outputBytes, mostLines}
 

@@ -8,7 +8,7 @@ use Rattle.wire.specs.Numbers.{flag, if_then_else_}
 use Rattle.wire.specs.Judged.{Judged}
 use Rattle.wire.specs.Judged.Judged.{refuse, accept}
 use Rattle.packets.specs.Packets.{cutPackets}
-use Rattle.call.specs.Call.{Accepted}
+use Rattle.call_values.specs.Call.{Accepted}
 
 -- ---- ASCII
 

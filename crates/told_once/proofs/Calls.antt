@@ -13,7 +13,8 @@ use Rattle.event.specs.declared.Event.the-variants.{PositionReport}
 use Rattle.event.specs.Kinds.{Role, off, load, report, other, skip}
 use Rattle.event.proofs.Known.{OfRole, known}
 use Rattle.timing.specs.Report.{run}
-use Rattle.call.specs.Call.{Call, Outcome, outcomeOf, stepOf}
+use Rattle.call_values.specs.Call.{Call}
+use Rattle.call.specs.Call.{Outcome, outcomeOf, stepOf}
 use Rattle.whole_list.specs.Values.{History, eventOfCall, roleOfCall, routeBy, reportAt, reportsSince, behindAtLoad}
 use Rattle.whole_list.specs.Table.{packetsBy, tableBy}
 use Rattle.whole_list.specs.Calls.{play, trace, withAccepted, acceptedIn, historyOf}

@@ -27,7 +27,7 @@ use Rattle.route.specs.Route.{LoadValue, routeOf, loadValue, loadOf}
 use Rattle.route.proofs.Rows.{ten, eleven, twelve, points-length}
 use Rattle.route.proofs.Ranges.{load-fits}
 use Rattle.position.specs.Position.{point, pointCount}
-use Rattle.call.specs.Call.{Call}
+use Rattle.call_values.specs.Call.{Call}
 use Rattle.whole_list.specs.Values.{History, loadOfCall, roleOfCall, routeLoaded, routeBy}
 
 zero-one : _≡_ {A = ℕ} 0 1 → ⊥

@@ -8,7 +8,7 @@ use Rattle.wire.specs.Lists.{All, those}
 use Rattle.wire.specs.Judged.Judged.{accept}
 use Rattle.engine_value.specs.Engine.{Route}
 use Rattle.engine_value.specs.declared.Position.{Position}
-use Rattle.engine_value.specs.declared.Progress.{Progress}
+use Rattle.engine_value.specs.declared.Load.{Load}
 use Rattle.event.specs.declared.Event.the-variants.{PositionReport}
 use Rattle.event.specs.Kinds.{Role, off, load, report, other, skip}
 use Rattle.journey.specs.declared.Head.{Head}
@@ -18,17 +18,21 @@ use Rattle.packets.proofs.RoundTrips.{read-written}
 use Rattle.position.specs.Skips.{stopNamed}
 use Rattle.position.specs.declared.Found.{Found}
 use Rattle.position.specs.declared.Found.the-variants.{At, Nothing}
+use Rattle.conditions.specs.Conditions.{endAhead}
 use Rattle.timing.specs.Changes.{Change, when, reportChanges}
-use Rattle.call.specs.Call.{Call}
-use Rattle.call.specs.Packets.{timingPoint, jpReceived, atoStatus, statusDue, received, packetsOf}
+use Rattle.call_values.specs.Call.{Call}
+use Rattle.call_values.specs.Packets.{PointChange, timingPoint, jpReceived, atoStatus, statusDue, received, packetsOf}
+use Rattle.call.specs.Packets.{changeIn}
 use Rattle.whole_list.specs.Values.{History, eventOfCall, roleOfCall, positionBy, routeBy, reportAt}
-use Rattle.whole_list.specs.Table.{skipChange, changesBy, headOfCall, ownBy, statusBy, progressBy, packetsBy}
+use Rattle.whole_list.specs.Rules.{standingBy}
+use Rattle.whole_list.specs.Table.{skipChange, changesBy, headOfCall, ownBy, statusBy, packetsBy}
 use Rattle.whole_list.specs.WholeList.{bytesOfEach}
 use Rattle.whole_list.proofs.Readable.{Fits, packets-fit}
 use Rattle.whole_list.proofs.Fields.{progressRun}
-use Rattle.whole_list.proofs.FieldsStep.{route-kept, report-is, changes-is}
+use Rattle.whole_list.proofs.FieldsStep.{route-kept, changes-is}
 use Rattle.told_once.specs.Recording.{Told, toldBy, toldIn}
 use Rattle.told_once.proofs.Reports.{counts, marked, all-count}
+use Rattle.told_once.proofs.Story.{tell}
 
 pub told-append : (a b : List (List ℕ)) → toldIn (a ++ b) ≡ toldIn a ++ toldIn b
 unfolding toldIn
@@ -57,6 +61,14 @@ read-back (p ∷ l) f =
 
 -- ---- the packets of an event
 
+-- what a change of the rules tells in a packet 62
+abbrev changed : Route → PointChange → Told
+changed j c = tell j (c .index) (c .status)
+
+changed-in : (j : Route) (l : Load) (changes : List Change) → map (changed j) (map (changeIn l) changes) ≡ map (marked j) changes
+changed-in j l [] = refl
+changed-in j l (c ∷ changes) = ap (λ (m : List Told). marked j c ∷ m) (changed-in j l changes)
+
 module _ (j : Route) (x : Position) where
   of-65 : (o : Option Head) → toldOfEach (received j x o) ≡ []
   unfolding toldOfEach jpReceived
@@ -68,19 +80,19 @@ module _ (j : Route) (x : Position) where
   of-68 true s n = refl
   of-68 false s n = refl
 
-  of-62 : (l : List Change) → toldOfEach (map (timingPoint j x) l) ≡ those counts (map (marked j) l)
+  of-62 : (l : List PointChange) → toldOfEach (map (timingPoint j x) l) ≡ those counts (map (changed j) l)
   unfolding toldOfEach timingPoint
   of-62 [] = refl
-  of-62 (c ∷ l) = go (counts (marked j c)) (of-62 l)
+  of-62 (c ∷ l) = go (counts (changed j c)) (of-62 l)
     where
-      go : (b : Bool) → toldOfEach (map (timingPoint j x) l) ≡ those counts (map (marked j) l)
-          → when b (marked j c) ++ toldOfEach (map (timingPoint j x) l)
-          ≡ cond b (marked j c ∷ those counts (map (marked j) l)) (those counts (map (marked j) l))
-      go true e = ap (λ (m : List Told). marked j c ∷ m) e
+      go : (b : Bool) → toldOfEach (map (timingPoint j x) l) ≡ those counts (map (changed j) l)
+          → when b (changed j c) ++ toldOfEach (map (timingPoint j x) l)
+          ≡ cond b (changed j c ∷ those counts (map (changed j) l)) (those counts (map (changed j) l))
+      go true e = ap (λ (m : List Told). changed j c ∷ m) e
       go false e = e
 
 -- the packets 62 that a call writes, by index and status of the points that it changes
-call-tells : (h : History) (c : Call) → toldIn (bytesOfEach (packetsBy h c)) ≡ those counts (map (marked (routeBy (c ∷ h))) (changesBy h c))
+call-tells : (h : History) (c : Call) → toldIn (bytesOfEach (packetsBy h c)) ≡ those counts (map (changed (routeBy (c ∷ h))) (changesBy h c))
 unfolding packetsBy packetsOf toldOfEach
 call-tells h c =
     let j = routeBy (c ∷ h) in
@@ -107,11 +119,11 @@ report-tells h c x e =
     let j = routeBy h in
     let r = reportAt (c ∷ h) in
     let p = progressRun h in
-    let by-steps : changesBy h c ≡ reportChanges j r p =
-    rw (e, changesBy) (changes-is c h x e) ∙ ap (λ y. reportChanges j y p) (sym (report-is c h x e)) in
+    let by-steps : changesBy h c ≡ map (changeIn (j .load)) (reportChanges j r p) = rw (e, changesBy) (changes-is c h x e) in
     call-tells h c
-    ∙ ap (λ i. those counts (map (marked i) (changesBy h c))) (route-kept c h x e)
-    ∙ ap (λ l. those counts (map (marked j) l)) by-steps
+    ∙ ap (λ i. those counts (map (changed i) (changesBy h c))) (route-kept c h x e)
+    ∙ ap (λ l. those counts (map (changed j) l)) by-steps
+    ∙ ap (those counts) (changed-in j (j .load) (reportChanges j r p))
     ∙ all-count j r p
 
 abbrev pub Quiet : Role → Type 0
@@ -129,14 +141,14 @@ quiet h c r q n = call-tells h c ∙ go r q n
     j : Route
     j = routeBy (c ∷ h)
 
-    skipped : (f : Found) (on : Bool) (p : Progress) → those counts (map (marked j) (skipChange f on p)) ≡ []
-    skipped Nothing on p = refl
-    skipped (At k) true p = refl
-    skipped (At k) false p = refl
+    skipped : (f : Found) (on ahead : Bool) → those counts (map (changed j) (skipChange f on ahead)) ≡ []
+    skipped Nothing on ahead = refl
+    skipped (At k) true ahead = refl
+    skipped (At k) false ahead = refl
 
-    go : (r : Role) → roleOfCall c ≡ r → Quiet r → those counts (map (marked j) (changesBy h c)) ≡ []
+    go : (r : Role) → roleOfCall c ≡ r → Quiet r → those counts (map (changed j) (changesBy h c)) ≡ []
     go off q n = rw (q, changesBy)
     go load q n = rw (q, changesBy)
     go report q n = absurd n
     go other q n = rw (q, changesBy)
-    go (skip t on) q n = rw (q, changesBy) (skipped (stopNamed (routeBy h) t) on (progressBy h))
+    go (skip t on) q n = rw (q, changesBy) (skipped (stopNamed (routeBy h) t) on (endAhead (routeBy h .load) (standingBy h)))

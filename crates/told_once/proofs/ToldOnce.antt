@@ -18,7 +18,7 @@ use Rattle.position.specs.Standing.{standing, isPassed}
 use Rattle.position.specs.declared.Standing.{Standing}
 use Rattle.position.specs.declared.Standing.the-variants.{Unused, Targeted, Reached, Passed}
 use Rattle.timing.specs.Changes.{statusStopped, statusDeparted}
-use Rattle.call.specs.Call.{Call}
+use Rattle.call_values.specs.Call.{Call}
 use Rattle.whole_list.specs.Values.{History, routeBy, behindAtLoad}
 use Rattle.whole_list.specs.Rules.{StandsBy}
 use Rattle.whole_list.specs.Calls.{historyOf}

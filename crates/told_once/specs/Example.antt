@@ -4,7 +4,7 @@ use mathlib.Core.List.{List, [], _∷_, _++_, map}
 use Prim.Native.Nat.{ℕ}
 use Rattle.position.specs.declared.Standing.{Standing}
 use Rattle.position.specs.declared.Standing.the-variants.{Unused, Targeted, Reached, Passed}
-use Rattle.call.specs.Call.{Call}
+use Rattle.call_values.specs.Call.{Call}
 use Rattle.call.specs.Trials.{plain, powerOn, trialLoad, at, skip}
 use Rattle.whole_list.specs.Values.{behindAtLoad}
 use Rattle.whole_list.specs.Calls.{historyOf}

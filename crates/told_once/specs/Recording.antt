@@ -11,7 +11,7 @@ use Rattle.packets.specs.Packets.{packetOf}
 use Rattle.packets.specs.declared.TimingPoint.{TimingPoint}
 use Rattle.packets.specs.declared.Packet.{Packet}
 use Rattle.timing.specs.Changes.{statusPassed, statusStopped, statusDeparted, when}
-use Rattle.call.specs.Call.{Call, Accepted}
+use Rattle.call_values.specs.Call.{Call, Accepted}
 use Rattle.whole_list.specs.Values.{roleOfCall}
 use Rattle.whole_list.specs.Calls.{Done, trace}
 use Rattle.whole_list.specs.Recorded.{recordedBy}

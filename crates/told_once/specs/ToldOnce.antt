@@ -14,7 +14,7 @@ use Rattle.position.specs.Standing.{isPassed}
 use Rattle.position.specs.declared.Standing.{Standing}
 use Rattle.position.specs.declared.Standing.the-variants.{Unused, Targeted, Reached, Passed}
 use Rattle.timing.specs.Changes.{statusStopped, statusDeparted}
-use Rattle.call.specs.Call.{Call}
+use Rattle.call_values.specs.Call.{Call}
 use Rattle.whole_list.specs.Values.{History, routeBy, behindAtLoad}
 use Rattle.whole_list.specs.Rules.{StandsBy, standingBy}
 use Rattle.whole_list.specs.Calls.{historyOf}

@@ -3,7 +3,7 @@ use mathlib.Core.List.{List}
 use Rattle.engine_value.specs.declared.Engine.{Engine}
 use Rattle.timing.specs.Rule.{departing, through, pointOutcome, standingByReports}
 use Rattle.conditions.specs.Conditions.{O}
-use Rattle.call.specs.Call.{Call}
+use Rattle.call_values.specs.Call.{Call}
 use Rattle.call.proofs.Computed.{computed}
 use Rattle.whole_list.specs.Values.{eventOfCall, loadOfCall, latest, routeBy, skippedBy, reportsSince, behindAtLoad}
 use Rattle.whole_list.specs.Rules.{standingBy, conditionsBy, valuesBy, someBelow, becameReachedBy, machineBy, requestBy}

@@ -20,7 +20,7 @@ use Rattle.event.specs.Kinds.{carried, Role, off, load, report, other, skip, ne
 use Rattle.route.specs.Route.{LoadValue, loadOf}
 use Rattle.route.proofs.Ranges.{PointFits, LoadFits, load-fits}
 use Rattle.position.specs.Position.{point, pointCount}
-use Rattle.call.specs.Call.{Call}
+use Rattle.call_values.specs.Call.{Call}
 use Rattle.whole_list.specs.Values.{History, eventOfCall, loadOfCall, roleOfCall, latest, positionBy, routeLoaded, routeBy}
 use Rattle.whole_list.proofs.Recorded.{Ranged}
 

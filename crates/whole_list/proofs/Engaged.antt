@@ -33,9 +33,9 @@ use Rattle.engagement.proofs.Run as run
 use Rattle.state_codes.specs.declared.State.the-variants.{EG}
 use Rattle.state_codes.specs.declared.EtcsMode.the-variants.{Other, AD}
 use Rattle.engagement.proofs.Requests.{run-holds}
-use Rattle.call.specs.Call.{Call}
+use Rattle.call_values.specs.Call.{Call}
 use Rattle.whole_list.specs.Values.{History, eventOfCall, latest, modeBy, reportsBy, positionBy, routeBy}
-use Rattle.whole_list.specs.Rules.{StandsBy, standingBy, valuesBy, BecameReached, JustReached, newlyReached, becameReachedBy, machineBy, stateBy, requestBy, noCall, callAt, upto, Engaged}
+use Rattle.whole_list.specs.Rules.{StandsBy, standingBy, valuesBy, BecameReached, JustReached, newlyReached, becameReachedBy, machineBy, stateBy, requestBy, noCall, callAt, upto, Moments, Engaged}
 use Rattle.whole_list.specs.Table.{tableBy}
 use Rattle.whole_list.specs.WholeList.{Requested}
 use Rattle.whole_list.proofs.FieldsReached.{newly}
@@ -100,7 +100,7 @@ so-just c h r =
     (newly (pointCount (routeBy h)) (standingBy (c ∷ h)) (standingBy h) .1
     (r .point, r .one-of-them, stands-exactly (c ∷ h) (r .point) Reached .1 (r .after), λ s. r .before (stands-exactly h (r .point) Reached .0 s)))
 
-saw : (h : History) → (becameReachedBy h ≡ true) ↔ JustReached h
+pub saw : (h : History) → (becameReachedBy h ≡ true) ↔ JustReached h
 unfolding becameReachedBy
 saw [] = ((λ e. false≢true e), (λ x. absurd x))
 saw (c ∷ h) = (just-so c h, so-just c h)
@@ -140,11 +140,14 @@ upto-next h k l =
     let e : suc (length h - suc k) ≡ length h - k = omega arith in
     rw (← e) (drop-cons h (length h - suc k) noCall (omega arith))
 
-pub upto-all : (h : History) → upto h (length h) ≡ h
+upto-all : (h : History) → upto h (length h) ≡ h
 upto-all h = let e : length h - length h ≡ 0 = omega arith in rw e refl
 
 upto-none : (h : History) → upto h 0 ≡ []
 upto-none h = let e : length h - 0 ≡ length h = omega arith in rw e (drop-length h)
+
+pub moments : (h : History) → Moments h
+moments h = record { after-all = upto-all h; after-none = upto-none h; after-one-more = upto-next h }
 
 good-drop : (n : ℕ) (h : History) → Good h → Good (drop n h)
 good-drop zero h g = g

@@ -163,7 +163,7 @@ stands-at h k l = as-rule (routeBy h) (behindAtLoad h) (reportsSince h) (behind-
 
 -- ---- the conditions look only at points of the journey
 
-pub first-ext : (s t : ℕ → Standing) (n k : ℕ) → ((i : ℕ) → k ≤ i → i < k + n → s i ≡ t i) → firstAhead s n k ≡ firstAhead t n k
+first-ext : (s t : ℕ → Standing) (n k : ℕ) → ((i : ℕ) → k ≤ i → i < k + n → s i ≡ t i) → firstAhead s n k ≡ firstAhead t n k
 unfolding firstAhead
 first-ext s t zero k e = refl
 first-ext s t (suc n) k e =
@@ -172,7 +172,7 @@ first-ext s t (suc n) k e =
     ap (λ x. if isPassed x then firstAhead s n (k + 1) else k) z ∙ ap (λ m. if isPassed (t k) then m else k) ih
 
 module _ (j : Route) (s t : ℕ → Standing) (ends : RouteIn j) (same : (k : ℕ) → k < pointCount j → s k ≡ t k) where
-  end-ext : endAhead (j .load) s ≡ endAhead (j .load) t
+  pub end-ext : endAhead (j .load) s ≡ endAhead (j .load) t
   end-ext = go _ refl
     where
       go : (b : Bool) → j .load .valid ≡ b → endAhead (j .load) s ≡ endAhead (j .load) t

@@ -16,7 +16,8 @@ use Rattle.states.specs.declared.Values.{Values}
 use Rattle.states.specs.declared.Machine.{Machine}
 use Rattle.states.specs.ControlGroup.{valuesIn, machineIn, controlOf, controlAfter}
 use Rattle.call.specs.Effect.{stored}
-use Rattle.call.specs.Call.{Call, conditionsIn, stepBy}
+use Rattle.call_values.specs.Call.{Call}
+use Rattle.call.specs.Call.{conditionsIn, stepBy}
 use Rattle.whole_list.specs.Values.{History, eventOfCall, modeBy, leverBy, reportsBy, positionBy, routeBy}
 use Rattle.whole_list.specs.Rules.{standingBy, conditionsBy, valuesBy, becameReachedBy, machineBy, stateBy, requestBy}
 use Rattle.whole_list.proofs.Fields.{inputsBy, controlBy, engineOf, conditions-is}

@@ -1,13 +1,10 @@
 -- The effect of an event at the engine of a history, with the rows "book" to "skip" of the table, is by the rules.
 use mathlib.Core.Path.{_≡_, refl, sym, _∙_, ap, subst}
-use mathlib.Core.Bool.{Bool, true, false, _||_, false≢true}
+use mathlib.Core.Bool.{Bool, true, false, _||_}
 use mathlib.Core.List.{List, [], _∷_, _++_}
 use mathlib.Core.Option.{Option, none, some}
-use Prim.Native.Nat.{ℕ, _≤_}
-use native.Mathlib.Omega.{arith}
-use lib.Dec.{ltb}
+use Prim.Native.Nat.{ℕ}
 use lib.ListN.{getD}
-use borrow.Author.Tests.{ltb-true, ltb-false}
 use Rattle.wire.specs.Numbers.{if_then_else_}
 use Rattle.wire.specs.Judged.{Judged, thenJudge, row}
 use Rattle.wire.specs.Judged.Judged.{refuse, accept}
@@ -30,17 +27,17 @@ use Rattle.position.specs.Skips.{stopNamed, stopAt}
 use Rattle.position.specs.declared.Found.{Found}
 use Rattle.position.specs.declared.Found.the-variants.{At, Nothing}
 use Rattle.timing.proofs.Steps.{run-snoc}
-use Rattle.position.proofs.Laws.{standing-passed}
 use Rattle.state_codes.specs.Codes.{code}
 use Rattle.look_up.specs.LookUp.{lookUp}
 use Rattle.look_up.specs.declared.LookedUp.{LookedUp}
-use Rattle.call.specs.Effect.{JourneyAfter, kept, cleared, replaced, skipSet, Effect, trainWith, inputsWith, offsetBeyond, sameBool, reportedIn, positionEffect, loadedIn, loadEffect, skippedIn, skipEffect, effectAs, effect, routeAfter, skipsAfter, stored}
-use Rattle.call.specs.Call.{Call}
+use Rattle.call_values.specs.Rows.{offsetBeyond, sameBool}
+use Rattle.call.specs.Effect.{JourneyAfter, kept, cleared, replaced, skipSet, Effect, trainWith, inputsWith, reportedIn, positionEffect, loadedIn, loadEffect, skippedIn, skipEffect, effectAs, effect, routeAfter, skipsAfter, stored}
+use Rattle.call_values.specs.Call.{Call}
 use Rattle.whole_list.specs.Values.{History, eventOfCall, loadOfCall, roleOfCall, latest, numberBy, positionBy, lengthBy, routeLoaded, routeBy, skippedBy, reportAt, reportsSince, behindAtLoad}
 use Rattle.whole_list.specs.Rules.{standingBy, stateBy, machineBy, requestBy, newlyReached, becameReachedBy}
-use Rattle.whole_list.specs.Table.{changesFrom, changesBy, progressBy, skipChange, headOf, headOfCall, skipRows, kindRows}
+use Rattle.whole_list.specs.Table.{headOf, headOfCall, skipRows, kindRows}
 use Rattle.whole_list.proofs.Fields.{Below, skipBy, skipsThen, skipsOf, progressRun, trainBy, inputsBy, controlBy, engineOf, stop-in, skips-at, stands-at}
-use Rattle.whole_list.proofs.FieldsStep.{report-is, changes-is, became-is, target-is, progress-is}
+use Rattle.whole_list.proofs.FieldsStep.{skipRun, changesRun, report-is, became-is, target-is}
 
 -- ---- what is by the role of an event
 
@@ -76,7 +73,7 @@ effectOf h c = record {
   inputs = inputsBy (c ∷ h);
   control = controlThen h (roleOfCall c);
   loaded = headOfCall c;
-  changes = changesBy h c;
+  changes = changesRun h c;
   reached = becameReachedBy (c ∷ h);
 }
 
@@ -101,7 +98,7 @@ module _ (h : History) (o : Option LoadValue) (t : ℕ) (r : distance.Report) (c
     inputs = inputsOf (numbersThen q c);
     control = controlThen h q;
     loaded = elim q [ off ↦ none | load ↦ headOf o | report ↦ none | other ↦ none | skip t on ↦ none ];
-    changes = elim q [ off ↦ [] | load ↦ [] | report ↦ changes | other ↦ [] | skip t on ↦ skipChange (stopNamed (routeBy h) t) on (progressBy h) ];
+    changes = elim q [ off ↦ [] | load ↦ [] | report ↦ changes | other ↦ [] | skip t on ↦ skipRun (stopNamed (routeBy h) t) on (progressRun h) ];
     reached = elim q [ off ↦ false | load ↦ false | report ↦ became | other ↦ false | skip t on ↦ false ];
   }
 
@@ -122,11 +119,11 @@ abbrev startIn : History → Call → ℕ
 startIn h c = target (routeBy (c ∷ h)) (positionBy (c ∷ h)) (lengthBy (c ∷ h))
 
 abbrev changedIn : History → Call → List Change
-changedIn h c = changesFrom (standingBy h) (standingBy (c ∷ h)) (pointCount (routeBy h)) 0
+changedIn h c = reportChanges (routeBy h) (reportAt (c ∷ h)) (progressRun h)
 
 -- it is the same
 same-effect : (h : History) (c : Call) → effectOf h c ≡ effectBy h (loadOfCall c) (startIn h c) (reportAt (c ∷ h)) (changedIn h c) (newlyReached c h) (roleOfCall c) (carried (eventOfCall c))
-unfolding latest routeBy reportsSince behindAtLoad progressRun changesBy becameReachedBy
+unfolding latest routeBy reportsSince behindAtLoad progressRun becameReachedBy
 same-effect h c = refl
 
 same-rows : (h : History) (c : Call) → kindRows h c ≡ rowsBy h (roleOfCall c) (carried (eventOfCall c)) (loadOf (c .journey) (c .book))
@@ -175,44 +172,19 @@ stored-is h c =
 
 -- ---- kind by kind
 
--- of a driver skip or its revocation, where the rows accept it, by the progress that its packet names
-abbrev skipEffectBy : History → Carried → Found → Bool → Progress → Effect
-skipEffectBy h c f on p =
-    record { journey = skipAfter f on; train = trainWith (engineOf h) c; progress = progressRun h; inputs = inputsWith (engineOf h) c; control = controlBy h; loaded = none; changes = skipChange f on p; reached = false }
-
-or-false : (a b : Bool) → (a || b) ≡ false → a ≡ false
-or-false true b e = e
-or-false false b e = refl
-
-ahead : (p : Progress) (k : ℕ) → behind (standing p k) ≡ false → p .next ≤ k
-ahead p k e = go _ refl
-  where
-    go : (b : Bool) → ltb k (p .next) ≡ b → p .next ≤ k
-    go true q = absurd (false≢true (sym e ∙ ap behind (standing-passed p k (ltb-true k (p .next) q))))
-    go false q = ltb-false k (p .next) q
+-- of a driver skip or its revocation, where the rows accept it
+abbrev skipEffectBy : History → Carried → Found → Bool → Effect
+skipEffectBy h c f on =
+    record { journey = skipAfter f on; train = trainWith (engineOf h) c; progress = progressRun h; inputs = inputsWith (engineOf h) c; control = controlBy h; loaded = none; changes = skipRun f on (progressRun h); reached = false }
 
 by-skip : (h : History) (c : Carried) (f : Found) (on : Bool) → Below (pointCount (routeBy h)) f
-    → skipEffect (engineOf h) c on (stopAt (skipsOf h) f) ≡ thenJudge (skipRows h f on) (λ u. accept (skipEffectBy h c f on (progressBy h)))
+    → skipEffect (engineOf h) c on (stopAt (skipsOf h) f) ≡ thenJudge (skipRows h f on) (λ u. accept (skipEffectBy h c f on))
 unfolding skipEffect
 by-skip h c Nothing on l = refl
-by-skip h c (At k) on l = ap (λ b. thenJudge (row 15 b) (λ u. accept (skippedIn (engineOf h) c k on))) same ∙ go _ refl
+by-skip h c (At k) on l = ap (λ b. thenJudge (row 15 b) (λ u. accept (skippedIn (engineOf h) c k on))) same
   where
-    test : Bool
-    test = behind (standingBy h k) || sameBool (skippedBy h k) on
-
-    same : (behind (standing (progressRun h) k) || sameBool (getD (skipsOf h) k false) on) ≡ test
+    same : (behind (standing (progressRun h) k) || sameBool (getD (skipsOf h) k false) on) ≡ (behind (standingBy h k) || sameBool (skippedBy h k) on)
     same = ap (λ s. behind s || sameBool (getD (skipsOf h) k false) on) (stands-at h k l) ∙ ap (λ b. behind (standingBy h k) || sameBool b on) (skips-at h k)
-
-    does : Bool → Progress → Judged Effect
-    does b p = thenJudge (row 15 b) (λ u. accept (skipEffectBy h c (At k) on p))
-
-    go : (b : Bool) → test ≡ b → does test (progressRun h) ≡ does test (progressBy h)
-    go true e = ap (λ b. does b (progressRun h)) e ∙ sym (ap (λ b. does b (progressBy h)) e)
-    go false e =
-        let s : behind (standing (progressRun h) k) ≡ false = ap behind (stands-at h k l) ∙ or-false (behind (standingBy h k)) _ e in
-        let n : progressRun h .next ≤ k = ahead (progressRun h) k s in
-        let p : progressBy h ≡ progressRun h = progress-is h (omega arith) in
-        ap (does test) (sym p)
 
 module _ (h : History) (t : ℕ) (r : distance.Report) (changes : List Change) (became : Bool) (journey book : List ℕ) where
   abbrev ByWith : Judged LoadValue → Role → Carried → Judged Effect
@@ -275,7 +247,7 @@ pub effect-is : (h : History) (c : Call) → effect (engineOf h) (c .journey) (c
 unfolding loadOfCall effect
 effect-is h c =
     effect-by h (startIn h c) (reportAt (c ∷ h)) (changedIn h c) (newlyReached c h) (c .journey) (c .book) (eventOfCall c)
-    (λ x q. by-report h (startIn h c) (reportAt (c ∷ h)) (changedIn h c) (newlyReached c h) (c .journey) (c .book) x (report-is c h x q) (changes-is c h x q) (became-is c h x q))
+    (λ x q. by-report h (startIn h c) (reportAt (c ∷ h)) (changedIn h c) (newlyReached c h) (c .journey) (c .book) x (report-is c h x q) (ap (λ r. reportChanges (routeBy h) r (progressRun h)) (report-is c h x q)) (became-is c h x q))
     (λ q. by-load h (startIn h c) (reportAt (c ∷ h)) (changedIn h c) (newlyReached c h) (c .journey) (c .book) (λ l p. target-is c h q l p))
     ∙ sym
     (ap (λ m. thenJudge m (λ u. accept (effectOf h c))) (same-rows h c)

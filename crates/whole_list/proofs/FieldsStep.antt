@@ -1,11 +1,10 @@
 -- What an event does to the engine of a history, and the table's rows "book" to "skip", are by the rules.
 use mathlib.Core.Path.{_≡_, refl, sym, _∙_, ap}
-use mathlib.Core.Logic.{_⊎_, inl, inr}
 use mathlib.Core.Bool.{Bool, true, false}
-use mathlib.Core.List.{[], _∷_, _++_}
-use Prim.Native.Nat.{ℕ, zero, suc, _+_, _≤_, _<_}
+use mathlib.Core.List.{List, [], _∷_, _++_, map}
+use Prim.Native.Nat.{ℕ, _<_}
 use native.Mathlib.Omega.{arith}
-use native.Mathlib.Nat.{eq-or-lt-of-le}
+use lib.Dec.{leb}
 use lib.ListN.{length}
 use Rattle.wire.specs.Numbers.{if_then_else_}
 use Rattle.wire.specs.Judged.Judged.{accept}
@@ -14,25 +13,31 @@ use Rattle.engine_value.specs.declared.Position.{Position}
 use Rattle.engine_value.specs.declared.Progress.{Progress}
 use Rattle.event.specs.declared.Event.{Event}
 use Rattle.event.specs.declared.Event.the-variants.{PositionReport, Load}
-use Rattle.event.specs.Kinds.{roleOf}
+use Rattle.event.specs.Kinds.{Role, off, load, report, other, skip, roleOf}
+use Rattle.event.proofs.Known.{OfRole, known}
 use Rattle.route.specs.Route.{LoadValue, loadOf}
 use Rattle.position.specs.Position.{pointCount}
 use Rattle.timing.specs.Distance as distance
-use Rattle.position.specs.Standing.{standing, isPassed, isReached}
+use Rattle.position.specs.Standing.{standing}
+use Rattle.position.specs.Skips.{stopNamed}
+use Rattle.position.specs.declared.Found.{Found}
+use Rattle.position.specs.declared.Found.the-variants.{At, Nothing}
 use Rattle.timing.specs.Load.{target}
 use Rattle.timing.specs.Report.{reported, becameReached, run}
-use Rattle.timing.specs.Changes.{reportChanges}
+use Rattle.timing.specs.Changes.{Change, change, statusSkipped, statusRevoked, reportChanges}
 use Rattle.timing.proofs.Steps.{run-snoc}
-use Rattle.position.proofs.Laws.{standing-passed}
 use Rattle.timing.proofs.Rule.{became-reached}
-use Rattle.conditions.specs.Conditions.{firstAhead}
-use Rattle.call.specs.Call.{Call}
+use Rattle.conditions.specs.Conditions.{endAhead}
+use Rattle.call_values.specs.Packets.{pointChange}
+use Rattle.call.specs.Packets.{changeIn}
+use Rattle.call_values.specs.Call.{Call}
 use Rattle.whole_list.specs.Values.{History, eventOfCall, loadOfCall, roleOfCall, latest, positionBy, lengthBy, routeBy, skippedBy, reportAt, reportsSince, behindAtLoad}
 use Rattle.whole_list.specs.Rules.{standingBy, newlyReached}
-use Rattle.whole_list.specs.Table.{changesFrom, progressBy}
+use Rattle.whole_list.specs.Table.{standingThen, changesFrom, skipChange, changesBy}
+use Rattle.whole_list.proofs.Decoded.{route-in}
 use Rattle.whole_list.proofs.FieldsReached.{same-bool, newly}
-use Rattle.whole_list.proofs.Fields.{first-ext, progressRun, engineOf, skips-at, in-range, stands-at}
-use Rattle.whole_list.proofs.TableChanges.{changes-ext, standing-reached, standing-targeted, changes-same}
+use Rattle.whole_list.proofs.Fields.{progressRun, engineOf, skips-at, in-range, stands-at, end-ext}
+use Rattle.whole_list.proofs.TableChanges.{changes-ext, changes-same}
 
 -- ---- a position report
 
@@ -78,12 +83,24 @@ module _ (c : Call) (h : History) (x : Position) (q : eventOfCall c ≡ Position
   after-is : (k : ℕ) → k < pointCount (routeBy h) → standing (reported (routeBy h) (reportAt (c ∷ h)) (progressRun h)) k ≡ standingBy (c ∷ h) k
   after-is k l = ap (λ p. standing p k) (sym progress-new) ∙ stands-at (c ∷ h) k (rw route-kept l)
 
-  pub changes-is : changesFrom (standingBy h) (standingBy (c ∷ h)) (pointCount (routeBy h)) 0 ≡ reportChanges (routeBy h) (distance.reportFrom (engineOf h) x) (progressRun h)
+  then-is : (i k : ℕ) → k < pointCount (routeBy h)
+      → standingThen (standingBy h) (standingBy (c ∷ h)) i k ≡ standingThen (standing (progressRun h)) (standing (reported (routeBy h) (reportAt (c ∷ h)) (progressRun h))) i k
+  then-is i k l = go (leb k i)
+    where
+      go : (b : Bool) → (if b then standingBy (c ∷ h) k else standingBy h k)
+          ≡ (if b then standing (reported (routeBy h) (reportAt (c ∷ h)) (progressRun h)) k else standing (progressRun h) k)
+      go true = sym (after-is k l)
+      go false = sym (stands-at h k l)
+
+  pub changes-is : changesFrom (routeBy h .load) (standingBy h) (standingBy (c ∷ h)) (pointCount (routeBy h)) 0
+      ≡ map (changeIn (routeBy h .load)) (reportChanges (routeBy h) (reportAt (c ∷ h)) (progressRun h))
   changes-is =
-      changes-ext (standingBy h) (standingBy (c ∷ h)) (standing (progressRun h)) (standing (reported (routeBy h) (reportAt (c ∷ h)) (progressRun h))) (pointCount (routeBy h)) 0
+      let before = standing (progressRun h) in
+      let after = standing (reported (routeBy h) (reportAt (c ∷ h)) (progressRun h)) in
+      changes-ext (routeBy h .load) (standingBy h) (standingBy (c ∷ h)) before after (pointCount (routeBy h)) 0
       (λ i l m. sym (stands-at h i (omega arith))) (λ i l m. sym (after-is i (omega arith)))
+      (λ i. end-ext (routeBy h) (standingThen (standingBy h) (standingBy (c ∷ h)) i) (standingThen before after i) (route-in h) (then-is i))
       ∙ changes-same (routeBy h) (reportAt (c ∷ h)) (progressRun h) (in-range h)
-      ∙ ap (λ r. reportChanges (routeBy h) r (progressRun h)) report-is
 
   pub became-is : newlyReached c h ≡ becameReached (routeBy h) (distance.reportFrom (engineOf h) x) (progressRun h)
   became-is = same-bool _ _ there back ∙ ap (λ r. becameReached (routeBy h) r (progressRun h)) report-is
@@ -114,36 +131,36 @@ module _ (c : Call) (h : History) (q : eventOfCall c ≡ Load) (l : LoadValue) (
       ∙ ap (λ y. target (l .route) y (lengthBy (c ∷ h))) x
       ∙ ap (λ m. target (l .route) (positionBy h) m) n
 
--- ---- a driver skip
+-- ---- the points that an event changes
 
-not-passed : (p : Progress) → isPassed (standing p (p .next)) ≡ false
-not-passed p = go _ refl
+abbrev pub skipRun : Found → Bool → Progress → List Change
+skipRun Nothing on p = []
+skipRun (At k) on p = change k (if on then statusSkipped else statusRevoked) p ∷ []
+
+-- by the steps
+abbrev pub changesRun : History → Call → List Change
+changesRun h c = elim (roleOfCall c) [
+  | off ↦ []
+  | load ↦ []
+  | report ↦ reportChanges (routeBy h) (reportAt (c ∷ h)) (progressRun h)
+  | other ↦ []
+  | skip t on ↦ skipRun (stopNamed (routeBy h) t) on (progressRun h)
+]
+
+-- they are those of the rules
+pub changes-by : (h : History) (c : Call) → map (changeIn (routeBy (c ∷ h) .load)) (changesRun h c) ≡ changesBy h c
+unfolding changesBy routeBy
+changes-by h c = go (roleOfCall c) refl (known (eventOfCall c) .role)
   where
-    go : (b : Bool) → p .reached ≡ b → isPassed (standing p (p .next)) ≡ false
-    go true e = ap isPassed (standing-reached p e)
-    go false e = ap isPassed (standing-targeted p e)
+    skipped : (f : Found) (on : Bool) → map (changeIn (routeBy h .load)) (skipRun f on (progressRun h)) ≡ skipChange f on (endAhead (routeBy h .load) (standingBy h))
+    skipped Nothing on = refl
+    skipped (At k) on =
+        ap (λ b. pointChange k (if on then statusSkipped else statusRevoked) b ∷ [])
+        (end-ext (routeBy h) (standing (progressRun h)) (standingBy h) (route-in h) (stands-at h))
 
-is-there : (p : Progress) → isReached (standing p (p .next)) ≡ p .reached
-is-there p = go _ refl
-  where
-    go : (b : Bool) → p .reached ≡ b → isReached (standing p (p .next)) ≡ p .reached
-    go true e = ap isReached (standing-reached p e) ∙ sym e
-    go false e = ap isReached (standing-targeted p e) ∙ sym e
-
-first-is : (p : Progress) (n k : ℕ) → k ≤ p .next → p .next < k + n → firstAhead (standing p) n k ≡ p .next
-unfolding firstAhead
-first-is p zero k l m = absurd (omega arith)
-first-is p (suc n) k l m = go (eq-or-lt-of-le l) (λ a. first-is p n (k + 1) a (omega arith))
-  where
-    go : (k ≡ p .next) ⊎ (k < p .next) → (k + 1 ≤ p .next → firstAhead (standing p) n (k + 1) ≡ p .next) → firstAhead (standing p) (suc n) k ≡ p .next
-    go (inr i) f = ap (λ s. if isPassed s then firstAhead (standing p) n (k + 1) else k) (standing-passed p k i) ∙ f (omega arith)
-    go (inl i) f = ap (λ b. if b then firstAhead (standing p) n (k + 1) else k) (ap (λ m. isPassed (standing p m)) i ∙ not-passed p) ∙ i
-
--- the first point not passed, and whether it is reached
-pub progress-is : (h : History) → progressRun h .next < pointCount (routeBy h) → progressBy h ≡ progressRun h
-progress-is h l =
-    let e : firstAhead (standingBy h) (pointCount (routeBy h)) 0 ≡ progressRun h .next =
-    first-ext (standingBy h) (standing (progressRun h)) (pointCount (routeBy h)) 0 (λ i a b. sym (stands-at h i (omega arith)))
-    ∙ first-is (progressRun h) (pointCount (routeBy h)) 0 (omega arith) (omega arith) in
-    ap (λ k. progress k (isReached (standingBy h k))) e
-    ∙ ap (λ b. progress (progressRun h .next) b) (ap isReached (sym (stands-at h (progressRun h .next) l)) ∙ is-there (progressRun h))
+    go : (q : Role) → roleOfCall c ≡ q → OfRole q (eventOfCall c) → map (changeIn (routeBy (c ∷ h) .load)) (changesRun h c) ≡ changesBy h c
+    go off z k = rw (z, changesRun, changesBy)
+    go load z k = rw (z, changesRun, changesBy)
+    go report z k = rw (z, changesRun, changesBy, routeBy) (sym (changes-is c h (k .0) (k .1)))
+    go other z k = rw (z, changesRun, changesBy)
+    go (skip t on) z k = rw (z, changesRun, changesBy, routeBy) (skipped (stopNamed (routeBy h) t) on)

@@ -11,6 +11,7 @@ pub mod FieldsControl
 pub mod TableChanges
 pub mod TableRows
 pub mod Engaged
+pub mod Shown
 pub mod Passed
 pub mod WholeList
 pub mod Computed

@@ -10,7 +10,6 @@ use Rattle.wire.specs.Judged.{Judged}
 use Rattle.wire.specs.Judged.Judged.{refuse, accept}
 use Rattle.engine_value.specs.Engine.{Route}
 use Rattle.engine_value.specs.declared.Position.{Position}
-use Rattle.engine_value.specs.declared.Progress.{Progress}
 use Rattle.event.specs.declared.Event.{Event}
 use Rattle.event.specs.Kinds.{Role, off, load, report, other, skip}
 use Rattle.event.proofs.Known.{OfRole, known}
@@ -19,22 +18,25 @@ use Rattle.packets.specs.Packets.{packetOf, cut, cutPackets}
 use Rattle.packets.specs.declared.TimingPoint.{TimingPoint}
 use Rattle.packets.specs.declared.Packet.{Packet}
 use Rattle.position.specs.Position.{point, pointCount}
-use Rattle.timing.specs.Distance.{Report}
-use Rattle.timing.specs.Changes.{Change, statusPassed, when, reportChanges}
+use Rattle.timing.specs.Changes.{statusPassed, when, reportChanges}
 use Rattle.position.specs.Skips.{stopNamed}
 use Rattle.position.specs.declared.Found.{Found}
 use Rattle.position.specs.declared.Found.the-variants.{At, Nothing}
 use Rattle.timing.proofs.Changes.{Behind, recorded-behind, index-below}
 use Rattle.journey.specs.declared.Head.{Head}
-use Rattle.call.specs.Packets.{timingPoint, jpReceived, atoStatus, statusDue, received, packetsOf}
-use Rattle.call.specs.Call.{Call, stepOf}
+use Rattle.conditions.specs.Conditions.{endAhead}
+use Rattle.call_values.specs.Packets.{PointChange, timingPoint, jpReceived, atoStatus, statusDue, received, packetsOf}
+use Rattle.call.specs.Packets.{changeIn}
+use Rattle.call_values.specs.Call.{Call}
+use Rattle.call.specs.Call.{stepOf}
 use Rattle.whole_list.specs.Values.{History, eventOfCall, positionBy, routeBy, reportAt, roleOfCall}
-use Rattle.whole_list.specs.Table.{skipChange, changesBy, headOfCall, statusBy, progressBy, packetsBy, tableBy}
+use Rattle.whole_list.specs.Table.{skipChange, changesBy, headOfCall, statusBy, packetsBy, tableBy}
+use Rattle.whole_list.specs.Rules.{standingBy}
 use Rattle.whole_list.specs.Calls.{engineAfter, historyOf}
 use Rattle.whole_list.specs.Recorded.{In}
 use Rattle.whole_list.specs.WholeList.{bytesOfEach, JudgedByTable, TrulyPassed, NothingAhead}
 use Rattle.whole_list.proofs.Fields.{progressRun, in-range}
-use Rattle.whole_list.proofs.FieldsStep.{route-kept, position-new, report-is, changes-is}
+use Rattle.whole_list.proofs.FieldsStep.{route-kept, position-new, changes-is}
 use Rattle.whole_list.proofs.Readable.{packets-fit, read-as}
 
 zero-one : _≡_ {A = ℕ} 0 1 → ⊥
@@ -45,17 +47,25 @@ member x [] i = absurd i
 member x (y ∷ l) (inl e) = List·Memᴰ·head e
 member x (y ∷ l) (inr i) = List·Memᴰ·tail (member x l i)
 
+in-map : {A B : Type 0} (f : A → B) (y : B) (l : List A) → In y (map f l) → (x : A) × In x l × (y ≡ f x)
+in-map f y [] i = absurd i
+in-map f y (x ∷ l) (inl e) = (x, inl refl, e)
+in-map f y (x ∷ l) (inr i) = let r = in-map f y l i in (r .0, inr (r .1), r .2)
+
 -- ---- a history that ends with a position report
 
 module _ (c : Call) (h : History) (x : Position) (e : eventOfCall c ≡ kind.PositionReport x) where
   -- what such a change of a report stands for
-  passed-so : (d : Change) → In d (changesBy h c) → d .status ≡ statusPassed → (d .index < pointCount (routeBy h)) × Behind (routeBy h) (reportAt (c ∷ h)) (d .index)
+  passed-so : (d : PointChange) → In d (changesBy h c) → d .status ≡ statusPassed → (d .index < pointCount (routeBy h)) × Behind (routeBy h) (reportAt (c ∷ h)) (d .index)
   unfolding changesBy
   passed-so d i s =
-      let report : changesBy h c ≡ reportChanges (routeBy h) (reportAt (c ∷ h)) (progressRun h) =
-      rw (e, changesBy) (changes-is c h x e) ∙ ap (λ r. reportChanges (routeBy h) r (progressRun h)) (sym (report-is c h x e)) in
-      let m = member d (reportChanges (routeBy h) (reportAt (c ∷ h)) (progressRun h)) (subst (In d) report i) in
-      (index-below (routeBy h) (reportAt (c ∷ h)) (progressRun h) d m (in-range h), recorded-behind (routeBy h) (reportAt (c ∷ h)) (progressRun h) d m s)
+      let r = reportAt (c ∷ h) in
+      let told : changesBy h c ≡ map (changeIn (routeBy h .load)) (reportChanges (routeBy h) r (progressRun h)) = rw (e, changesBy) (changes-is c h x e) in
+      let (a, k, z) = in-map (changeIn (routeBy h .load)) d (reportChanges (routeBy h) r (progressRun h)) (subst (In d) told i) in
+      let m = member a (reportChanges (routeBy h) r (progressRun h)) k in
+      let index : d .index ≡ a .index = ap (λ (y : PointChange). y .index) z in
+      let status : a .status ≡ statusPassed = sym (ap (λ (y : PointChange). y .status) z) ∙ s in
+      rw index (index-below (routeBy h) r (progressRun h) a m (in-range h), recorded-behind (routeBy h) r (progressRun h) a m status)
 
   truly-at : (packet : List ℕ) (k : ℕ) → k < pointCount (routeBy h) → Behind (routeBy h) (reportAt (c ∷ h)) k
       → ((p : TimingPoint) → packetOf packet ≡ accept (Packet.TimingPoint p) → p .nidtp ≡ point (routeBy (c ∷ h)) k .nidtp) → TrulyPassed (c ∷ h) packet
@@ -85,20 +95,15 @@ in-append x (y ∷ a) b (inr i) = go (in-append x a b i)
     go (inl j) = inl (inr j)
     go (inr j) = inr j
 
-in-map : {A B : Type 0} (f : A → B) (y : B) (l : List A) → In y (map f l) → (x : A) × In x l × (y ≡ f x)
-in-map f y [] i = absurd i
-in-map f y (x ∷ l) (inl e) = (x, inl refl, e)
-in-map f y (x ∷ l) (inr i) = let r = in-map f y l i in (r .0, inr (r .1), r .2)
-
-skip-no : (f : Found) (on : Bool) (p : Progress) (d : Change) → In d (skipChange f on p) → d .status ≡ statusPassed → ⊥
-skip-no Nothing on p d i s = i
-skip-no (At k) true p d (inl e) s = let z : _≡_ {A = ℕ} 5 0 = sym (ap (λ (c : Change). c .status) e) ∙ s in omega arith
-skip-no (At k) true p d (inr i) s = i
-skip-no (At k) false p d (inl e) s = let z : _≡_ {A = ℕ} 6 0 = sym (ap (λ (c : Change). c .status) e) ∙ s in omega arith
-skip-no (At k) false p d (inr i) s = i
+skip-no : (f : Found) (on x : Bool) (d : PointChange) → In d (skipChange f on x) → d .status ≡ statusPassed → ⊥
+skip-no Nothing on x d i s = i
+skip-no (At k) true x d (inl e) s = let z : _≡_ {A = ℕ} 5 0 = sym (ap (λ (c : PointChange). c .status) e) ∙ s in omega arith
+skip-no (At k) true x d (inr i) s = i
+skip-no (At k) false x d (inl e) s = let z : _≡_ {A = ℕ} 6 0 = sym (ap (λ (c : PointChange). c .status) e) ∙ s in omega arith
+skip-no (At k) false x d (inr i) s = i
 
 -- such a change is of a position report
-module _ (h : History) (c : Call) (d : Change) (i : In d (changesBy h c)) (s : d .status ≡ statusPassed) where
+module _ (h : History) (c : Call) (d : PointChange) (i : In d (changesBy h c)) (s : d .status ≡ statusPassed) where
   at-report : (x : Position) × (eventOfCall c ≡ kind.PositionReport x)
   unfolding changesBy
   at-report = go (roleOfCall c) refl (known (eventOfCall c) .role)
@@ -112,8 +117,8 @@ module _ (h : History) (c : Call) (d : Change) (i : In d (changesBy h c)) (s : d
       go report q k = k
       go other q k = none-there (rw (q, changesBy))
       go (skip t on) q k =
-          let z : changesBy h c ≡ skipChange (stopNamed (routeBy h) t) on (progressBy h) = rw (q, changesBy) in
-          absurd (skip-no (stopNamed (routeBy h) t) on (progressBy h) d (subst (In d) z i) s)
+          let z : changesBy h c ≡ skipChange (stopNamed (routeBy h) t) on (endAhead (routeBy h .load) (standingBy h)) = rw (q, changesBy) in
+          absurd (skip-no (stopNamed (routeBy h) t) on _ d (subst (In d) z i) s)
 
 -- ---- the packets
 
@@ -131,26 +136,26 @@ module _ (j : Route) (x : Position) (p : TimingPoint) where
   not-68 false s n q = q
 
   -- the values of a packet 62
-  values-62 : (d : Change) → Packet.TimingPoint p ≡ timingPoint j x d → (p .status ≡ d .status) × (p .nidtp ≡ point j (d .index) .nidtp)
+  values-62 : (d : PointChange) → Packet.TimingPoint p ≡ timingPoint j x d → (p .status ≡ d .status) × (p .nidtp ≡ point j (d .index) .nidtp)
   unfolding timingPoint
   values-62 d e = (cc, cc)
 
 -- only the 62s are of timing points
 timing-among : (h : History) (c : Call) (p : TimingPoint) → In (Packet.TimingPoint p) (packetsBy h c)
-    → (d : Change) × In d (changesBy h c) × (Packet.TimingPoint p ≡ timingPoint (routeBy (c ∷ h)) (positionBy (c ∷ h)) d)
+    → (d : PointChange) × In d (changesBy h c) × (Packet.TimingPoint p ≡ timingPoint (routeBy (c ∷ h)) (positionBy (c ∷ h)) d)
 unfolding packetsBy packetsOf
 timing-among h c p i = first (in-append (Packet.TimingPoint p) (received (routeBy (c ∷ h)) (positionBy (c ∷ h)) (headOfCall c)) _ i)
   where
     second : In (Packet.TimingPoint p) (map (timingPoint (routeBy (c ∷ h)) (positionBy (c ∷ h))) (changesBy h c))
         ⊎ In (Packet.TimingPoint p) (when (statusDue (statusBy h) (statusBy (c ∷ h))) (atoStatus (routeBy (c ∷ h)) (positionBy (c ∷ h)) (statusBy (c ∷ h) .state) (statusBy (c ∷ h) .conditions)))
-        → (d : Change) × In d (changesBy h c) × (Packet.TimingPoint p ≡ timingPoint (routeBy (c ∷ h)) (positionBy (c ∷ h)) d)
+        → (d : PointChange) × In d (changesBy h c) × (Packet.TimingPoint p ≡ timingPoint (routeBy (c ∷ h)) (positionBy (c ∷ h)) d)
     second (inl q) = in-map (timingPoint (routeBy (c ∷ h)) (positionBy (c ∷ h))) (Packet.TimingPoint p) (changesBy h c) q
     second (inr q) = absurd (not-68 (routeBy (c ∷ h)) (positionBy (c ∷ h)) p (statusDue (statusBy h) (statusBy (c ∷ h))) _ _ q)
 
     first : In (Packet.TimingPoint p) (received (routeBy (c ∷ h)) (positionBy (c ∷ h)) (headOfCall c))
         ⊎ In (Packet.TimingPoint p) (map (timingPoint (routeBy (c ∷ h)) (positionBy (c ∷ h))) (changesBy h c)
         ++ when (statusDue (statusBy h) (statusBy (c ∷ h))) (atoStatus (routeBy (c ∷ h)) (positionBy (c ∷ h)) (statusBy (c ∷ h) .state) (statusBy (c ∷ h) .conditions)))
-        → (d : Change) × In d (changesBy h c) × (Packet.TimingPoint p ≡ timingPoint (routeBy (c ∷ h)) (positionBy (c ∷ h)) d)
+        → (d : PointChange) × In d (changesBy h c) × (Packet.TimingPoint p ≡ timingPoint (routeBy (c ∷ h)) (positionBy (c ∷ h)) d)
     first (inl q) = absurd (not-65 (routeBy (c ∷ h)) (positionBy (c ∷ h)) p (headOfCall c) q)
     first (inr q) = second (in-append (Packet.TimingPoint p) (map (timingPoint (routeBy (c ∷ h)) (positionBy (c ∷ h))) (changesBy h c)) _ q)
 

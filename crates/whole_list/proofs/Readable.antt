@@ -12,7 +12,7 @@ use Rattle.wire.specs.Numbers.{flag, if_then_else_}
 use Rattle.wire.specs.Judged.Judged.{accept}
 use Rattle.engine_value.specs.Engine.{Route}
 use Rattle.engine_value.specs.declared.Position.{Position}
-use Rattle.engine_value.specs.declared.Progress.{Progress}
+use Rattle.engine_value.specs.declared.Load.{Load}
 use Rattle.wire.specs.Lists.{All}
 use Rattle.journey.proofs.Accepted.{HeadFits}
 use Rattle.journey.specs.declared.Head.{Head}
@@ -27,8 +27,7 @@ use Rattle.packets.specs.Packets.{packetBytes, packetFits, packetOf}
 use Rattle.packets.proofs.RoundTrips.{TypedPacket, read-written}
 use Rattle.packets.specs.declared.Packet.{Packet}
 use Rattle.position.specs.Position.{point, pointCount, known}
-use Rattle.position.specs.Standing.{standing}
-use Rattle.timing.specs.Changes.{Change, statusStopped, when}
+use Rattle.timing.specs.Changes.{statusStopped, when}
 use Rattle.position.specs.Skips.{stopNamed}
 use Rattle.position.specs.declared.Found.{Found}
 use Rattle.position.specs.declared.Found.the-variants.{At, Nothing}
@@ -37,11 +36,11 @@ use Rattle.position.specs.declared.Standing.the-variants.{Unused, Targeted, Rea
 use Rattle.conditions.specs.Conditions.{endAhead}
 use Rattle.conditions.proofs.WordLaws.{conditions-most}
 use Rattle.state_codes.proofs.CodeLaws.{code-most}
-use Rattle.call.specs.Packets.{header, timingPoint, jpReceived, atoStatus, statusDue, received, packetsOf}
-use Rattle.call.specs.Call.{Call}
+use Rattle.call_values.specs.Packets.{PointChange, header, timingPoint, jpReceived, atoStatus, statusDue, received, packetsOf}
+use Rattle.call_values.specs.Call.{Call}
 use Rattle.whole_list.specs.Values.{History, loadOfCall, roleOfCall, positionBy, routeBy}
 use Rattle.whole_list.specs.Rules.{standingBy, conditionsBy, stateBy}
-use Rattle.whole_list.specs.Table.{changeAt, changesFrom, skipChange, changesBy, headOf, headOfCall, statusBy, progressBy, packetsBy}
+use Rattle.whole_list.specs.Table.{changeAt, standingThen, changesFrom, skipChange, changesBy, headOf, headOfCall, statusBy, packetsBy}
 use Rattle.whole_list.specs.Recorded.{In}
 use Rattle.whole_list.specs.WholeList.{bytesOfEach}
 use Rattle.whole_list.proofs.Recorded.{Ranged}
@@ -77,11 +76,11 @@ module _ (j : Route) (x : Position) (r : Ranged j x) where
       go true = rw (le-leb n 127 h)
       go false = refl
 
-  fits-62 : (c : Change) → PointFits (point j (c .index)) → c .status ≤ 8 → Fits (timingPoint j x c)
+  fits-62 : (c : PointChange) → PointFits (point j (c .index)) → c .status ≤ 8 → Fits (timingPoint j x c)
   unfolding timingPoint
   fits-62 c p s =
       let q = point j (c .index) in (
-        rw (header-fits, le-leb (q .nidc) 1023 (p .nidc), le-leb _ 1 (flag-most (endAhead (j .load) (standing (c .after)))), le-leb (q .alignment) 2 (p .alignment), le-leb (c .status) 8 s)
+        rw (header-fits, le-leb (q .nidc) 1023 (p .nidc), le-leb _ 1 (flag-most (c .endAhead)), le-leb (q .alignment) 2 (p .alignment), le-leb (c .status) 8 s)
             (stopping-fits (c .status) (q .stopping) (p .stopping)),
         (header-typed, (tt, (omega (arith, p .nidtp), (tt, (tt, tt))))),
       )
@@ -103,7 +102,7 @@ module _ (j : Route) (x : Position) (r : Ranged j x) where
 
   -- ---- all of an event
 
-  all-62 : (l : List Change) → RouteIn j → All (λ (c : Change). c .status ≤ 8) l → All Fits (map (timingPoint j x) l)
+  all-62 : (l : List PointChange) → RouteIn j → All (λ (c : PointChange). c .status ≤ 8) l → All Fits (map (timingPoint j x) l)
   all-62 [] p a = tt
   all-62 (c ∷ l) p a = (fits-62 c (p .points (c .index)) (a .0), all-62 l p (a .1))
 
@@ -117,33 +116,34 @@ module _ (j : Route) (x : Position) (r : Ranged j x) where
 
 -- ---- the points that an event changes
 
-abbrev StatusIn : Change → Type 0
+abbrev StatusIn : PointChange → Type 0
 StatusIn c = c .status ≤ 8
 
-change-status : (b a : Standing) (k : ℕ) → All StatusIn (changeAt b a k)
-change-status Passed a k = tt
-change-status Reached Passed k = (omega arith, tt)
-change-status Reached Reached k = tt
-change-status Reached Targeted k = tt
-change-status Reached Unused k = tt
-change-status Targeted Passed k = (omega arith, tt)
-change-status Targeted Reached k = (omega arith, tt)
-change-status Targeted Targeted k = tt
-change-status Targeted Unused k = tt
-change-status Unused Passed k = (omega arith, tt)
-change-status Unused Reached k = (omega arith, tt)
-change-status Unused Targeted k = tt
-change-status Unused Unused k = tt
+change-status : (b a : Standing) (k : ℕ) (x : Bool) → All StatusIn (changeAt b a k x)
+change-status Passed a k x = tt
+change-status Reached Passed k x = (omega arith, tt)
+change-status Reached Reached k x = tt
+change-status Reached Targeted k x = tt
+change-status Reached Unused k x = tt
+change-status Targeted Passed k x = (omega arith, tt)
+change-status Targeted Reached k x = (omega arith, tt)
+change-status Targeted Targeted k x = tt
+change-status Targeted Unused k x = tt
+change-status Unused Passed k x = (omega arith, tt)
+change-status Unused Reached k x = (omega arith, tt)
+change-status Unused Targeted k x = tt
+change-status Unused Unused k x = tt
 
-changes-status : (b a : ℕ → Standing) (n k : ℕ) → All StatusIn (changesFrom b a n k)
+changes-status : (e : Load) (b a : ℕ → Standing) (n k : ℕ) → All StatusIn (changesFrom e b a n k)
 unfolding changesFrom
-changes-status b a zero k = tt
-changes-status b a (suc n) k = all-append StatusIn (changeAt (b k) (a k) k) _ (change-status (b k) (a k) k) (changes-status b a n (k + 1))
+changes-status e b a zero k = tt
+changes-status e b a (suc n) k =
+    all-append StatusIn (changeAt (b k) (a k) k (endAhead e (standingThen b a k))) _ (change-status (b k) (a k) k (endAhead e (standingThen b a k))) (changes-status e b a n (k + 1))
 
-skip-status : (f : Found) (on : Bool) (p : Progress) → All StatusIn (skipChange f on p)
-skip-status Nothing on p = tt
-skip-status (At k) true p = (omega arith, tt)
-skip-status (At k) false p = (omega arith, tt)
+skip-status : (f : Found) (on x : Bool) → All StatusIn (skipChange f on x)
+skip-status Nothing on x = tt
+skip-status (At k) true x = (omega arith, tt)
+skip-status (At k) false x = (omega arith, tt)
 
 status-in : (h : History) (c : Call) → All StatusIn (changesBy h c)
 unfolding changesBy
@@ -152,15 +152,15 @@ status-in h c = go (roleOfCall c)
     go : (r : Role) → All StatusIn (elim r [
       | off ↦ []
       | load ↦ []
-      | report ↦ changesFrom (standingBy h) (standingBy (c ∷ h)) (pointCount (routeBy h)) 0
+      | report ↦ changesFrom (routeBy h .load) (standingBy h) (standingBy (c ∷ h)) (pointCount (routeBy h)) 0
       | other ↦ []
-      | skip t on ↦ skipChange (stopNamed (routeBy h) t) on (progressBy h)
+      | skip t on ↦ skipChange (stopNamed (routeBy h) t) on (endAhead (routeBy h .load) (standingBy h))
     ])
     go off = tt
     go load = tt
-    go report = changes-status (standingBy h) (standingBy (c ∷ h)) (pointCount (routeBy h)) 0
+    go report = changes-status (routeBy h .load) (standingBy h) (standingBy (c ∷ h)) (pointCount (routeBy h)) 0
     go other = tt
-    go (skip t on) = skip-status (stopNamed (routeBy h) t) on (progressBy h)
+    go (skip t on) = skip-status (stopNamed (routeBy h) t) on _
 
 head-in : (c : Call) (d : Head) → headOfCall c ≡ some d → HeadFits d
 head-in c d = go (roleOfCall c)
@@ -190,6 +190,11 @@ module _ (h : History) (c : Call) where
       (all-append Fits (map (timingPoint (routeBy (c ∷ h)) (positionBy (c ∷ h))) (changesBy h c)) _
       (all-62 _ _ r (changesBy h c) (route-in (c ∷ h)) (status-in h c))
       (all-68 _ _ r (statusDue (statusBy h) (statusBy (c ∷ h))) _ _ (code-most (stateBy (c ∷ h))) (conditions-most _ _ _ _)))
+
+-- each is read back as it was
+pub read-back : (ps : List Packet) → All Fits ps → map packetOf (bytesOfEach ps) ≡ map accept ps
+read-back [] a = refl
+read-back (p ∷ ps) a = ap (λ x. x ∷ map packetOf (bytesOfEach ps)) (read-written p (a .0 .0) (a .0 .1)) ∙ ap (λ l. accept p ∷ l) (read-back ps (a .1))
 
 -- bytes among those of packets are the bytes of one of them, and read so
 pub record ReadAs (bytes : List ℕ) (ps : List Packet) : Type 0 where

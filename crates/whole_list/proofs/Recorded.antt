@@ -16,8 +16,8 @@ use Rattle.packets.specs.Packets.{valueBytes, packetBytes, joined, cutPackets}
 use Rattle.packets.proofs.Cutting.{cut-joined}
 use Rattle.packets.proofs.RoundTrips.{read-written}
 use Rattle.packets.specs.declared.Packet.{Packet}
-use Rattle.timing.specs.Changes.{Change, when}
-use Rattle.call.specs.Packets.{header, timingPoint, jpReceived, atoStatus, Status, statusDue, received, packetsOf}
+use Rattle.timing.specs.Changes.{when}
+use Rattle.call_values.specs.Packets.{PointChange, header, timingPoint, jpReceived, atoStatus, Status, statusDue, received, packetsOf}
 use Rattle.whole_list.specs.Recorded.{newest}
 use Rattle.whole_list.specs.WholeList.{bytesOfEach, StatusPacket}
 
@@ -46,7 +46,7 @@ module _ (j : Route) (x : Position) where
   newest-65 o none = refl
   newest-65 o (some h) = refl
 
-  newest-62 : (o : Option (List ℕ)) (l : List Change) → newest o (bytesOfEach (map (timingPoint j x) l)) ≡ o
+  newest-62 : (o : Option (List ℕ)) (l : List PointChange) → newest o (bytesOfEach (map (timingPoint j x) l)) ≡ o
   unfolding newest timingPoint valueBytes
   newest-62 o [] = refl
   newest-62 o (c ∷ l) = newest-62 o l
@@ -56,7 +56,7 @@ module _ (j : Route) (x : Position) where
   newest-68 o true s c = refl
   newest-68 o false s c = refl
 
-  pub newest-is : (o : Option (List ℕ)) (loaded : Option Head) (changes : List Change) (own : List Packet) (before after : Status) → ((o : Option (List ℕ)) → newest o (bytesOfEach own) ≡ o)
+  pub newest-is : (o : Option (List ℕ)) (loaded : Option Head) (changes : List PointChange) (own : List Packet) (before after : Status) → ((o : Option (List ℕ)) → newest o (bytesOfEach own) ≡ o)
       → newest o (bytesOfEach (packetsOf j x loaded changes own before after)) ≡ (if statusDue before after then some (packetBytes (atoStatus j x (after .state) (after .conditions))) else o)
   unfolding packetsOf
   newest-is o loaded changes own before after other =

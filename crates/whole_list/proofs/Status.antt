@@ -13,8 +13,8 @@ use Rattle.state_codes.specs.Codes.{code, stateAt}
 use Rattle.conditions.proofs.WordLaws.{conditions-most}
 use Rattle.state_codes.proofs.CodeLaws.{code-most, state-code}
 use Rattle.state_codes.specs.declared.State.the-variants.{NP}
-use Rattle.call.specs.Call.{Call}
-use Rattle.call.specs.Packets.{Status, atoStatus, statusDue}
+use Rattle.call_values.specs.Call.{Call}
+use Rattle.call_values.specs.Packets.{Status, atoStatus, statusDue}
 use Rattle.whole_list.specs.Values.{History, positionBy, routeBy}
 use Rattle.whole_list.specs.Rules.{conditionsBy, stateBy, machineBy}
 use Rattle.whole_list.specs.Table.{headOfCall, changesBy, ownBy, statusBy, packetsBy}

@@ -14,13 +14,15 @@ use Rattle.packets.specs.declared.Packet.{Packet}
 use Rattle.state_codes.specs.Codes.{code, stateAt}
 use Rattle.state_codes.proofs.CodeLaws.{state-code}
 use Rattle.state_codes.specs.Numbers.{powerRows, stateRow}
-use Rattle.call.specs.Packets.{packetsOf}
+use Rattle.call_values.specs.Packets.{packetsOf}
 use Rattle.call.specs.Effect.{Effect, effect}
-use Rattle.call.specs.Call.{Call, Step, statusIn, stepTo, stepBy, judge, judged}
+use Rattle.call_values.specs.Call.{Call}
+use Rattle.call.specs.Call.{Step, statusIn, stepTo, stepBy, judge, judged}
 use Rattle.whole_list.specs.Values.{History, eventOfCall, positionBy, routeBy}
 use Rattle.whole_list.specs.Rules.{stateBy}
-use Rattle.whole_list.specs.Table.{changesBy, headOfCall, ownBy, statusBy, packetsBy, kindRows, tableBy}
+use Rattle.whole_list.specs.Table.{headOfCall, ownBy, statusBy, packetsBy, kindRows, tableBy}
 use Rattle.whole_list.proofs.Fields.{engineOf}
+use Rattle.whole_list.proofs.FieldsStep.{changes-by}
 use Rattle.whole_list.proofs.FieldsEffect.{effectOf, effect-is}
 use Rattle.whole_list.proofs.FieldsControl.{conditions-in, engine-is}
 
@@ -40,7 +42,7 @@ step-is : (h : History) (c : Call) → stepBy (engineOf h) (eventOfCall c) (effe
 unfolding packetsBy
 step-is h c =
     ap (λ m. stepTo (engineOf h) (eventOfCall c) (effectOf h c) m) (engine-is h c)
-    ∙ λ i. record { engine = engineOf (c ∷ h); packets = packetsOf (routeBy (c ∷ h)) (positionBy (c ∷ h)) (headOfCall c) (changesBy h c) (ownBy h c) (status-is h i) (status-is (c ∷ h) i) }
+    ∙ λ i. record { engine = engineOf (c ∷ h); packets = packetsOf (routeBy (c ∷ h)) (positionBy (c ∷ h)) (headOfCall c) (changes-by h c i) (ownBy h c) (status-is h i) (status-is (c ∷ h) i) }
 
 -- the rows one after the other
 rows-on : (power state kind : Judged (Unit {0})) (f : Effect) (test : Effect → Bool) (step : Effect → Step)

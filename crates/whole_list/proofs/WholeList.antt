@@ -2,7 +2,7 @@
 use mathlib.Core.Path.{_≡_, refl, sym, _∙_, ap, subst}
 use mathlib.Core.Logic.{_≢_, _↔_}
 use mathlib.Core.Bool.{Bool, true, false}
-use mathlib.Core.List.{List, [], _∷_, _++_}
+use mathlib.Core.List.{List, [], _∷_, _++_, map}
 use mathlib.Core.Option.{Option, none, some}
 use Prim.Native.Nat.{ℕ}
 use native.Mathlib.Omega.{arith}
@@ -17,7 +17,7 @@ use Rattle.event.specs.declared.Event.{Event}
 use Rattle.event.specs.declared.Row.{Row}
 use Rattle.event.specs.declared.Row.the-variants.{SwitchOn, Configure, SwitchOff, Fail, EngagePress, ByState}
 use Rattle.event.proofs.Known.{OfRow, known}
-use Rattle.packets.specs.Packets.{joined, cut, cutPackets}
+use Rattle.packets.specs.Packets.{packetOf, joined, cut, cutPackets}
 use Rattle.timing.specs.Report.{run}
 use Rattle.state_codes.specs.Codes.{code, stateAt}
 use Rattle.state_codes.proofs.CodeLaws.{state-code}
@@ -26,7 +26,8 @@ use Rattle.states.specs.States.{machine, byRow, machineAfter}
 use Rattle.states.specs.declared.Values.{Values}
 use Rattle.state_codes.specs.declared.State.{State}
 use Rattle.state_codes.specs.declared.State.the-variants.{NP, CO, EG}
-use Rattle.call.specs.Call.{Call, Accepted, Outcome, Step, conditionsIn, judged, outcomeOf, stepOf}
+use Rattle.call_values.specs.Call.{Call, Accepted}
+use Rattle.call.specs.Call.{Outcome, Step, conditionsIn, judged, outcomeOf, stepOf}
 use Rattle.call.proofs.Rows.{memory-length}
 use Rattle.whole_list.specs.Values.{History, eventOfCall, latest, routeBy, reportsSince, behindAtLoad}
 use Rattle.whole_list.specs.Rules.{conditionsBy, machineBy, stateBy, requestBy, Engaged}
@@ -37,8 +38,10 @@ use Rattle.whole_list.specs.WholeList.{EngagedExactly, PointsStand, byte
 use Rattle.whole_list.proofs.Fields.{skipsOf, progressRun, engineOf, stands-at}
 use Rattle.whole_list.proofs.FieldsControl.{conditions-in}
 use Rattle.whole_list.proofs.TableRows.{ruled, judged-is}
-use Rattle.whole_list.proofs.Engaged.{Good, power-accepts, stands-exactly, engaged-exactly, requested-exactly}
+use Rattle.whole_list.proofs.Engaged.{Good, power-accepts, stands-exactly, saw, engaged-exactly, requested-exactly}
 use Rattle.whole_list.proofs.Recorded.{memory-read}
+use Rattle.whole_list.proofs.Readable.{packets-fit, read-back}
+use Rattle.whole_list.proofs.Shown.{shown-by}
 use Rattle.whole_list.proofs.Passed as passed
 use Rattle.whole_list.proofs.Status.{Names, names-next, names-first}
 
@@ -96,6 +99,7 @@ module _ (h : History) (c : Call) where
     refused-memory = λ n e. ap (λ r. r .memory) (refused-is n e);
     answer = λ e. ap (λ r. r .answer) (accepted-is e);
     packets = written-is;
+    read-back = λ e. ap (map packetOf) (written-is e) ∙ read-back (packetsBy h c) (packets-fit h c);
     behind = behind-is;
     as-long = memory-length (engineOf h) c;
   }
@@ -233,6 +237,8 @@ whole-list calls =
       status = claim-status _ _ _ _ k;
       judged = λ earlier c later e. claim-judged _ _ c (kept earlier .seen);
       request = ap (λ x. x .control .request) (k .seen);
+      as-ruled = record { stands = stands-exactly (historyOf calls); became = saw (historyOf calls) };
+      shown = rw (k .seen) (shown-by (historyOf calls));
     }
 
 -- ---- corollaries

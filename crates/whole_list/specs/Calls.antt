@@ -6,7 +6,8 @@ use Rattle.wire.specs.Judged.{Judged}
 use Rattle.wire.specs.Judged.Judged.{refuse, accept}
 use Rattle.engine_value.specs.Engine.{fresh}
 use Rattle.engine_value.specs.declared.Engine.{Engine}
-use Rattle.call.specs.Call.{Call, Accepted, stepOf}
+use Rattle.call_values.specs.Call.{Call, Accepted}
+use Rattle.call.specs.Call.{stepOf}
 use Rattle.whole_list.specs.Values.{History}
 
 -- "A call .. gets the engine that the last one, accepted or refused, returned or left."

@@ -12,7 +12,7 @@ use Rattle.position.specs.Standing.{standing}
 use Rattle.position.specs.declared.Standing.{Standing}
 use Rattle.position.specs.declared.Standing.the-variants.{Targeted, Reached, Passed}
 use Rattle.state_codes.specs.Codes.{code}
-use Rattle.call.specs.Call.{Call, Accepted}
+use Rattle.call_values.specs.Call.{Call, Accepted}
 use Rattle.call.specs.Trials.{answered, plain, powerOn, configured, reports, at, press, mode, plainly, trialLoad}
 use Rattle.whole_list.specs.Rules.{standingBy, conditionsBy, stateBy, requestBy}
 use Rattle.whole_list.specs.Calls.{engineAfter, Done, trace, historyOf, lastAnswer}

@@ -10,7 +10,7 @@ use Rattle.wire.specs.Numbers.{if_then_else_}
 use Rattle.wire.specs.Judged.{Judged}
 use Rattle.wire.specs.Judged.Judged.{refuse, accept}
 use Rattle.packets.specs.Packets.{cutPackets}
-use Rattle.call.specs.Call.{Accepted}
+use Rattle.call_values.specs.Call.{Accepted}
 use Rattle.whole_list.specs.Calls.{Done}
 
 -- the bytes that a call wrote

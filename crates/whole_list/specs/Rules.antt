@@ -1,4 +1,4 @@
--- The rules over a history: where the points stand, the conditions, the state, the AD request, the engagement rule.
+-- The rules over a history: where the points stand, the conditions, the state, the AD request, the engagement rule. Nothing here is of crate `call`.
 use mathlib.Core.Path.{_≡_}
 use mathlib.Core.Bool.{Bool, false, not, _&&_, _||_}
 use mathlib.Core.List.{[], _∷_}
@@ -21,7 +21,7 @@ use Rattle.states.specs.declared.Machine.{Machine}
 use Rattle.engagement.specs.Engagement.{Engagement}
 use Rattle.state_codes.specs.declared.State.{State}
 use Rattle.state_codes.specs.declared.State.the-variants.{NP}
-use Rattle.call.specs.Call.{Call}
+use Rattle.call_values.specs.Call.{Call}
 use Rattle.whole_list.specs.Values.{History, eventOfCall, roleOfCall, modeBy, leverBy, reportsBy, positionBy, routeBy, reportsSince, behindAtLoad}
 
 -- point k of the journey in force stands so, by the history rule
@@ -93,6 +93,12 @@ callAt h k = getD h (length h - suc k) noCall
 
 abbrev pub upto : History → ℕ → History
 upto h v = drop (length h - v) h
+
+-- what they are: after all events the whole history, after none nothing, and with each event one call more
+pub record Moments (h : History) : Type 0 where
+  pub after-all : upto h (length h) ≡ h
+  pub after-none : upto h 0 ≡ []
+  pub after-one-more : (k : ℕ) → k < length h → upto h (suc k) ≡ callAt h k ∷ upto h k
 
 -- the engagement rule, read in a history
 abbrev pub Engaged : History → Type 0

@@ -1,15 +1,14 @@
--- The packets of an accepted call and the table of numbers, by the rules: functions of the history and the call.
+-- The packets of an accepted call and the table of numbers, by the rules: functions of the history and the call. Nothing here is of crate `call`.
 use mathlib.Core.Bool.{Bool, true, false, _||_}
 use mathlib.Core.List.{List, [], _∷_, _++_}
 use mathlib.Core.Option.{Option, none, some}
 use Prim.Native.Nat.{ℕ, zero, suc, _+_}
 use lib.ListN.{length}
-use lib.Dec.{ltb}
+use lib.Dec.{ltb, leb}
 use Rattle.wire.specs.Numbers.{if_then_else_}
 use Rattle.wire.specs.Judged.{Judged, thenJudge, row, _>>=_, _>>_}
 use Rattle.wire.specs.Judged.Judged.{refuse, accept}
-use Rattle.engine_value.specs.Engine.{progress}
-use Rattle.engine_value.specs.declared.Progress.{Progress}
+use Rattle.engine_value.specs.declared.Load.{Load}
 use Rattle.event.specs.Events.{eventOf}
 use Rattle.event.specs.Kinds.{kindOf, off, load, report, other, skip}
 use Rattle.journey.specs.declared.Head.{Head}
@@ -17,64 +16,63 @@ use Rattle.route.specs.Route.{LoadValue, loadOf}
 use Rattle.packets.specs.Packets.{joined}
 use Rattle.packets.specs.declared.Packet.{Packet}
 use Rattle.position.specs.Position.{pointCount, segmentNamed}
-use Rattle.position.specs.Standing.{isReached, behind}
-use Rattle.timing.specs.Changes.{Change, change, statusPassed, statusStopped, statusDeparted, statusSkipped, statusRevoked}
+use Rattle.position.specs.Standing.{behind}
+use Rattle.timing.specs.Changes.{statusPassed, statusStopped, statusDeparted, statusSkipped, statusRevoked}
 use Rattle.position.specs.Skips.{stopNamed}
 use Rattle.position.specs.declared.Found.{Found}
 use Rattle.position.specs.declared.Found.the-variants.{At, Nothing}
 use Rattle.position.specs.declared.Standing.{Standing}
 use Rattle.position.specs.declared.Standing.the-variants.{Unused, Targeted, Reached, Passed}
 use Rattle.state_codes.specs.Codes.{code}
-use Rattle.conditions.specs.Conditions.{firstAhead}
+use Rattle.conditions.specs.Conditions.{endAhead}
 use Rattle.state_codes.specs.Numbers.{powerRows, stateRow}
-use Rattle.call.specs.Packets.{Status, packetsOf}
-use Rattle.call.specs.Effect.{offsetBeyond, sameBool}
-use Rattle.call.specs.Call.{Call, Accepted}
+use Rattle.call_values.specs.Packets.{PointChange, pointChange, Status, packetsOf}
+use Rattle.call_values.specs.Rows.{offsetBeyond, sameBool}
+use Rattle.call_values.specs.Call.{Call, Accepted}
 use Rattle.whole_list.specs.Values.{History, loadOfCall, roleOfCall, positionBy, routeBy, skippedBy}
 use Rattle.whole_list.specs.Rules.{standingBy, conditionsBy, stateBy, requestBy}
 
--- ---- the points that a position report changed, by where the history rule has them before and after it; "Q_EOJ_REACHED (after that change ..)"
+-- ---- the points that an event changed, by where the history rule has them
 
--- "0 passed, 1 stopped, 2 departed". "A departure writes status 2 and no 0"
-abbrev pub changeAt : Standing → Standing → ℕ → List Change
-changeAt Passed after k = []
-changeAt Reached Passed k = change k statusDeparted (progress (k + 1) false) ∷ []
-changeAt Reached Reached k = []
-changeAt Reached Targeted k = []
-changeAt Reached Unused k = []
-changeAt Targeted Passed k = change k statusPassed (progress (k + 1) false) ∷ []
-changeAt Targeted Reached k = change k statusStopped (progress k true) ∷ []
-changeAt Targeted Targeted k = []
-changeAt Targeted Unused k = []
-changeAt Unused Passed k = change k statusPassed (progress (k + 1) false) ∷ []
-changeAt Unused Reached k = change k statusStopped (progress k true) ∷ []
-changeAt Unused Targeted k = []
-changeAt Unused Unused k = []
+-- "0 passed, 1 stopped, 2 departed", by where point k stands before and after a position report. "A departure writes status 2 and no 0";
+-- `ahead` tells whether the End of Journey is neither reached nor passed
+abbrev pub changeAt : Standing → Standing → ℕ → Bool → List PointChange
+changeAt Passed after k ahead = []
+changeAt Reached Passed k ahead = pointChange k statusDeparted ahead ∷ []
+changeAt Reached Reached k ahead = []
+changeAt Reached Targeted k ahead = []
+changeAt Reached Unused k ahead = []
+changeAt Targeted Passed k ahead = pointChange k statusPassed ahead ∷ []
+changeAt Targeted Reached k ahead = pointChange k statusStopped ahead ∷ []
+changeAt Targeted Targeted k ahead = []
+changeAt Targeted Unused k ahead = []
+changeAt Unused Passed k ahead = pointChange k statusPassed ahead ∷ []
+changeAt Unused Reached k ahead = pointChange k statusStopped ahead ∷ []
+changeAt Unused Targeted k ahead = []
+changeAt Unused Unused k ahead = []
+
+-- "after that change": the points up to k stand as after the report, the later ones still as before it
+abbrev pub standingThen : (ℕ → Standing) → (ℕ → Standing) → ℕ → ℕ → Standing
+standingThen before after k i = if leb i k then after i else before i
 
 -- of the n points from k on
-unfoldable pub changesFrom : (ℕ → Standing) → (ℕ → Standing) → ℕ → ℕ → List Change
-changesFrom before after zero k = []
-changesFrom before after (suc n) k = changeAt (before k) (after k) k ++ changesFrom before after n (k + 1)
-
--- the first point not passed, and whether it is reached
-abbrev pub progressBy : History → Progress
-progressBy h =
-    let k = firstAhead (standingBy h) (pointCount (routeBy h)) 0 in
-    progress k (isReached (standingBy h k))
+unfoldable pub changesFrom : Load → (ℕ → Standing) → (ℕ → Standing) → ℕ → ℕ → List PointChange
+changesFrom l before after zero k = []
+changesFrom l before after (suc n) k = changeAt (before k) (after k) k (endAhead l (standingThen before after k)) ++ changesFrom l before after n (k + 1)
 
 -- "5 driver skip, 6 skip revoked"
-abbrev pub skipChange : Found → Bool → Progress → List Change
-skipChange Nothing on p = []
-skipChange (At k) on p = change k (if on then statusSkipped else statusRevoked) p ∷ []
+abbrev pub skipChange : Found → Bool → Bool → List PointChange
+skipChange Nothing on ahead = []
+skipChange (At k) on ahead = pointChange k (if on then statusSkipped else statusRevoked) ahead ∷ []
 
 -- "points that a load puts behind write none"
-unfoldable pub changesBy : History → Call → List Change
+unfoldable pub changesBy : History → Call → List PointChange
 changesBy h c = elim (roleOfCall c) [
   | off ↦ []
   | load ↦ []
-  | report ↦ changesFrom (standingBy h) (standingBy (c ∷ h)) (pointCount (routeBy h)) 0
+  | report ↦ changesFrom (routeBy h .load) (standingBy h) (standingBy (c ∷ h)) (pointCount (routeBy h)) 0
   | other ↦ []
-  | skip t on ↦ skipChange (stopNamed (routeBy h) t) on (progressBy h)
+  | skip t on ↦ skipChange (stopNamed (routeBy h) t) on (endAhead (routeBy h .load) (standingBy h))
 ]
 
 -- ---- the packets of the call c, accepted after the history h

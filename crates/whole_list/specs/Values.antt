@@ -1,5 +1,5 @@
 -- The values that the rules read. A history is the list of the accepted calls, the latest first; only their event, journey and book are looked at,
--- decoded by the layouts' own definitions.
+-- decoded by the layouts' own definitions. Nothing here is of crate `call`, the engine's meaning of a call.
 use mathlib.Core.Bool.{Bool, true, false}
 use mathlib.Core.List.{List, [], _∷_, _++_}
 use mathlib.Core.Option.{Option, none, some}
@@ -19,7 +19,7 @@ use Rattle.timing.specs.Load.{target}
 use Rattle.position.specs.Skips.{stopNamed}
 use Rattle.position.specs.declared.Found.{Found}
 use Rattle.position.specs.declared.Found.the-variants.{At, Nothing}
-use Rattle.call.specs.Call.{Call}
+use Rattle.call_values.specs.Call.{Call}
 
 abbrev pub History : Type 0
 History = List Call

@@ -5,9 +5,9 @@ use mathlib.Core.Bool.{true}
 use mathlib.Core.List.{List, [], _∷_, _++_, map}
 use mathlib.Core.Option.{Option, none, some}
 use Prim.Native.Nat.{ℕ, _≤_, _<_}
-use lib.ListN.{length, drop}
+use lib.ListN.{length, drop, getD}
 use Rattle.wire.specs.Judged.Judged.{refuse, accept}
-use Rattle.engine_value.specs.Engine.{routeIn, fresh}
+use Rattle.engine_value.specs.Engine.{routeIn, fresh, maxPoints}
 use Rattle.engine_value.specs.declared.Position.{Position}
 use Rattle.engine_value.specs.declared.Engine.{Engine}
 use Rattle.event.specs.declared.Event.the-variants.{PositionReport}
@@ -17,15 +17,18 @@ use Rattle.packets.specs.declared.AtoStatus.{AtoStatus}
 use Rattle.packets.specs.declared.Packet.{Packet}
 use Rattle.position.specs.Position.{point, pointCount, known, placed}
 use Rattle.timing.specs.Distance.{beyond}
-use Rattle.position.specs.Standing.{standing}
+use Rattle.position.specs.Standing.{standing, standingCode}
 use Rattle.timing.specs.Changes.{statusPassed}
 use Rattle.position.specs.declared.Standing.{Standing}
 use Rattle.state_codes.specs.Codes.{code}
 use Rattle.states.specs.States.{wanted}
 use Rattle.state_codes.specs.declared.EtcsMode.the-variants.{Other}
-use Rattle.call.specs.Call.{Call, Accepted, Outcome, stepOf, conditionsIn}
+use Rattle.call_values.specs.Call.{Call, Accepted}
+use Rattle.call.specs.Call.{Outcome, stepOf, conditionsIn}
+use Rattle.call.specs.View.{shownView}
+use Rattle.call.specs.declared.Shown.{Shown}
 use Rattle.whole_list.specs.Values.{History, eventOfCall, routeBy, reportAt}
-use Rattle.whole_list.specs.Rules.{StandsBy, conditionsBy, valuesBy, stateBy, requestBy, upto, Engaged}
+use Rattle.whole_list.specs.Rules.{StandsBy, standingBy, conditionsBy, valuesBy, JustReached, becameReachedBy, stateBy, requestBy, upto, Engaged}
 use Rattle.whole_list.specs.Table.{packetsBy, answerBy, tableBy}
 use Rattle.whole_list.specs.Calls.{engineAfter, trace, historyOf, lastAnswer, acceptedCalls}
 use Rattle.whole_list.specs.Recorded.{bytesWritten, packetsAfter, lastStatus, In}
@@ -68,8 +71,28 @@ pub record JudgedByTable (e : Engine) (h : History) (c : Call) (r : Outcome) : T
   -- accepted: what is answered, the packets that stand at the front of memory, and that the bytes behind them are kept
   pub answer : tableBy h c ≡ accept tt → r .answer ≡ accept (answerBy h c)
   pub packets : tableBy h c ≡ accept tt → packetsAfter (r .answer) (r .memory) ≡ bytesOfEach (packetsBy h c)
+  -- "The packet reader returns the packet's fields": of each of them, those that the rules give
+  pub read-back : tableBy h c ≡ accept tt → map packetOf (packetsAfter (r .answer) (r .memory)) ≡ map accept (packetsBy h c)
   pub behind : tableBy h c ≡ accept tt → drop (bytesWritten (r .answer)) (r .memory) ≡ drop (bytesWritten (r .answer)) (c .memory)
   pub as-long : length (r .memory) ≡ length (c .memory)
+
+-- 5. what is computed of a history, and what the rules say of it word by word, are the same
+pub record AsRuled (h : History) : Type 0 where
+  -- the history rule
+  pub stands : (k : ℕ) (s : Standing) → (standingBy h k ≡ s) ↔ StandsBy h k s
+  -- "A point became reached at a report if the history rule has it so after, not before, that report", which is the last event of the history
+  pub became : (becameReachedBy h ≡ true) ↔ JustReached h
+
+-- 6. what the host's calls show of the engine
+pub record ShownBy (s : Shown) (h : History) : Type 0 where
+  pub state : s .state ≡ code (stateBy h)
+  pub request : s .request ≡ requestBy h
+  pub conditions : s .conditions ≡ conditionsBy h
+  pub count : s .«point_count» ≡ pointCount (routeBy h)
+  -- one code for each of 64 points, 0 where there is no such point
+  pub as-many : length (s .standings) ≡ maxPoints
+  pub each : (k : ℕ) → k < pointCount (routeBy h) → getD (s .standings) k 0 ≡ standingCode (standingBy h k)
+  pub no-point : (k : ℕ) → pointCount (routeBy h) ≤ k → getD (s .standings) k 0 ≡ 0
 
 pub record WholeList (calls : List Call) : Type 0 where
   pub engaged : EngagedExactly (engineAfter calls) (historyOf calls) (lastAnswer none (trace fresh calls))
@@ -78,6 +101,8 @@ pub record WholeList (calls : List Call) : Type 0 where
   pub judged : (earlier : List Call) (c : Call) (later : List Call) → calls ≡ earlier ++ (c ∷ later)
       → JudgedByTable (engineAfter earlier) (historyOf earlier) c (stepOf (engineAfter earlier) c)
   pub request : engineAfter calls .control .request ≡ requestBy (historyOf calls)
+  pub as-ruled : AsRuled (historyOf calls)
+  pub shown : ShownBy (shownView (engineAfter calls)) (historyOf calls)
 
 -- ---- corollaries
 

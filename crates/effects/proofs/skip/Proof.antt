@@ -7,7 +7,7 @@ use Rattle.position.specs.declared.Found.the-variants.{At}
 use Rattle.event.specs.Kinds.{skip, skipGiven, roleOf, carried}
 use Rattle.look_up.specs.LookUp.{lookUp}
 use Rattle.look_up.specs.declared.LookedUp.{LookedUp}
-use Rattle.call.specs.Effect.{sameBool}
+use Rattle.call_values.specs.Rows.{sameBool}
 use Rattle.effects.specs.View.{oneChange, skipStatus, plainEffect}
 use Rattle.effects.proofs.Laws.{gives-number, index-below, skip-route, skip-14, skip-behind, skip-same, skip-taken, gives-skip}
 use borrow.Author.Needs.{needs}

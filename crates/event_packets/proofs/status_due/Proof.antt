@@ -1,5 +1,5 @@
 use borrow.Author.Tests.{eq-eqb, ne-eqb}
-use Rattle.call.specs.Packets.{statusDue}
+use Rattle.call_values.specs.Packets.{statusDue}
 use Rattle.event_packets.proofs.status_due.Statement.{statement}
 use Rattle.event_packets.proofs.status_due.Tie as tie
 
