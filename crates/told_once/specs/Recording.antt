@@ -58,7 +58,7 @@ stops t = eqb (t .status) statusStopped
 abbrev pub departs : Told → Bool
 departs t = eqb (t .status) statusDeparted
 
--- "the packets 62 of status 0 and 2"
+-- a packet 62 of status 0 or 2: the point is passed
 abbrev pub passes : Told → Bool
 passes t = pointPasses t || departs t
 

@@ -30,7 +30,7 @@ namesIn l = map (λ (t : Told). t .name) l
 abbrev pub indices : Route → List ℕ
 indices j = tabulate (pointCount j) (λ k. k)
 
--- "passed now and .. the load did not put behind"
+-- passed now, and not put behind by the load
 abbrev pub passedSince : History → ℕ → Bool
 passedSince h k = leb (behindAtLoad h) k && isPassed (standingBy h k)
 
@@ -42,7 +42,7 @@ pub record StoppedBefore (before : List Told) (name : Name) : Type 0 where
   pub is-stop : stop .status ≡ statusStopped
   pub same-point : stop .name ≡ name
 
--- "the last 1 has no 2 behind it", and is of that point
+-- the last 1 is of that point, and has no 2 behind it
 pub record StoppedLast (told : List Told) (name : Name) : Type 0 where
   pub before : List Told
   pub stop : Told
@@ -68,17 +68,17 @@ standingTold behind told k =
 
 -- h is the history, `told` what was told since the load in force
 pub record ToldOnce (h : History) (told : List Told) : Type 0 where
-  -- "the packets 62 of status 0 and 2 .. name exactly the points that are passed now and that the load did not put behind, each once, in the
-  -- journey's order"
+  -- the packets 62 of status 0 and 2 name exactly the points that are passed now and that the load did not put behind, each once, in the
+  -- journey's order
   pub passed : namesIn (those passes told) ≡ map (nameOf (routeBy h)) (those (passedSince h) (indices (routeBy h)))
   -- a name is that of one point only
   pub one-point : (i k : ℕ) → i < pointCount (routeBy h) → k < pointCount (routeBy h) → nameOf (routeBy h) i ≡ nameOf (routeBy h) k → i ≡ k
-  -- "a 2 follows the 1 of the same point, with no other 1 between": nothing is told between
+  -- a 2 stands directly behind the 1 of the same point
   pub departed : (before : List Told) (t : Told) (after : List Told) → told ≡ before ++ (t ∷ after) → t .status ≡ statusDeparted
       → StoppedBefore before (t .name)
-  -- "a point is reached now exactly where the last 1 has no 2 behind it"
+  -- a point is reached now exactly where the last 1 is its own and has no 2 behind it
   pub reached : (k : ℕ) → k < pointCount (routeBy h) → StandsBy h k Reached ↔ StoppedLast told (nameOf (routeBy h) k)
-  -- "So whoever holds the recording since the load, the journey, and how many points that load put behind, knows where each point stands."
+  -- so whoever holds the recording since the load, the journey, and how many points that load put behind, knows where each point stands
   pub known : (k : ℕ) → k < pointCount (routeBy h) → StandsBy h k (standingTold (behindAtLoad h) told k)
 
 abbrev pub toldSince : List Call → List Told
