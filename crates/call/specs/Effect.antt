@@ -1,7 +1,7 @@
 -- What an event does, and the places "book" to "skip" of the table of numbers.
 use Prim.Native.Nat.{ℕ}
 use mathlib.Core.List.{List, [], _∷_}
-use mathlib.Core.Bool.{Bool, true, false, cond, _||_}
+use mathlib.Core.Bool.{Bool, false, _||_}
 use mathlib.Core.Option.{Option, none, some}
 use lib.ListN.{set}
 use Rattle.wire.specs.Numbers.{if_then_else_}

@@ -1,5 +1,5 @@
 -- The tests of rows 13 and 15.
-use mathlib.Core.Bool.{Bool, true, false, not, _&&_}
+use mathlib.Core.Bool.{Bool, not, _&&_}
 use Rattle.wire.specs.Numbers.{if_then_else_}
 use Rattle.engine_value.specs.declared.Position.{Position}
 use Rattle.position.specs.Position.{offsetDefined}

@@ -10,7 +10,6 @@ use Rattle.wire.specs.Judged.{Judged}
 use Rattle.wire.specs.Judged.Judged.{refuse, accept}
 use Rattle.engine_value.specs.Engine.{Route}
 use Rattle.engine_value.specs.declared.Position.{Position}
-use Rattle.event.specs.declared.Event.{Event}
 use Rattle.event.specs.Kinds.{Role, off, load, report, other, skip}
 use Rattle.event.proofs.Known.{OfRole, known}
 use Rattle.event.specs.declared.Event.the-variants as kind

@@ -1,6 +1,6 @@
 -- The values that the rules read. A history is the list of the accepted calls, the latest first; only their event, journey and book are looked at,
 -- decoded by the layouts' own definitions. Nothing here is of crate `call`, the engine's meaning of a call.
-use mathlib.Core.Bool.{Bool, true, false}
+use mathlib.Core.Bool.{Bool, false}
 use mathlib.Core.List.{List, [], _∷_, _++_}
 use mathlib.Core.Option.{Option, none, some}
 use Prim.Native.Nat.{ℕ}
