@@ -46,11 +46,14 @@ pub record Items : Type 0 where
   pub several : map (λ n. many n small (2 ∷ 3 ∷ 4 ∷ 6 ∷ [])) (0 ∷ 1 ∷ 3 ∷ 4 ∷ 5 ∷ [])
       ≡ good [] (2 ∷ 3 ∷ 4 ∷ 6 ∷ []) ∷ good (2 ∷ []) (3 ∷ 4 ∷ 6 ∷ []) ∷ good (2 ∷ 3 ∷ 4 ∷ []) (6 ∷ []) ∷ bad ∷ bad ∷ []
   -- "count (1, 1-16), each ..": here 1 to 3; a written 0 and a 4 are refused, and so are items that are short or out of their range
-  pub counts : map (counted 3 small) ((0 ∷ 2 ∷ []) ∷ (1 ∷ 2 ∷ 3 ∷ []) ∷ (3 ∷ 2 ∷ 3 ∷ 4 ∷ 5 ∷ []) ∷ (4 ∷ 2 ∷ 3 ∷ 4 ∷ 5 ∷ []) ∷ (2 ∷ 2 ∷ []) ∷ (1 ∷ 6 ∷ []) ∷ [] ∷ [])
+  pub counts : map (counted 3 small)
+      ((0 ∷ 2 ∷ []) ∷ (1 ∷ 2 ∷ 3 ∷ []) ∷ (3 ∷ 2 ∷ 3 ∷ 4 ∷ 5 ∷ []) ∷ (4 ∷ 2 ∷ 3 ∷ 4 ∷ 5 ∷ []) ∷ (2 ∷ 2 ∷ []) ∷ (1 ∷ 6 ∷ []) ∷ [] ∷ [])
       ≡ bad ∷ good (2 ∷ []) (3 ∷ []) ∷ good (2 ∷ 3 ∷ 4 ∷ []) (5 ∷ []) ∷ bad ∷ bad ∷ bad ∷ bad ∷ []
   -- where its bit stands the same; else no item, and no byte of it
-  pub bit-stands : map (listed true 3 small) ((0 ∷ 2 ∷ []) ∷ (1 ∷ 2 ∷ 3 ∷ []) ∷ (4 ∷ 2 ∷ 3 ∷ 4 ∷ 5 ∷ []) ∷ [] ∷ []) ≡ bad ∷ good (2 ∷ []) (3 ∷ []) ∷ bad ∷ bad ∷ []
-  pub bit-clear : map (listed false 3 small) ((0 ∷ 2 ∷ []) ∷ (1 ∷ 2 ∷ 3 ∷ []) ∷ [] ∷ []) ≡ good [] (0 ∷ 2 ∷ []) ∷ good [] (1 ∷ 2 ∷ 3 ∷ []) ∷ good [] [] ∷ []
+  pub bit-stands : map (listed true 3 small) ((0 ∷ 2 ∷ []) ∷ (1 ∷ 2 ∷ 3 ∷ []) ∷ (4 ∷ 2 ∷ 3 ∷ 4 ∷ 5 ∷ []) ∷ [] ∷ [])
+      ≡ bad ∷ good (2 ∷ []) (3 ∷ []) ∷ bad ∷ bad ∷ []
+  pub bit-clear : map (listed false 3 small) ((0 ∷ 2 ∷ []) ∷ (1 ∷ 2 ∷ 3 ∷ []) ∷ [] ∷ [])
+      ≡ good [] (0 ∷ 2 ∷ []) ∷ good [] (1 ∷ 2 ∷ 3 ∷ []) ∷ good [] [] ∷ []
 
 pub record Answers : Type 0 where
   pub widths : map bytes (One ∷ Two ∷ Four ∷ []) ≡ 1 ∷ 2 ∷ 4 ∷ []

@@ -41,8 +41,8 @@ pub record Numbers : Type 0 where
 -- lists of which each notion must tell: none, one, equal and unequal neighbours, equal ones far apart, what rises, falls, or does either late
 abbrev pub lists : List (List ℕ)
 lists =
-    [] ∷ (4 ∷ []) ∷ (4 ∷ 4 ∷ []) ∷ (4 ∷ 5 ∷ []) ∷ (5 ∷ 4 ∷ []) ∷ (4 ∷ 5 ∷ 6 ∷ 4 ∷ []) ∷ (4 ∷ 5 ∷ 6 ∷ 9 ∷ []) ∷ (4 ∷ 5 ∷ 9 ∷ 9 ∷ []) ∷ (4 ∷ 9 ∷ 6 ∷ 7 ∷ [])
-    ∷ (9 ∷ 6 ∷ 5 ∷ 4 ∷ []) ∷ []
+    [] ∷ (4 ∷ []) ∷ (4 ∷ 4 ∷ []) ∷ (4 ∷ 5 ∷ []) ∷ (5 ∷ 4 ∷ [])
+    ∷ (4 ∷ 5 ∷ 6 ∷ 4 ∷ []) ∷ (4 ∷ 5 ∷ 6 ∷ 9 ∷ []) ∷ (4 ∷ 5 ∷ 9 ∷ 9 ∷ []) ∷ (4 ∷ 9 ∷ 6 ∷ 7 ∷ []) ∷ (9 ∷ 6 ∷ 5 ∷ 4 ∷ []) ∷ []
 
 abbrev pub Fours : List ℕ → Type 0
 Fours = All (λ (n : ℕ). n ≡ 4)
