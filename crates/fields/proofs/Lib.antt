@@ -1,2 +1,3 @@
 pub mod ReaderLaws
 pub mod Sure
+pub mod Anchors

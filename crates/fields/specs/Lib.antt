@@ -1,2 +1,3 @@
 pub mod Parse
 pub mod View
+pub mod Anchors

@@ -1,1 +1,2 @@
 pub mod LayoutLaws
+pub mod Anchors

@@ -1,4 +1,4 @@
 pub mod PacketLaws
 pub mod RoundTrips
 pub mod Cutting
-pub mod Examples
+pub mod Anchors
