@@ -2,3 +2,4 @@ pub mod Whole
 pub mod Entries
 pub mod Keys
 pub mod Accepted
+pub mod Anchors

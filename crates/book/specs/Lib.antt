@@ -1,3 +1,4 @@
 pub mod Book
 pub mod Table
+pub mod Anchors
 pub mod View

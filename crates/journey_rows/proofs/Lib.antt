@@ -1,3 +1,4 @@
 pub mod Names
 pub mod Rising
 pub mod OnePass
+pub mod Anchors
