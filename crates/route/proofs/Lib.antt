@@ -3,3 +3,4 @@ pub mod Rows
 pub mod Placed
 pub mod Limits
 pub mod Ranges
+pub mod Anchors

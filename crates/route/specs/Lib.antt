@@ -1,4 +1,5 @@
 pub mod Placing
 pub mod Table
 pub mod Route
+pub mod Anchors
 pub mod View
