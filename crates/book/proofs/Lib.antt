@@ -3,3 +3,5 @@ pub mod Entries
 pub mod Keys
 pub mod Accepted
 pub mod Anchors
+pub mod Pairs
+pub mod Sentences
