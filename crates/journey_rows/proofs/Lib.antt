@@ -2,3 +2,4 @@ pub mod Names
 pub mod Rising
 pub mod OnePass
 pub mod Anchors
+pub mod Sentences
