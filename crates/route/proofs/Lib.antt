@@ -4,3 +4,4 @@ pub mod Placed
 pub mod Limits
 pub mod Ranges
 pub mod Anchors
+pub mod Sentences

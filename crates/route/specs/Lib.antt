@@ -2,4 +2,5 @@ pub mod Placing
 pub mod Table
 pub mod Route
 pub mod Anchors
+pub mod Sentences
 pub mod View
