@@ -1,2 +1,3 @@
 pub mod Journey
+pub mod Anchors
 pub mod View

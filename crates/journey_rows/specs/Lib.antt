@@ -1,2 +1,4 @@
 pub mod Rows
+pub mod Anchors
+pub mod Sentences
 pub mod View

@@ -3,3 +3,5 @@ pub mod Rows
 pub mod Placed
 pub mod Limits
 pub mod Ranges
+pub mod Anchors
+pub mod Sentences

@@ -1,4 +1,6 @@
 pub mod Placing
 pub mod Table
 pub mod Route
+pub mod Anchors
+pub mod Sentences
 pub mod View
