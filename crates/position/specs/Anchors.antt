@@ -16,7 +16,7 @@ use Rattle.position.specs.declared.Standing.the-variants.{Unused, Target
 use Rattle.position.specs.Position.{pointsLoaded, pointCount, placed, inZone, segmentNamed, offsetDefined, front, frontAt, known}
 use Rattle.position.specs.Standing.{standing, isPassed, isReached, behind, standingCode}
 use Rattle.position.specs.Skips.{stopNamed, stopIn, noStop}
-use Rattle.position.specs.Sample.{journey, placedJourney, at, engineAt}
+use Rattle.position.specs.Sample.{journeyTo, journey, at, engineAt}
 
 -- a segment that is found: in the book, placed, the offset in a zone of it, its start and length
 abbrev found : Bool → Bool → Bool → ℕ → ℕ → Named
@@ -65,7 +65,7 @@ pub record Anchors : Type 0 where
   pub points-placed : map (placed journey) (0 ∷ 3 ∷ 4 ∷ 64 ∷ []) ≡ true ∷ true ∷ false ∷ false ∷ []
   -- "14 no stop of that name": a passing point is none; trackside may skip it
   pub stops : map (stopNamed journey) (7001 ∷ 7002 ∷ 7003 ∷ 7005 ∷ 7006 ∷ 7000 ∷ []) ≡ At 0 ∷ Nothing ∷ At 2 ∷ At 4 ∷ Nothing ∷ Nothing ∷ []
-  pub no-stop-behind : stopNamed placedJourney 7005 ≡ Nothing
+  pub no-stop-behind : stopNamed (journeyTo 4) 7005 ≡ Nothing
   -- "driver skip already given .. (a trackside skip counts for neither)"
   pub skips : map (stopIn (engineAt (at 17 500 0 0) 0 false)) (7001 ∷ 7003 ∷ 7004 ∷ 7002 ∷ [])
       ≡ stop (At 0) false ∷ stop (At 2) false ∷ stop (At 3) true ∷ stop Nothing false ∷ []

@@ -76,8 +76,8 @@ timingPoints =
     ∷ timingPoint 7006 0 0 17 0 true false false
     ∷ []
 
--- the journey of the first n points
-abbrev journeyTo : ℕ → Route
+-- the journey of the first n points: of the first four each is placed
+abbrev pub journeyTo : ℕ → Route
 journeyTo n = record {
   load = record { operational = noOperational; valid = true; ending = 3; «point_count» = n; «segment_count» = 4 };
   points = timingPoints;
@@ -86,10 +86,6 @@ journeyTo n = record {
 
 abbrev pub journey : Route
 journey = journeyTo 5
-
--- the same without the point that is not placed: every point is
-abbrev pub placedJourney : Route
-placedJourney = journeyTo 4
 
 -- NID_C, NID_SP, offset, speed
 abbrev pub at : ℕ → ℕ → ℕ → ℕ → Position

@@ -5,3 +5,4 @@ pub mod Report
 pub mod Changes
 pub mod History
 pub mod Rule
+pub mod Anchors
