@@ -5,3 +5,4 @@ pub mod Rule
 pub mod Moments
 pub mod Changes
 pub mod Anchors
+pub mod Sentences

@@ -6,3 +6,4 @@ pub mod Changes
 pub mod History
 pub mod Rule
 pub mod Anchors
+pub mod Sentences
