@@ -1,2 +1,3 @@
 -- Document 01, "Nine conditions".
 pub mod Conditions
+pub mod Anchors

@@ -4,3 +4,5 @@ pub mod Steps
 pub mod Rule
 pub mod Moments
 pub mod Changes
+pub mod Anchors
+pub mod Sentences

@@ -5,3 +5,5 @@ pub mod Report
 pub mod Changes
 pub mod History
 pub mod Rule
+pub mod Anchors
+pub mod Sentences

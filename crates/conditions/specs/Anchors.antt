@@ -1,0 +1,109 @@
+-- Values that the definitions must give for the journey of position/Sample, worked out by hand from document 01, "Nine conditions": the End of Journey
+-- is point 3, the last point 4, which is not placed.
+use Prim.Native.Nat.{ℕ}
+use mathlib.Core.Path.{_≡_}
+use mathlib.Core.List.{List, [], _∷_, map}
+use mathlib.Core.Bool.{Bool, true, false}
+use lib.Dec.{eqb}
+use Rattle.wire.specs.Numbers.{if_then_else_}
+use Rattle.engine_value.specs.Engine.{Route, noLoad, noRoute, freshPosition, noOperational, progress, undefined}
+use Rattle.engine_value.specs.declared.Position.{Position}
+use Rattle.position.specs.Position.{segmentNamed}
+use Rattle.position.specs.Standing.{standing}
+use Rattle.position.specs.Sample.{journey, at}
+use Rattle.position.specs.declared.Named.{Named}
+use Rattle.position.specs.declared.Standing.{Standing}
+use Rattle.position.specs.declared.Standing.the-variants.{Unused, Targeted, Reached, Passed}
+use Rattle.conditions.specs.Conditions.{etcsFulfilled, noEmergencyBrake, noInconsistency, dataValid, endAhead, lastAhead, firstAhead, profilesThere, tooFar, located, outsideZones, routeConditions, nine, wordOf, allOf, conditions, allConditions, O}
+use Rattle.conditions.specs.declared.RouteConditions.{RouteConditions}
+
+-- where the points stand: n of them passed, the next targeted or reached
+abbrev targeted : ℕ → ℕ → Standing
+targeted n = standing (progress n false)
+
+abbrev reached : ℕ → ℕ → Standing
+reached n = standing (progress n true)
+
+-- point k alone is passed
+abbrev only : ℕ → ℕ → Standing
+only k i = if eqb i k then Passed else Unused
+
+-- in the first segment, out of its zone
+abbrev here : Position
+here = at 17 500 5 0
+
+-- a journey of one point that is not placed, in a segment that is not in the book
+abbrev unplacedJourney : Route
+unplacedJourney = record {
+  load = record { operational = noOperational; valid = true; ending = 0; «point_count» = 1; «segment_count» = 1 };
+  points = record { nidtp = 7001; place = 0; reach = 0; nidc = 17; alignment = 0; stopping = 0; stop = false; trackside = false; placed = false; spare = 0 } ∷ [];
+  segments = record { nidsp = 501; start = 0; length = 0; «zone_count» = 0; zones = []; nidc = 17; booked = false; placed = false } ∷ [];
+}
+
+-- a segment of length 100 that is found, in the book, with the offset in a zone
+abbrev zoned : Named
+zoned = record { found = true; booked = true; placed = true; inside = true; start = 0; length = 100 }
+
+-- the four that are report bits
+abbrev byReports : ℕ → List Bool
+byReports n = etcsFulfilled n ∷ noEmergencyBrake n ∷ noInconsistency n ∷ dataValid n ∷ []
+
+pub record Anchors : Type 0 where
+  -- "0, 1, 5, 8 are report bits 0, 1, 2, 3."
+  pub report-bits : map byReports (0 ∷ 1 ∷ 2 ∷ 4 ∷ 8 ∷ 16 ∷ [])
+      ≡ (false ∷ false ∷ false ∷ false ∷ []) ∷ (true ∷ false ∷ false ∷ false ∷ []) ∷ (false ∷ true ∷ false ∷ false ∷ [])
+      ∷ (false ∷ false ∷ true ∷ false ∷ []) ∷ (false ∷ false ∷ false ∷ true ∷ []) ∷ (false ∷ false ∷ false ∷ false ∷ []) ∷ []
+  -- "2: End of Journey neither reached nor passed."
+  pub end-targeted : map (λ n. endAhead (journey .load) (targeted n)) (0 ∷ 3 ∷ 4 ∷ 5 ∷ []) ≡ true ∷ true ∷ false ∷ false ∷ []
+  pub end-reached : map (λ n. endAhead (journey .load) (reached n)) (2 ∷ 3 ∷ 4 ∷ []) ≡ true ∷ false ∷ false ∷ []
+  pub end-only : map (λ n. endAhead (journey .load) (only n)) (3 ∷ 4 ∷ []) ≡ false ∷ true ∷ []
+  -- "3: last point not passed."
+  pub last-targeted : map (λ n. lastAhead (journey .load) (targeted n)) (0 ∷ 3 ∷ 4 ∷ 5 ∷ []) ≡ true ∷ true ∷ true ∷ false ∷ []
+  pub last-reached : map (λ n. lastAhead (journey .load) (reached n)) (3 ∷ 4 ∷ []) ≡ true ∷ true ∷ []
+  pub last-only : map (λ n. lastAhead (journey .load) (only n)) (3 ∷ 4 ∷ []) ≡ true ∷ false ∷ []
+  -- "first point not passed"
+  pub first-not-passed : firstAhead (targeted 2) 5 0 ∷ firstAhead (reached 2) 5 0 ∷ firstAhead (targeted 5) 5 0 ∷ firstAhead (only 0) 5 0 ∷ firstAhead (only 1) 5 0 ∷ []
+      ≡ 2 ∷ 2 ∷ 5 ∷ 1 ∷ 0 ∷ []
+  -- "4: first point not passed is placed, or none is left."
+  pub profiles : map (λ n. profilesThere journey (targeted n)) (0 ∷ 3 ∷ 4 ∷ 5 ∷ []) ≡ true ∷ true ∷ false ∷ true ∷ []
+  pub profiles-reached : map (λ n. profilesThere journey (reached n)) (3 ∷ 4 ∷ []) ≡ true ∷ false ∷ []
+  -- "6: offset defined and its segment in the journey": undefined, no such segment
+  pub located-defined : map (λ x. located (segmentNamed journey x) x) (here ∷ at 17 500 undefined 0 ∷ at 33 501 5 0 ∷ at 17 501 undefined 0 ∷ [])
+      ≡ true ∷ false ∷ false ∷ false ∷ []
+  -- "An offset held from before a load and beyond its segment's new length counts as undefined for the conditions", placed or not; where a segment is
+  -- not in the book it has no length
+  pub located-first : map (λ o. located (segmentNamed journey (at 17 500 o 0)) (at 17 500 o 0)) (100000 ∷ 100001 ∷ []) ≡ true ∷ false ∷ []
+  pub located-unplaced : map (λ o. located (segmentNamed journey (at 33 502 o 0)) (at 33 502 o 0)) (30000 ∷ 30001 ∷ []) ≡ true ∷ false ∷ []
+  pub located-unbooked : map (λ o. located (segmentNamed journey (at 17 501 o 0)) (at 17 501 o 0)) (0 ∷ 1 ∷ 16777214 ∷ []) ≡ true ∷ true ∷ true ∷ []
+  pub too-far : map (λ o. tooFar (at 17 500 o 0) zoned) (100 ∷ 101 ∷ []) ≡ false ∷ true ∷ []
+  -- "7: not within a zone of a journey segment in the book, both ends inside"
+  pub outside-first : map (λ o. outsideZones (segmentNamed journey (at 17 500 o 0)) (at 17 500 o 0)) (19999 ∷ 20000 ∷ 30000 ∷ 30001 ∷ undefined ∷ [])
+      ≡ true ∷ false ∷ false ∷ true ∷ true ∷ []
+  pub outside-unplaced : map (λ o. outsideZones (segmentNamed journey (at 33 502 o 0)) (at 33 502 o 0)) (9 ∷ 10 ∷ 20 ∷ 21 ∷ []) ≡ true ∷ false ∷ false ∷ true ∷ []
+  pub outside-elsewhere : map (λ x. outsideZones (segmentNamed journey x) x) (at 17 502 15 0 ∷ at 17 501 15 0 ∷ []) ≡ true ∷ true ∷ []
+  pub outside-too-far : map (λ o. outsideZones zoned (at 17 500 o 0)) (100 ∷ 101 ∷ undefined ∷ []) ≡ false ∷ true ∷ true ∷ []
+  -- the word, "bit 0 is least significant": each of the nine alone
+  pub word : map wordOf (
+      (true ∷ []) ∷ (false ∷ true ∷ []) ∷ (false ∷ false ∷ true ∷ []) ∷ (true ∷ true ∷ true ∷ true ∷ true ∷ true ∷ true ∷ true ∷ true ∷ []) ∷ [])
+      ≡ 1 ∷ 2 ∷ 4 ∷ 511 ∷ []
+  pub all-nine : allConditions ≡ 511
+  pub in-order : nine (journey .load) 10 (record { profiles = false; located = true; outside = false }) (targeted 4)
+      ≡ false ∷ true ∷ false ∷ true ∷ false ∷ false ∷ true ∷ false ∷ true ∷ []
+  -- each of the nine lacking alone, report bit 4 beside them
+  pub all-there : conditions journey 15 here (targeted 0) ∷ conditions journey 31 here (targeted 0) ∷ [] ≡ 511 ∷ 511 ∷ []
+  pub lacking-reports : map (λ n. conditions journey n here (targeted 0)) (30 ∷ 29 ∷ 27 ∷ 23 ∷ []) ≡ 510 ∷ 509 ∷ 479 ∷ 255 ∷ []
+  pub lacking-2 : conditions journey 31 here (reached 3) ≡ 507
+  pub lacking-3 : conditions journey 31 here (only 4) ≡ 503
+  pub lacking-4 : conditions unplacedJourney 31 (at 17 501 5 0) (targeted 0) ≡ 495
+  pub lacking-6 : map (λ x. conditions journey 31 x (targeted 0)) (at 17 500 undefined 0 ∷ at 17 500 100001 0 ∷ at 17 502 5 0 ∷ []) ≡ 447 ∷ 447 ∷ 447 ∷ []
+  pub lacking-7 : conditions journey 31 (at 17 500 20000 0) (targeted 0) ≡ 383
+  -- none left: 2 and 3 are 0, 4 is 1
+  pub none-left : conditions journey 0 here (targeted 5) ≡ 208
+  -- "With no journey 2, 3, 4, 6 are 0 and 7 is 1."
+  pub no-journey : conditions noRoute 0 freshPosition (targeted 0) ∷ conditions noRoute 31 (at 0 0 5 0) (targeted 0) ∷ [] ≡ 128 ∷ 419 ∷ []
+  -- "O means all nine"
+  pub O-there : O journey 15 here (targeted 0) ∷ O journey 31 here (targeted 0) ∷ O journey 31 (at 33 500 200 0) (targeted 3) ∷ [] ≡ true ∷ true ∷ true ∷ []
+  pub O-reports : map (λ n. O journey n here (targeted 0)) (30 ∷ 29 ∷ 27 ∷ 23 ∷ []) ≡ false ∷ false ∷ false ∷ false ∷ []
+  pub O-lacking : O journey 31 here (reached 3) ∷ O journey 31 here (only 4) ∷ O unplacedJourney 31 (at 17 501 5 0) (targeted 0) ∷ O journey 31 (at 17 500 undefined 0) (targeted 0)
+      ∷ O journey 31 (at 17 500 20000 0) (targeted 0) ∷ O noRoute 31 here (targeted 0) ∷ []
+      ≡ false ∷ false ∷ false ∷ false ∷ false ∷ false ∷ []

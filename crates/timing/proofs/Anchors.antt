@@ -1,0 +1,80 @@
+-- By computation.
+use mathlib.Core.Path.{refl}
+use Rattle.position.specs.Position.{front}
+use Rattle.timing.specs.Distance.{beyond, atStop}
+use Rattle.timing.specs.Load.{targetFrom, target}
+use Rattle.timing.specs.Report.{looked, reported, run}
+use Rattle.timing.specs.Changes.{passings, reportChanges}
+use Rattle.timing.specs.Rule.{departing, through, pointOutcome, standingByReports}
+use Rattle.timing.specs.Anchors.{Anchors}
+
+pub anchors : Anchors
+unfolding front beyond atStop targetFrom target looked reported run passings reportChanges departing through pointOutcome standingByReports
+anchors = record {
+  behind-front = refl;
+  d-front = refl;
+  d-middle = refl;
+  d-rear = refl;
+  stops-unskipped = refl;
+  stops-skipped = refl;
+  margins = refl;
+  margins-skipped = refl;
+  exceeds-R = refl;
+  exceeds-0 = refl;
+  stops-R = refl;
+  stops-still = refl;
+  stops-not = refl;
+  beyond-there = refl;
+  beyond-skipped = refl;
+  at-stop = refl;
+  at-stop-not = refl;
+  moves = refl;
+  of-engine = (refl, refl);
+  load-R = refl;
+  load-middle = refl;
+  load-rear = refl;
+  load-length = refl;
+  load-all = refl;
+  load-unknown = refl;
+  load-behind = refl;
+  passes-R = refl;
+  passes-many = refl;
+  passes-all = refl;
+  passes-passing = refl;
+  unplaced-stays = refl;
+  reaches-R = refl;
+  reaches-still = refl;
+  reaches-later = refl;
+  departing = refl;
+  staying = refl;
+  next-point = refl;
+  became = refl;
+  report-departs = refl;
+  report-stays = refl;
+  report-passes = refl;
+  report-reaches = refl;
+  no-report = refl;
+  reports-in-turn = refl;
+  statuses = refl;
+  changes-departing = refl;
+  changes-reaching = refl;
+  changes-none = refl;
+  numbered = refl;
+  from-moment = refl;
+  settling = refl;
+  settling-placed = refl;
+  rule-none = refl;
+  rule-unsettled = refl;
+  rule-reached = refl;
+  rule-stays = refl;
+  rule-departs = refl;
+  rule-restarts = refl;
+  rule-passes-on = refl;
+  rule-later = refl;
+  rule-unplaced = refl;
+  rule-length = refl;
+  rule-skip = refl;
+  rule-load = refl;
+  rule-load-then = refl;
+  outcomes = refl;
+}
