@@ -1,3 +1,4 @@
 pub mod Run
 pub mod Engaged
 pub mod Requests
+pub mod Anchors

@@ -1,1 +1,2 @@
 pub mod Engagement
+pub mod Anchors
