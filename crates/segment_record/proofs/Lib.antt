@@ -1,3 +1,4 @@
 pub mod Reading
+pub mod Positions
 pub mod ItemLaws
 pub mod Accepted
