@@ -1,6 +1,6 @@
 -- A record at a position of the bytes s: its entry stands for it, and the bytes behind it are those from its end on.
 use Prim.Native.Nat.{ℕ, _+_, _*_}
-use mathlib.Core.Path.{_≡_, refl, sym, ap, _∙_}
+use mathlib.Core.Path.{_≡_, refl, sym, ap, _∙_, subst}
 use mathlib.Core.List.{List, [], _∷_}
 use mathlib.Core.Bool.{Bool, true, false}
 use lib.ListN.{length, drop}
@@ -40,7 +40,7 @@ map-rest standing clear l m r e =
     q ∙ must-rest (mapFits standing clear (i .0)) (i .1) (j .0) (j .1) (j .2) ∙ field-inv 1 0 255 l (i .0) (i .1) (i .2) .rest
 
 -- what an entry says of a record, and where the record ends
-abbrev Stands : List ℕ → ℕ → BookSegment → List ℕ → Type 0
+abbrev pub Stands : List ℕ → ℕ → BookSegment → List ℕ → Type 0
 Stands s at g r = (entryView s (entryAt at g) ≡ g) × (r ≡ drop (endAt at g) s)
 
 record-stands : (s : List ℕ) (at : ℕ) → Holds (Stands s at) (segmentRecord (drop at s))
@@ -61,6 +61,9 @@ record-stands s at =
     head s at r₁ r₂ r₃ r₄ a b c d =
         let z : at + 1 + 2 + 4 + 4 ≡ at + 11 = omega arith in
         d ∙ ap (drop 4) (c ∙ ap (drop 4) (b ∙ ap (drop 2) (a ∙ drop-drop 1 at s) ∙ drop-drop 2 (at + 1) s) ∙ drop-drop 4 (at + 1 + 2) s) ∙ drop-drop 4 (at + 1 + 2 + 4) s ∙ ap (λ (x : ℕ). drop x s) z
+
+pub segment-stands : (s : List ℕ) (at : ℕ) (g : BookSegment) (r : List ℕ) → segmentRecord (drop at s) ≡ good g r → Stands s at g r
+segment-stands s at g r e = subst (Holds (Stands s at)) e (record-stands s at)
 
 -- ---- answers
 
