@@ -1,3 +1,4 @@
+pub mod Filled
 pub mod Whole
 pub mod Entries
 pub mod Keys

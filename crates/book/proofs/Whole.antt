@@ -1,30 +1,34 @@
--- Laws of a whole book: its records one by one, the pass that keeps the first 40, and the number that it gets.
+-- Laws of a whole book: its records one by one, the pass that keeps the first 40, the number that it gets, and its answer.
 use Prim.Native.Nat.{ℕ, zero, suc, _+_, _-_, _≤_, _<_, min}
 use mathlib.Core.Path.{_≡_, refl, sym, ap, _∙_, subst}
 use mathlib.Core.List.{List, [], _∷_, _++_, map, append-assoc, append-nil}
 use mathlib.Core.Bool.{Bool, true, false, cond, _||_}
-use lib.ListN.{length, drop, take, set, replicate, length-drop, length-append, length-set, drop-of-length-le}
-use lib.Seq.{drop-drop, take-all, take-append-le, take-suc-set, set-out, drop-set-lt}
+use lib.ListN.{length, drop, take, set, replicate, length-drop, length-append, drop-of-length-le}
 use lib.Dec.{eqb, ltb}
 use native.Mathlib.Omega.{arith}
-use borrow.Author.Tests.{eq-eqb, ne-eqb, lt-ltb, le-ltb, ltb-true, ltb-false}
-use Rattle.fields.specs.Parse.{Parse, andThen}
+use borrow.Author.Tests.{eq-eqb, ne-eqb, lt-ltb, le-ltb}
+use Rattle.fields.specs.Parse.{Parse, andThen, read}
 use Rattle.fields.specs.Parse.Parse.{bad, good}
+use Rattle.wire.specs.Judged.{Judged, thenJudge, row}
 use Rattle.wire.specs.Judged.Judged.{refuse, accept}
+use Rattle.wire.specs.View.{verdictView}
 use Rattle.wire.specs.Lists.{All, any, twice}
 use Rattle.wire.specs.declared.Verdict.{Verdict}
+use Rattle.fields.proofs.ReaderLaws.{then-inv}
 use Rattle.fields.proofs.Sure.{sure-of}
-use Rattle.engine_value.specs.Engine.{maxSegments}
+use Rattle.engine_value.specs.Engine.{maxSegments, filled}
 use Rattle.segment_record.specs.Record.{BookSegment, segmentRecord}
 use Rattle.book.specs.Book.{records}
 use Rattle.book.specs.Table.{sameSegment, nidtpTwice, bookOf}
-use Rattle.segment_record.specs.View.{entryView, blankEntry}
-use Rattle.book.specs.View.{segmentsView, bookView, BookRead, allRecords, Listed, refusedBook}
+use Rattle.segment_record.specs.View.{entryView, blankEntry, endAt, entryAt}
+use Rattle.book.specs.View.{segmentsView, entriesAt, refusedBook, bookHeld, allRecords, Listed}
 use Rattle.segment_record.proofs.Accepted.{SegmentFits}
-use Rattle.book.proofs.Accepted.{records-fit}
+use Rattle.book.proofs.Accepted.{records-fit, book-fits}
+use Rattle.book.proofs.Filled.{filled-take, filled-set}
 use Rattle.segment_record.specs.declared.Entry.{Entry}
 use Rattle.book.specs.declared.Book.{Book}
 use Rattle.segment_record.proofs.Reading.{segment-takes}
+use Rattle.segment_record.proofs.Positions.{Stands, segment-stands, SegmentTold}
 
 -- gs before the records that follow
 abbrev pub before : List BookSegment → Parse (List BookSegment) → Parse (List BookSegment)
@@ -69,69 +73,80 @@ module _ (l : List ℕ) where
 pub closer : (s : List ℕ) (p q : ℕ) (g : BookSegment) → segmentRecord (drop p s) ≡ good g (drop q s) → length s - q + 11 ≤ length s - p
 closer s p q g e = omega (arith, segment-takes (drop p s) g (drop q s) e, length-drop q s, length-drop p s)
 
-map-snoc : {A B : Type 0} (f : A → B) (xs : List A) (y : A) → map f (xs ++ (y ∷ [])) ≡ map f xs ++ (f y ∷ [])
-map-snoc f [] y = refl
-map-snoc f (x ∷ xs) y = ap (λ l. f x ∷ l) (map-snoc f xs y)
+-- ---- entries end to end
 
--- the first 40 records, where one more stands behind n of them
-kept-first : (f : Entry → BookSegment) (n : ℕ) (es : List Entry) (gs : List BookSegment) (e : Entry) → length gs ≡ n → length es ≡ 40
-    → take 40 gs ≡ map f (take (min n 40) es) → take 40 (gs ++ (f e ∷ [])) ≡ map f (take (min (n + 1) 40) (set es n e))
-kept-first f n es gs e k z h = go (ltb n 40) refl
-  where
-    go : (b : Bool) → ltb n 40 ≡ b → take 40 (gs ++ (f e ∷ [])) ≡ map f (take (min (n + 1) 40) (set es n e))
-    go true t =
-        let i : n < 40 = ltb-true n 40 t in
-        let m : min n 40 ≡ n = omega arith in
-        let m′ : min (n + 1) 40 ≡ suc n = omega arith in
-        let all : gs ≡ map f (take n es) = sym (take-all 40 gs (omega arith)) ∙ h ∙ ap (λ (x : ℕ). map f (take x es)) m in
-        let small : length (gs ++ (f e ∷ [])) ≤ 40 = rw length-append (omega arith) in
-        rw (take-all 40 (gs ++ (f e ∷ [])) small, m′, take-suc-set es n e (omega arith), map-snoc f (take n es) e)
-        (ap (λ (x : List BookSegment). x ++ (f e ∷ [])) all)
-    go false t =
-        let i : 40 ≤ n = ltb-false n 40 t in
-        let m : min n 40 ≡ 40 = omega arith in
-        let m′ : min (n + 1) 40 ≡ 40 = omega arith in
-        rw (take-append-le 40 gs (f e ∷ []) (omega arith), m′, set-out es n e (omega arith)) (h ∙ ap (λ (x : ℕ). map f (take x es)) m)
+-- the position behind records that stand end to end from a position on
+abbrev behind : ℕ → List BookSegment → ℕ
+behind at [] = at
+behind at (g ∷ gs) = behind (endAt at g) gs
 
-kept-blank : (n : ℕ) (es : List Entry) (e : Entry) → length es ≡ 40 → drop (min n 40) es ≡ replicate (40 - min n 40) blankEntry
-    → drop (min (n + 1) 40) (set es n e) ≡ replicate (40 - min (n + 1) 40) blankEntry
-kept-blank n es e z h = go (ltb n 40) refl
+behind-more : (at : ℕ) (gs : List BookSegment) (g : BookSegment) → behind at (gs ++ (g ∷ [])) ≡ endAt (behind at gs) g
+behind-more at [] g = refl
+behind-more at (x ∷ gs) g = behind-more (endAt at x) gs g
+
+entries-more : (at : ℕ) (gs : List BookSegment) (g : BookSegment) → entriesAt at (gs ++ (g ∷ [])) ≡ entriesAt at gs ++ (entryAt (behind at gs) g ∷ [])
+entries-more at [] g = refl
+entries-more at (x ∷ gs) g = ap (λ (es : List Entry). entryAt at x ∷ es) (entries-more (endAt at x) gs g)
+
+entries-length : (at : ℕ) (gs : List BookSegment) → length (entriesAt at gs) ≡ length gs
+entries-length at [] = refl
+entries-length at (g ∷ gs) = ap suc (entries-length (endAt at g) gs)
+
+-- the entries of at most 40 records stand at the front of their array
+held-first : (gs : List BookSegment) (n : ℕ) → length gs ≡ n → n ≤ 40 → take (min n 40) (filled 40 blankEntry (entriesAt 0 gs)) ≡ entriesAt 0 gs
+held-first gs n c h =
+    let m : min n 40 ≡ length (entriesAt 0 gs) = omega (arith, c, h, entries-length 0 gs) in
+    ap (λ (k : ℕ). take k (filled 40 blankEntry (entriesAt 0 gs))) m ∙ filled-take 40 blankEntry (entriesAt 0 gs) (omega (arith, c, h, entries-length 0 gs))
+
+-- the entries stand for the records
+records-seen : (k : ℕ) (s : List ℕ) (at : ℕ) (gs : List BookSegment) (r : List ℕ) → records k (drop at s) ≡ good gs r → map (entryView s) (entriesAt at gs) ≡ gs
+unfolding records
+records-seen zero s at gs r = λ e. let z : _≡_ {A = ℕ} 0 1 = cc in absurd (omega arith)
+records-seen (suc k) s at gs r = go (eqb (length (drop at s)) 0) (λ p rest. records-seen k s p rest r)
   where
-    go : (b : Bool) → ltb n 40 ≡ b → drop (min (n + 1) 40) (set es n e) ≡ replicate (40 - min (n + 1) 40) blankEntry
-    go true t =
-        let i : n < 40 = ltb-true n 40 t in
-        let m : min n 40 ≡ n = omega arith in
-        let m′ : min (n + 1) 40 ≡ n + 1 = omega arith in
-        let k : 40 - n ≡ suc (40 - (n + 1)) = omega arith in
-        let d : drop n es ≡ replicate (suc (40 - (n + 1))) blankEntry = ap (λ (x : ℕ). drop x es) (sym m) ∙ h ∙ ap (λ (x : ℕ). replicate x blankEntry) (ap (λ (x : ℕ). 40 - x) m ∙ k) in
-        rw (m′, drop-set-lt (n + 1) es n e (omega arith)) (sym (drop-drop 1 n es) ∙ ap (drop 1) d)
-    go false t =
-        let i : 40 ≤ n = ltb-false n 40 t in
-        let m : min n 40 ≡ 40 = omega arith in
-        let m′ : min (n + 1) 40 ≡ min n 40 = omega arith in
-        rw (m′, set-out es n e (omega arith)) h
+    more : (g : BookSegment) (r₁ : List ℕ) (rest : List BookSegment) → Stands s at g r₁ → records k r₁ ≡ good rest r
+        → ((p : ℕ) (xs : List BookSegment) → records k (drop p s) ≡ good xs r → map (entryView s) (entriesAt p xs) ≡ xs)
+        → map (entryView s) (entriesAt at (g ∷ rest)) ≡ g ∷ rest
+    more g r₁ rest h e ih = rw (h .0) (ap (λ (x : List BookSegment). g ∷ x) (ih (endAt at g) rest (ap (records k) (sym (h .1)) ∙ e)))
+
+    go : (b : Bool) → ((p : ℕ) (xs : List BookSegment) → records k (drop p s) ≡ good xs r → map (entryView s) (entriesAt p xs) ≡ xs)
+        → cond b (good [] (drop at s)) (andThen (segmentRecord (drop at s)) (λ g r₁. andThen (records k r₁) (λ rest r₂. good (g ∷ rest) r₂))) ≡ good gs r
+        → map (entryView s) (entriesAt at gs) ≡ gs
+    go true ih e = let q : gs ≡ [] = cc in rw q
+    go false ih e =
+        let i = then-inv (segmentRecord (drop at s)) _ gs r e in
+        let j = then-inv (records k (i .1)) _ gs r (i .3) in
+        let q : gs ≡ i .0 ∷ j .0 = cc in
+        let w : j .1 ≡ r = cc in
+        rw q (more (i .0) (i .1) (j .0) (segment-stands s at (i .0) (i .1) (i .2)) (j .2 ∙ ap (good (j .0)) w) ih)
 
 -- the n records gs stand in s before the position at, and es lists them
 pub record ReadTo (s : List ℕ) (at n : ℕ) (es : List Entry) (gs : List BookSegment) : Type 0 where
   pub all : allRecords s ≡ before gs (allRecords (drop at s))
-  pub listed : Listed s n es gs
+  pub here : at ≡ behind 0 gs
+  pub listed : Listed n es gs
 
 -- the pass over the book
 module _ (s : List ℕ) where
   pub read-start : (es : List Entry) → es ≡ replicate 40 blankEntry → ReadTo s 0 0 es []
-  read-start es e = record { all = before-none (allRecords s); listed = record { count = refl; size = ap length e; first = refl; blank = e } }
+  read-start es e = record { all = before-none (allRecords s); here = refl; listed = record { count = refl; array = e } }
 
-  pub read-step : (p n : ℕ) (es es′ : List Entry) (gs : List BookSegment) (e : Entry) (q : ℕ) → ReadTo s p n es gs
-      → segmentRecord (drop p s) ≡ good (entryView s e) (drop q s) → es′ ≡ set es n e → ReadTo s q (n + 1) es′ (gs ++ (entryView s e ∷ []))
-  read-step p n es es′ gs e q g h x = record {
-    all = g .all ∙ ap (before gs) (all-good (drop p s) (entryView s e) (drop q s) h) ∙ before-more gs (entryView s e) (allRecords (drop q s));
-    listed = record {
-      count = length-append gs (entryView s e ∷ []) ∙ ap (λ (k : ℕ). k + 1) (g .listed .count);
-      size = ap length x ∙ length-set es n e ∙ g .listed .size;
-      first = rw x (kept-first (entryView s) n es gs e (g .listed .count) (g .listed .size) (g .listed .first));
-      blank = rw x (kept-blank n es e (g .listed .size) (g .listed .blank));
-    };
-  }
+  pub read-step : (p n : ℕ) (es es′ : List Entry) (gs : List BookSegment) (e : Entry) (q : ℕ) → ReadTo s p n es gs → (t : SegmentTold s p e q) → es′ ≡ set es n e
+      → ReadTo s q (n + 1) es′ (gs ++ (t .segment ∷ []))
+  read-step p n es es′ gs e q g t x =
+      let h = t .segment in
+      let end : q ≡ endAt (behind 0 gs) h = t .end ∙ ap (λ (k : ℕ). endAt k h) (g .here) in
+      let entry : e ≡ entryAt (behind 0 gs) h = t .entry ∙ ap (λ (k : ℕ). entryAt k h) (g .here) in
+      let n′ : n ≡ length (entriesAt 0 gs) = sym (entries-length 0 gs ∙ g .listed .count) in
+      record {
+        all = g .all ∙ ap (before gs) (all-good (drop p s) h (drop q s) (t .read)) ∙ before-more gs h (allRecords (drop q s));
+        here = end ∙ sym (behind-more 0 gs h);
+        listed = record {
+          count = length-append gs (h ∷ []) ∙ ap (λ (k : ℕ). k + 1) (g .listed .count);
+          array = x ∙ ap (λ (y : List Entry). set y n e) (g .listed .array) ∙ ap (λ (k : ℕ). set (filled 40 blankEntry (entriesAt 0 gs)) k e) n′
+          ∙ filled-set 40 blankEntry (entriesAt 0 gs) e ∙ ap (λ (y : Entry). filled 40 blankEntry (entriesAt 0 gs ++ (y ∷ []))) entry ∙ ap (filled 40 blankEntry) (sym (entries-more 0 gs h));
+        };
+      }
 
   pub read-bad : (p n : ℕ) (es : List Entry) (gs : List BookSegment) → ReadTo s p n es gs → p < length s → segmentRecord (drop p s) ≡ bad → allRecords s ≡ bad
   read-bad p n es gs g h e = g .all ∙ ap (before gs) (all-bad (drop p s) (rw length-drop (omega arith)) e)
@@ -155,9 +170,27 @@ module _ (s : List ℕ) where
   all-fit gs r e = sure-of (All SegmentFits) (records (suc (length s)) s) gs r e (records-fit (suc (length s)) s)
 
   -- a refusal
-  pub book-refused : (k : ℕ) → bookOf s ≡ refuse k → BookRead s (refusedBook k)
-  unfolding bookView
-  book-refused k e = record { seen = sym e; few = omega arith; none = λ n q. refl; blank = refl }
+  pub book-refused : (k : ℕ) → bookOf s ≡ refuse k → refusedBook k ≡ bookHeld (bookOf s)
+  book-refused k e = ap bookHeld (sym e)
+
+  all-seen : (gs : List BookSegment) (r : List ℕ) → allRecords s ≡ good gs r → map (entryView s) (entriesAt 0 gs) ≡ gs
+  unfolding allRecords
+  all-seen gs r e = records-seen (suc (length s)) s 0 gs r e
+
+  -- the records of an accepted book are those that were read
+  pub accepted-read : (gs : List BookSegment) → bookOf s ≡ accept gs → (r : List ℕ) × (allRecords s ≡ good gs r)
+  unfolding bookOf allRecords
+  accepted-read gs = go (records (suc (length s)) s) refl
+    where
+      kept : (xs : List BookSegment) (b : Bool) → thenJudge (row 8 b) (λ u. accept xs) ≡ accept gs → xs ≡ gs
+      kept xs true e = let z : _≡_ {A = ℕ} 0 1 = cc in absurd (omega arith)
+      kept xs false e = cc
+
+      go : (p : Parse (List BookSegment)) → records (suc (length s)) s ≡ p
+          → thenJudge (read 7 p) (λ xs. thenJudge (row 8 (twice sameSegment xs || (any nidtpTwice xs || ltb maxSegments (length xs)))) (λ u. accept xs)) ≡ accept gs
+          → (r : List ℕ) × (p ≡ good gs r)
+      go bad q e = let z : _≡_ {A = ℕ} 0 1 = cc in absurd (omega arith)
+      go (good xs r) q e = (r, ap (λ (y : List BookSegment). good y r) (kept xs (twice sameSegment xs || (any nidtpTwice xs || ltb maxSegments (length xs))) e))
 
   or-last : (a b c : Bool) → c ≡ true → (a || (b || c)) ≡ true
   or-last true b c e = refl
@@ -168,12 +201,12 @@ module _ (s : List ℕ) where
   book-many n gs e g h = book-read gs [] true e (or-last (twice sameSegment gs) (any nidtpTwice gs) _ (lt-ltb maxSegments (length gs) (omega arith)))
 
   -- where there are not too many, the records are those that the answer lists
-  module _ (n : ℕ) (es : List Entry) (gs : List BookSegment) (a : allRecords s ≡ good gs []) (g : Listed s n es gs) (h : n ≤ 40) where
+  module _ (n : ℕ) (es : List Entry) (gs : List BookSegment) (a : allRecords s ≡ good gs []) (g : Listed n es gs) (h : n ≤ 40) where
     abbrev pub book : Book
     book = record { verdict = Verdict.Accepted; count = n; entries = es }
 
     few : gs ≡ segmentsView s book
-    few = sym (take-all 40 gs (omega (arith, g .count))) ∙ g .first
+    few = sym (ap (map (entryView s)) (ap (take (min n 40)) (g .array) ∙ held-first gs n (g .count) h) ∙ all-seen gs [] a)
 
     pub book-fit : All SegmentFits (segmentsView s book)
     book-fit = subst (All SegmentFits) few (all-fit gs [] a)
@@ -187,6 +220,20 @@ module _ (s : List ℕ) where
     pub book-point : twice sameSegment (segmentsView s book) ≡ false → any nidtpTwice (segmentsView s book) ≡ true → bookOf s ≡ refuse 8
     book-point t u = judged true (rw (t, u))
 
-    pub book-good : twice sameSegment (segmentsView s book) ≡ false → any nidtpTwice (segmentsView s book) ≡ false → BookRead s book
-    unfolding bookView
-    book-good t u = record { seen = sym (judged false (rw (t, u))); few = h; none = λ k q. let z : _≡_ {A = ℕ} 0 1 = cc in absurd (omega arith); blank = let m : min n 40 ≡ n = omega arith in rw m at (g .blank) }
+    pub book-good : twice sameSegment (segmentsView s book) ≡ false → any nidtpTwice (segmentsView s book) ≡ false → book ≡ bookHeld (bookOf s)
+    book-good t u =
+        (λ i. record { verdict = Verdict.Accepted; count = sym (g .count) i; entries = g .array i })
+        ∙ ap bookHeld (sym (judged false (rw (t, u)) ∙ ap accept (sym few)))
+
+-- ---- what the answer says
+
+unfoldable pub bookView : List ℕ → Book → Judged (List BookSegment)
+bookView s b = thenJudge (verdictView (b .verdict)) (λ u. accept (segmentsView s b))
+
+pub book-seen : (s : List ℕ) (b : Book) → b ≡ bookHeld (bookOf s) → bookView s b ≡ bookOf s
+unfolding bookView
+book-seen s b e = ap (bookView s) e ∙ go (bookOf s) refl
+  where
+    go : (x : Judged (List BookSegment)) → bookOf s ≡ x → bookView s (bookHeld x) ≡ x
+    go (refuse n) q = refl
+    go (accept gs) q = ap accept (ap (map (entryView s)) (held-first gs (length gs) refl (book-fits s gs q .1)) ∙ let t = accepted-read s gs q in all-seen s gs (t .0) (t .1))

@@ -14,8 +14,8 @@ ghost use Rattle.wire.specs.Lists.{any, twice};
 ghost use Rattle.engine_value.specs.Engine.{maxSegments};
 ghost use Rattle.segment_record.specs.Record.{maxRecordPoints};
 ghost use Rattle.segment_record.specs.View.{items, blankEntry};
-ghost use Rattle.book.specs.Table.{sameSegment, nidtpTwice};
-ghost use Rattle.book.specs.View.{segmentsView, entriesView, keyOf, Keyed, indexOf, BookRead, RecordsRead, refusedBook};
+ghost use Rattle.book.specs.Table.{sameSegment, nidtpTwice, bookOf};
+ghost use Rattle.book.specs.View.{segmentsView, entriesView, keyOf, Keyed, indexOf, bookHeld, RecordsRead, refusedBook};
 
 // The records of a book in their order; none where a row refuses.
 pub struct Book {
@@ -203,7 +203,7 @@ fn refused(number: u8) -> Book
 
 // The whole book: 7 for every record comes before 8.
 pub fn read_book(s: &[u8]) -> Book
-    ensures { λ r. ⌜ BookRead (now (s .entry)) r ⌝ }
+    ensures { λ r. ⌜ r ≡ bookHeld (bookOf (now (s .entry))) ⌝ }
 {
     let all = read_records(s);
     let counted = all.counted;

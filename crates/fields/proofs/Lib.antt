@@ -1,3 +1,4 @@
+pub mod Answers
 pub mod ReaderLaws
 pub mod Sure
 pub mod Anchors

@@ -6,10 +6,10 @@ ghost use mathlib.Core.Path.{_≡_};
 ghost use mathlib.Core.List.{_∷_, []};
 ghost use mathlib.Core.Bool.{not};
 ghost use lib.ListN.{drop};
-ghost use Rattle.wire.specs.Numbers.{number, bit};
+ghost use Rattle.wire.specs.Numbers.{number, bit, if_then_else_};
 ghost use Rattle.wire.specs.Lists.{every};
 ghost use Rattle.fields.specs.Parse.{bytes, field, optional};
-ghost use Rattle.fields.specs.View.{fieldView};
+ghost use Rattle.fields.specs.View.{fieldAt};
 
 // The widths of the numbers in a layout.
 pub enum Width {
@@ -60,7 +60,7 @@ pub fn upper_clear(map: u32) -> bool
 
 // The number of a width at a position, where it is there and in its range.
 pub fn read_field(s: &[u8], at: usize, w: Width, low: u32, high: u32) -> Field
-    ensures { λ r. ⌜ fieldView (now (s .entry)) r ≡ field (bytes w) low high (drop at (now (s .entry))) ⌝ }
+    ensures { λ r. ⌜ r ≡ fieldAt at (field (bytes w) low high (drop at (now (s .entry)))) (bytes w) ⌝ }
 {
     let k = size_of(w);
     if s.len() < at {
@@ -89,7 +89,7 @@ pub fn read_optional(
     low: u32,
     high: u32,
 ) -> Field
-    ensures { λ r. ⌜ fieldView (now (s .entry)) r ≡ optional present other (field (bytes w) low high) (drop at (now (s .entry))) ⌝ }
+    ensures { λ r. ⌜ r ≡ fieldAt at (optional present other (field (bytes w) low high) (drop at (now (s .entry)))) (if present then bytes w else 0) ⌝ }
 {
     if present {
         read_field(s, at, w, low, high)

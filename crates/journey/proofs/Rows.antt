@@ -11,11 +11,14 @@ use Rattle.wire.specs.Numbers.{bit}
 use Rattle.fields.specs.Parse.{Parse, andThen, must, mapFits, counted}
 use Rattle.wire.proofs.ListLaws.{and-left, and-right}
 use Rattle.fields.specs.Parse.Parse.{bad, good}
+use Rattle.wire.specs.Judged.{Judged, thenJudge}
 use Rattle.wire.specs.Judged.Judged.{refuse, accept}
+use Rattle.wire.specs.View.{verdictView}
 use Rattle.wire.specs.declared.Verdict.{Verdict}
-use Rattle.journey.specs.Journey.{nameRecord, pointRecord, headRecord, journeyRecord, journeyValue}
-use Rattle.journey.proofs.Filling.{filled-length}
-use Rattle.journey.specs.View.{refusedJourney, JourneyRead}
+use Rattle.journey.specs.Journey.{JourneyValue, nameRecord, pointRecord, headRecord, journeyRecord, journeyValue}
+use Rattle.journey.proofs.Filling.{filled-length, filled-take}
+use Rattle.journey.proofs.Accepted.{journey-fits}
+use Rattle.journey.specs.View.{valueView, refusedJourney, journeyHeld}
 use Rattle.journey.specs.Journey.{blankName, blankJourneyPoint}
 use Rattle.journey.specs.declared.Name.{Name}
 use Rattle.journey.specs.declared.JourneyPoint.{JourneyPoint}
@@ -42,8 +45,8 @@ map-missing {A} m l f = go (pointBits m) (skipsStop m) refl
     go true false q e = rw q
     go false b q e = refl
 
-pub told-refused : (s : List ℕ) (r : Journey) → r ≡ refusedJourney 9 → refuse 9 ≡ journeyValue s → JourneyRead s r
-told-refused s r e q = rw e record { seen = q; held = refl }
+pub told-refused : (s : List ℕ) (r : Journey) → r ≡ refusedJourney 9 → refuse 9 ≡ journeyValue s → r ≡ journeyHeld (journeyValue s)
+told-refused s r e q = e ∙ ap journeyHeld q
 
 module _ (s : List ℕ) where
   pub headless : headRecord s ≡ bad → refuse 9 ≡ journeyValue s
@@ -70,24 +73,30 @@ module _ (s : List ℕ) where
         exact e = rw (head, names, points, eq-eqb (length r₃) 0 e)
 
 -- an array that is filled up to n lists n elements
-module _ {A : Type 0} (blank : A) (high n : ℕ) (xs : List A) (h : n ≤ high) (f : xs ≡ filled high blank (take n xs)) where
-  counts : n ≡ length (take (min n high) xs)
-  counts =
-      let e : min n high ≡ n = omega arith in
-      let z : length xs ≡ high = ap length f ∙ filled-length blank high (take n xs) in
-      sym (ap (λ (k : ℕ). length (take k xs)) e ∙ length-take-le n xs (omega arith))
-
-  holds : xs ≡ filled high blank (take (min n high) xs)
-  holds = let e : n ≡ min n high = omega arith in f ∙ ap (λ (k : ℕ). filled high blank (take k xs)) e
+counts : {A : Type 0} (blank : A) (high n : ℕ) (xs : List A) → n ≤ high → xs ≡ filled high blank (take n xs) → n ≡ length (take n xs)
+counts blank high n xs h f = let z : length xs ≡ high = ap length f ∙ filled-length blank high (take n xs) in sym (length-take-le n xs (omega arith))
 
 pub told-accepted : (s : List ℕ) (h : Head) (n m : ℕ) (ns : List Name) (ps : List JourneyPoint)
     → n ≤ 40 → m ≤ 64 → ns ≡ filled 40 blankName (take n ns) → ps ≡ filled 64 blankJourneyPoint (take m ps)
     → accept (record { head = h; names = take n ns; points = take m ps }) ≡ journeyValue s
-    → JourneyRead s (record { verdict = Verdict.Accepted; head = h; «name_count» = n; names = ns; «point_count» = m; points = ps })
+    → record { verdict = Verdict.Accepted; head = h; «name_count» = n; names = ns; «point_count» = m; points = ps } ≡ journeyHeld (journeyValue s)
 told-accepted s h n m ns ps a b f g e =
-    let p : min n 40 ≡ n = omega arith in
-    let q : min m 64 ≡ m = omega arith in
-    record {
-      seen = ap (λ (k : ℕ). accept (record { head = h; names = take k ns; points = take (min m 64) ps })) p ∙ ap (λ (k : ℕ). accept (record { head = h; names = take n ns; points = take k ps })) q ∙ e;
-      held = λ i. record { verdict = Verdict.Accepted; head = h; «name_count» = counts blankName 40 n ns a f i; names = holds blankName 40 n ns a f i; «point_count» = counts blankJourneyPoint 64 m ps b g i; points = holds blankJourneyPoint 64 m ps b g i };
-    }
+    (λ i. record { verdict = Verdict.Accepted; head = h; «name_count» = counts blankName 40 n ns a f i; names = f i; «point_count» = counts blankJourneyPoint 64 m ps b g i; points = g i })
+    ∙ ap journeyHeld e
+
+-- ---- what the answer says
+
+abbrev pub journeyView : Journey → Judged JourneyValue
+journeyView j = thenJudge (verdictView (j .verdict)) (λ u. accept (valueView j))
+
+pub journey-seen : (s : List ℕ) (j : Journey) → j ≡ journeyHeld (journeyValue s) → journeyView j ≡ journeyValue s
+journey-seen s j e = ap journeyView e ∙ go (journeyValue s) refl
+  where
+    first : {A : Type 0} (blank : A) (high : ℕ) (l : List A) → length l ≤ high → take (min (length l) high) (filled high blank l) ≡ l
+    first blank high l h = let e : min (length l) high ≡ length l = omega arith in ap (λ (k : ℕ). take k (filled high blank l)) e ∙ filled-take blank high l h
+
+    go : (x : Judged JourneyValue) → journeyValue s ≡ x → journeyView (journeyHeld x) ≡ x
+    go (refuse n) q = refl
+    go (accept v) q =
+        let h = journey-fits s v q in
+        λ i. accept (record { head = v .head; names = first blankName 40 (v .names) (h .most-names) i; points = first blankJourneyPoint 64 (v .points) (h .most-points) i })

@@ -5,11 +5,10 @@ use mathlib.Core.List.{List}
 use lib.ListN.{length, drop, take, replicate}
 use Rattle.fields.specs.Parse.{Parse, Reader, counted}
 use Rattle.fields.specs.Parse.Parse.{bad, good}
-use Rattle.wire.specs.Judged.{Judged, thenJudge}
+use Rattle.wire.specs.Judged.{Judged}
 use Rattle.wire.specs.Judged.Judged.{refuse, accept}
-use Rattle.wire.specs.View.{verdictView}
 use Rattle.wire.specs.declared.Verdict.{Verdict}
-use Rattle.journey.specs.Journey.{blankName, blankJourneyPoint, blankHead, JourneyValue, nameRecord, pointRecord, journeyValue}
+use Rattle.journey.specs.Journey.{blankName, blankJourneyPoint, blankHead, JourneyValue, nameRecord, pointRecord}
 use Rattle.journey.specs.declared.Name.{Name}
 use Rattle.journey.specs.declared.JourneyPoint.{JourneyPoint}
 use Rattle.journey.specs.declared.Head.{Head}
@@ -65,9 +64,6 @@ pointsView j = take (min (j .«point_count») maxPoints) (j .points)
 abbrev pub valueView : Journey → JourneyValue
 valueView j = record { head = j .head; names = namesView j; points = pointsView j }
 
-abbrev pub journeyView : Journey → Judged JourneyValue
-journeyView j = thenJudge (verdictView (j .verdict)) (λ u. accept (valueView j))
-
 -- "Every refusal returns the number only"
 abbrev pub refusedJourney : ℕ → Journey
 refusedJourney n =
@@ -78,7 +74,3 @@ abbrev pub journeyHeld : Judged JourneyValue → Journey
 journeyHeld (refuse n) = refusedJourney n
 journeyHeld (accept v) =
     record { verdict = Verdict.Accepted; head = v .head; «name_count» = length (v .names); names = filled maxSegments blankName (v .names); «point_count» = length (v .points); points = filled maxPoints blankJourneyPoint (v .points) }
-
-pub record JourneyRead (s : List ℕ) (r : Journey) : Type 0 where
-  pub seen : journeyView r ≡ journeyValue s
-  pub held : r ≡ journeyHeld (journeyView r)

@@ -15,8 +15,8 @@ ghost use mathlib.Core.Bool.{not, _&&_, _||_};
 ghost use lib.ListN.{drop};
 ghost use Rattle.wire.specs.Numbers.{bit};
 ghost use Rattle.fields.specs.Parse.{mapFits};
-ghost use Rattle.journey.specs.Journey.{blankHead, nameRecord, pointRecord, headRecord};
-ghost use Rattle.journey.specs.View.{nameView, pointView, headView, NamesRead, PointsRead, refusedJourney, JourneyRead};
+ghost use Rattle.journey.specs.Journey.{blankHead, nameRecord, pointRecord, headRecord, journeyValue};
+ghost use Rattle.journey.specs.View.{nameView, pointView, headView, NamesRead, PointsRead, refusedJourney, journeyHeld};
 
 // "date (2, 0-32,767)"
 const MAX_DATE: u32 = 32767;
@@ -370,7 +370,7 @@ fn refused(number: u8) -> Journey
 
 // A journey to the last byte of the slice.
 pub fn read_journey(s: &[u8]) -> Journey
-    ensures { λ r. ⌜ JourneyRead (now (s .entry)) r ⌝ }
+    ensures { λ r. ⌜ r ≡ journeyHeld (journeyValue (now (s .entry))) ⌝ }
 {
     let HeadRead::Read(head, a) = read_head(s) else {
         return refused(9);

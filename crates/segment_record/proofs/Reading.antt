@@ -1,6 +1,6 @@
--- Laws of the readers of a record: lists that are checked over and lists that are read, and how many bytes a reader takes at least.
-use Prim.Native.Nat.{ℕ, zero, suc, _+_, _-_, _≤_, _<_}
-use mathlib.Core.Path.{_≡_, refl, ap, _∙_}
+-- Laws of the readers of a record: items and lists at a position, their answers, and how many bytes a reader takes at least.
+use Prim.Native.Nat.{ℕ, zero, suc, _+_, _-_, _*_, _≤_, _<_}
+use mathlib.Core.Path.{_≡_, refl, sym, ap, _∙_}
 use mathlib.Core.List.{List, [], _∷_}
 use mathlib.Core.Bool.{Bool, true, false}
 use lib.ListN.{length, drop, length-drop}
@@ -13,26 +13,11 @@ use Rattle.fields.specs.Parse.{Parse, Reader, andThen, field, free, mapFits, bi
 use Rattle.fields.specs.Parse.Parse.{bad, good}
 use Rattle.fields.proofs.ReaderLaws.{then-inv, FieldRead, field-inv}
 use Rattle.segment_record.specs.Record.{BookPoint, maxLength, maxRecordPoints, maxReach, bookPoint, zoneRecord, segmentRecord}
-use Rattle.segment_record.specs.View.{items, pointOf, zoneOf, bare, bareReader, skip, most, Extent, extent}
+use Rattle.segment_record.specs.View.{items, pointOf, zoneOf, listAt, ItemOf, item, itemSize, most, endsAt, itemsAt}
 use Rattle.segment_record.specs.declared.Kind.{Kind}
 use Rattle.segment_record.specs.declared.Kind.the-variants.{Points, Zones}
-
--- the turns of a loop that passes over n items: i of them are behind
-module _ (p : Reader (Unit {0})) (n : ℕ) where
-  pub skip-start : (l : List ℕ) → skip n p l ≡ skip (n - 0) p l
-  skip-start l = let e : n - 0 ≡ n = omega arith in rw e
-
-  pub skip-step : (i : ℕ) (l r : List ℕ) → i < n → p l ≡ good tt r → skip (n - i) p l ≡ skip (n - (i + 1)) p r
-  unfolding skip
-  skip-step i l r h g = let e : n - i ≡ suc (n - (i + 1)) = omega arith in rw (e, g)
-
-  pub skip-bad : (i : ℕ) (l : List ℕ) → i < n → p l ≡ bad → skip (n - i) p l ≡ bad
-  unfolding skip
-  skip-bad i l h g = let e : n - i ≡ suc (n - (i + 1)) = omega arith in rw (e, g)
-
-  pub skip-end : (i : ℕ) (l : List ℕ) → n ≤ i → skip (n - i) p l ≡ good tt l
-  unfolding skip
-  skip-end i l h = let e : n - i ≡ 0 = omega arith in rw e
+use Rattle.segment_record.specs.declared.Ends.{Ends}
+use Rattle.segment_record.specs.declared.Items.{Items}
 
 pub most-small : (k : Kind) → most k ≤ 16
 most-small Points = omega arith
@@ -72,42 +57,152 @@ zone-fixed len l a r e =
     let i₂ = then-inv (field 4 (i₁ .0) len (i₁ .1)) _ a r (i₁ .3) in
     zone-parts l _ _ _ _ a r (parts (field-inv _ _ _ _ _ _ (i₁ .2))) (parts (field-inv _ _ _ _ _ _ (i₂ .2))) (i₂ .3)
 
--- where each of n items is good, their values are v's
+-- the item's bytes, whichever list it is of
+pub item-rest : (kind : Kind) (len : ℕ) (l : List ℕ) (a : ItemOf kind) (r : List ℕ) → item kind len l ≡ good a r → r ≡ drop (itemSize kind) l
+item-rest Points len l a r e = point-fixed len l a r e .1
+item-rest Zones len l a r e = zone-fixed len l a r e .1
+
+-- ---- a position behind what was read
+
+module _ {A : Type 0} where
+  pub ends-bad : (at size : ℕ) (x : Parse A) (r : Ends) → r ≡ endsAt at x size → r ≡ Ends.Bad → x ≡ bad
+  unfolding endsAt
+  ends-bad at size bad r e t = refl
+  ends-bad at size (good a l) r e t = let z : _≡_ {A = ℕ} 0 1 = cc in absurd (omega arith)
+
+  pub ends-told : (at size : ℕ) (x : Parse A) (r : Ends) (next : ℕ) → r ≡ endsAt at x size → r ≡ Ends.At next → (next ≡ at + size) × (a : A) × (l : List ℕ) × (x ≡ good a l)
+  unfolding endsAt
+  ends-told at size bad r next e t = let z : _≡_ {A = ℕ} 0 1 = cc in absurd (omega arith)
+  ends-told at size (good a l) r next e t = (cc, a, l, refl)
+
+-- the turns of a loop that passes over n items: i of them are behind
+pub items-behind : (at size : ℕ) → at ≡ at + size * 0
+items-behind at size = omega arith
+
+pub one-more : (at size i p : ℕ) → p ≡ at + size * i → p + size ≡ at + size * (i + 1)
+one-more at size i p e = omega arith
+
+module _ {A : Type 0} (p : Reader A) (n at size : ℕ) where
+  end-cons : (a : A) (x : Parse (List A)) → endsAt at (andThen x (λ rest r. good (a ∷ rest) r)) size ≡ endsAt at x size
+  unfolding endsAt
+  end-cons a bad = refl
+  end-cons a (good xs r) = refl
+
+  pub pass-start : (l : List ℕ) → endsAt at (many n p l) size ≡ endsAt at (many (n - 0) p l) size
+  pass-start l = let e : n - 0 ≡ n = omega arith in rw e
+
+  pub pass-step : (i : ℕ) (l r : List ℕ) (a : A) → i < n → p l ≡ good a r → endsAt at (many (n - i) p l) size ≡ endsAt at (many (n - (i + 1)) p r) size
+  unfolding many
+  pass-step i l r a h g = let e : n - i ≡ suc (n - (i + 1)) = omega arith in rw (e, g) (end-cons a (many (n - (i + 1)) p r))
+
+  pub pass-bad : (i : ℕ) (l : List ℕ) → i < n → p l ≡ bad → endsAt at (many (n - i) p l) size ≡ Ends.Bad
+  unfolding many endsAt
+  pass-bad i l h g = let e : n - i ≡ suc (n - (i + 1)) = omega arith in rw (e, g)
+
+  pub pass-end : (i : ℕ) (l : List ℕ) → n ≤ i → endsAt at (many (n - i) p l) size ≡ Ends.At (at + size)
+  unfolding many endsAt
+  pass-end i l h = let e : n - i ≡ 0 = omega arith in rw e
+
+-- ---- lists of items of k bytes, whose values are v's
+
+many-length : {A : Type 0} (p : Reader A) (n : ℕ) (l : List ℕ) (xs : List A) (r : List ℕ) → many n p l ≡ good xs r → length xs ≡ n
+unfolding many
+many-length p zero l xs r e = let q : xs ≡ [] = cc in ap length q
+many-length p (suc n) l xs r e =
+    let i = then-inv (p l) _ xs r e in
+    let j = then-inv (many n p (i .1)) _ xs r (i .3) in
+    let q : xs ≡ i .0 ∷ j .0 = cc in
+    ap length q ∙ ap suc (many-length p n (i .1) (j .0) (j .1) (j .2))
+
 module _ {A : Type 0} (p : Reader A) (v : List ℕ → A) (k : ℕ) (fixed : Fixed p v k) where
-  many-cons : (q : Parse (Unit {0})) (a : A) (xs : List A)
-      → andThen (andThen q (λ u r. good xs r)) (λ rest r. good (a ∷ rest) r) ≡ andThen q (λ u r. good (a ∷ xs) r)
-  many-cons bad a xs = refl
-  many-cons (good u r) a xs = refl
+  -- n items that were read
+  abbrev ManyRead : ℕ → List ℕ → List A → List ℕ → Type 0
+  ManyRead n l xs r = (xs ≡ items v k n l) × (r ≡ drop (k * n) l)
 
-  many-skip : (n : ℕ) (l : List ℕ) → many n p l ≡ andThen (skip n (bareReader p) l) (λ u r. good (items v k n l) r)
-  unfolding many skip
-  many-skip zero l = refl
-  many-skip (suc n) l = go (p l) refl (λ r. many-skip n r)
+  many-fixed : (n : ℕ) (l : List ℕ) (xs : List A) (r : List ℕ) → many n p l ≡ good xs r → ManyRead n l xs r
+  unfolding many
+  many-fixed zero l xs r e = let q : xs ≡ [] = cc in let z : k * 0 ≡ 0 = omega arith in (q, rw z cc)
+  many-fixed (suc n) l xs r e =
+      let i = then-inv (p l) _ xs r e in
+      let j = then-inv (many n p (i .1)) _ xs r (i .3) in
+      let h = fixed l (i .0) (i .1) (i .2) in
+      let t = many-fixed n (i .1) (j .0) (j .1) (j .2) in
+      let q : xs ≡ i .0 ∷ j .0 = cc in
+      let w : r ≡ j .1 = cc in
+      let z : k + k * n ≡ k * suc n = omega arith in
+      (q ∙ rw (t .0, h .0, h .1), w ∙ t .1 ∙ ap (drop (k * n)) (h .1) ∙ drop-drop (k * n) k l ∙ ap (λ (x : ℕ). drop x l) z)
+
+  -- a list that was read at a position of s: its values from its first item on, and the bytes behind its last
+  pub record ListRead (s : List ℕ) (at : ℕ) (xs : List A) (r : List ℕ) : Type 0 where
+    pub values : xs ≡ items v k (length xs) (drop (listAt at xs) s)
+    pub rest : r ≡ drop (listAt at xs + k * length xs) s
+
+  list-from : (s : List ℕ) (at n : ℕ) (xs : List A) (r : List ℕ) → 1 ≤ n → length xs ≡ n → ManyRead n (drop (at + 1) s) xs r → ListRead s at xs r
+  list-from s at n [] r h c t = absurd (omega arith)
+  list-from s at n (x ∷ xs) r h c t = record {
+    values = t .0 ∙ ap (λ (m : ℕ). items v k m (drop (at + 1) s)) (sym c);
+    rest = t .1 ∙ drop-drop (k * n) (at + 1) s ∙ ap (λ (m : ℕ). drop (at + 1 + k * m) s) (sym c);
+  }
+
+  pub list-read : (present : Bool) (high : ℕ) (s : List ℕ) (at : ℕ) (xs : List A) (r : List ℕ) → listed present high p (drop at s) ≡ good xs r → ListRead s at xs r
+  unfolding listed counted
+  list-read false high s at xs r e =
+      let q : xs ≡ [] = cc in
+      let w : r ≡ drop at s = cc in
+      let z : at + k * 0 ≡ at = omega arith in
+      rw q record { values = refl; rest = rw z w }
+  list-read true high s at xs r e =
+      let i = then-inv (field 1 1 high (drop at s)) _ xs r e in
+      let t = field-inv 1 1 high (drop at s) (i .0) (i .1) (i .2) in
+      let m = ap (many (i .0) p) (sym (t .rest ∙ drop-drop 1 at s)) ∙ i .3 in
+      list-from s at (i .0) xs r (t .least) (many-length p (i .0) (drop (at + 1) s) xs r m) (many-fixed (i .0) (drop (at + 1) s) xs r m)
+
+  -- its answer
+  pub record ListTold (x : Parse (List A)) (s : List ℕ) (at n q next : ℕ) : Type 0 where
+    pub list : List A
+    pub read : x ≡ good list (drop next s)
+    pub count : n ≡ length list
+    pub from : q ≡ listAt at list
+    pub end : next ≡ listAt at list + k * length list
+
+  pub list-told : (present : Bool) (high : ℕ) (s : List ℕ) (at n q next : ℕ) (r : Items) → r ≡ itemsAt at (listed present high p (drop at s)) k → r ≡ Items.Read n q next
+      → ListTold (listed present high p (drop at s)) s at n q next
+  unfolding itemsAt
+  list-told present high s at n q next r = go (listed present high p (drop at s)) refl
     where
-      go : (x : Parse A) → p l ≡ x → ((r : List ℕ) → many n p r ≡ andThen (skip n (bareReader p) r) (λ u r′. good (items v k n r) r′))
-          → andThen x (λ a r. andThen (many n p r) (λ rest r′. good (a ∷ rest) r′))
-          ≡ andThen (andThen (bare x) (λ a r. skip n (bareReader p) r)) (λ u r. good (v l ∷ items v k n (drop k l)) r)
-      go bad e ih = refl
-      go (good a r) e ih = let x = fixed l a r e in rw (ih r, many-cons (skip n (bareReader p) r) a (items v k n r), x .0, x .1)
+      go : (x : Parse (List A)) → listed present high p (drop at s) ≡ x → r ≡ itemsAt at x k → r ≡ Items.Read n q next → ListTold x s at n q next
+      go bad h e t = let z : _≡_ {A = ℕ} 0 1 = cc in absurd (omega arith)
+      go (good xs l) h e t =
+          let m : next ≡ listAt at xs + k * length xs = cc in
+          record { list = xs; read = ap (good xs) (list-read present high s at xs l h .rest ∙ ap (λ (x : ℕ). drop x s) (sym m)); count = cc; from = cc; end = m }
 
-  -- the values of a list from its count and its place
-  abbrev pub valued : Parse Extent → Parse (List A)
-  valued x = andThen x (λ w r. good (items v k (w .count) (w .from)) r)
+pub list-bad : {A : Type 0} (at size : ℕ) (x : Parse (List A)) (r : Items) → r ≡ itemsAt at x size → r ≡ Items.Bad → x ≡ bad
+unfolding itemsAt
+list-bad at size bad r e t = refl
+list-bad at size (good a l) r e t = let z : _≡_ {A = ℕ} 0 1 = cc in absurd (omega arith)
 
-  from-skip : (x : Parse (Unit {0})) (n : ℕ) (r : List ℕ)
-      → andThen x (λ u r′. good (items v k n r) r′) ≡ valued (andThen x (λ u r′. good (record { count = n; from = r }) r′))
-  from-skip bad n r = refl
-  from-skip (good u r′) n r = refl
+-- the answer for a list of n items, by its count and its items
+module _ {A : Type 0} (p : Reader A) (high at size : ℕ) (s : List ℕ) where
+  pub list-absent : itemsAt at (listed false high p (drop at s)) size ≡ Items.Read 0 at at
+  unfolding listed itemsAt
+  list-absent = let z : at + size * 0 ≡ at = omega arith in rw z
 
-  pub listed-extent : (present : Bool) (high : ℕ) (l : List ℕ) (x : Parse Extent) → extent present high (bareReader p) l ≡ x → listed present high p l ≡ valued x
-  unfolding listed counted extent
-  listed-extent false high l x e = ap valued e
-  listed-extent true high l x e = go (field 1 1 high l) ∙ ap valued e
+  pub list-count : field 1 1 high (drop at s) ≡ bad → itemsAt at (listed true high p (drop at s)) size ≡ Items.Bad
+  unfolding listed counted itemsAt
+  list-count e = rw e
+
+  pub list-items : (n : ℕ) (l : List ℕ) → field 1 1 high (drop at s) ≡ good n l → many n p l ≡ bad → itemsAt at (listed true high p (drop at s)) size ≡ Items.Bad
+  unfolding listed counted itemsAt
+  list-items n l e f = rw (e, f)
+
+  pub list-whole : (n : ℕ) (l : List ℕ) (xs : List A) (r : List ℕ) (q next : ℕ) → field 1 1 high (drop at s) ≡ good n l → many n p l ≡ good xs r → q ≡ at + 1 → next ≡ q + size * n
+      → Items.Read n q next ≡ itemsAt at (listed true high p (drop at s)) size
+  unfolding listed counted itemsAt
+  list-whole n l xs r q next e f a b = rw (e, f) (go xs (many-length p n l xs r f))
     where
-      go : (y : Parse ℕ) → andThen y (λ n r. many n p r)
-          ≡ valued (andThen y (λ n r. andThen (skip n (bareReader p) r) (λ u r′. good (record { count = n; from = r }) r′)))
-      go bad = refl
-      go (good n r) = many-skip n r ∙ from-skip (skip n (bareReader p) r) n r
+      go : (xs : List A) → length xs ≡ n → Items.Read n q next ≡ Items.Read (length xs) (listAt at xs) (listAt at xs + size * length xs)
+      go [] h = let t : 1 ≤ n = field-inv 1 1 high (drop at s) n l e .least in absurd (omega arith)
+      go (x ∷ xs) h = rw (h, b, a)
 
 -- a reader takes k bytes at least
 abbrev pub Takes : {A : Type 0} → ℕ → Reader A → Type 0

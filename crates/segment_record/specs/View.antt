@@ -1,11 +1,10 @@
 -- What the values of the code say of the book's bytes s.
-use Prim.Native.Nat.{ℕ, zero, suc}
+use Prim.Native.Nat.{ℕ, zero, suc, _+_, _*_}
 use mathlib.Core.List.{List, [], _∷_}
-use mathlib.Core.Bool.{Bool}
 use mathlib.Core.Option.{Option, none, some}
-use lib.ListN.{drop, getD}
-use Rattle.wire.specs.Numbers.{number, if_then_else_}
-use Rattle.fields.specs.Parse.{Parse, Reader, andThen, field, give, _>>_}
+use lib.ListN.{length, drop, getD}
+use Rattle.wire.specs.Numbers.{number}
+use Rattle.fields.specs.Parse.{Parse, Reader}
 use Rattle.fields.specs.Parse.Parse.{bad, good}
 use Rattle.engine_value.specs.Engine.{maxZones, blankZone, filled}
 use Rattle.engine_value.specs.declared.Zone.{Zone}
@@ -58,48 +57,65 @@ zoneView s e k = getD (entryView s e .zones) k blankZone
 unfoldable pub zonesView : List ℕ → Entry → Zones
 zonesView s e = record { count = e .zones; zones = filled maxZones blankZone (entryView s e .zones) }
 
--- ---- readers that keep no list, and what their answers say
+-- ---- a record at a position: where its lists stand, and where it ends
 
--- what was read, and a reader, without the value
-abbrev pub bare : {A : Type 0} → Parse A → Parse (Unit {0})
-bare x = andThen x (λ a r. good tt r)
+-- where the first item of a list stands: behind its count (1 byte), which is there only where the list is
+abbrev pub listAt : {A : Type 0} → ℕ → List A → ℕ
+listAt at [] = at
+listAt at (x ∷ xs) = at + 1
 
-abbrev pub bareReader : {A : Type 0} → Reader A → Reader (Unit {0})
-bareReader p l = bare (p l)
+-- behind the map (1), NID_C (2), NID_SP (4) and the length (4)
+abbrev pub pointsAt : ℕ → BookSegment → ℕ
+pointsAt at g = listAt (at + 11) (g .points)
 
--- n items one after the other, without their values
-unfoldable pub skip : ℕ → Reader (Unit {0}) → Reader (Unit {0})
-skip zero p = give tt
-skip (suc n) p = p >> skip n p
+-- behind the points, 10 bytes each
+abbrev pub zonesAt : ℕ → BookSegment → ℕ
+zonesAt at g = listAt (pointsAt at g + 10 * length (g .points)) (g .zones)
 
--- an item of a record's lists, and the greatest count
-abbrev pub item : Kind → ℕ → Reader (Unit {0})
-item Kind.Points len = bareReader (bookPoint len)
-item Kind.Zones len = bareReader (zoneRecord len)
+-- behind the zones, 8 bytes each
+abbrev pub endAt : ℕ → BookSegment → ℕ
+endAt at g = zonesAt at g + 8 * length (g .zones)
+
+abbrev pub entryAt : ℕ → BookSegment → Entry
+entryAt at g = record {
+  nidc = g .nidc;
+  nidsp = g .nidsp;
+  length = g .length;
+  points = length (g .points);
+  «points_at» = pointsAt at g;
+  zones = length (g .zones);
+  «zones_at» = zonesAt at g;
+}
+
+-- the answer for a record at a position
+unfoldable pub segmentAt : ℕ → Parse BookSegment → SegmentRead
+segmentAt at (good g r) = SegmentRead.Record (entryAt at g) (endAt at g)
+segmentAt at bad = SegmentRead.Bad
+
+-- ---- inner functions
+
+-- an item of a record's lists, its bytes, and the greatest count
+abbrev pub ItemOf : Kind → Type 0
+ItemOf Kind.Points = BookPoint
+ItemOf Kind.Zones = Zone
+
+abbrev pub item : (k : Kind) → ℕ → Reader (ItemOf k)
+item Kind.Points len = bookPoint len
+item Kind.Zones len = zoneRecord len
+
+abbrev pub itemSize : Kind → ℕ
+itemSize Kind.Points = 10
+itemSize Kind.Zones = 8
 
 abbrev pub most : Kind → ℕ
 most Kind.Points = maxRecordPoints
 most Kind.Zones = maxZones
 
--- how many items a list has, and the bytes from the first of them on
-pub record Extent : Type 0 where
-  pub count : ℕ
-  pub from : List ℕ
+-- the answers for what was read at a position: the position behind its bytes; a list's count, its first item and the position behind its last
+unfoldable pub endsAt : {A : Type 0} → ℕ → Parse A → ℕ → Ends
+endsAt at (good a r) size = Ends.At (at + size)
+endsAt at bad size = Ends.Bad
 
-unfoldable pub extent : Bool → ℕ → Reader (Unit {0}) → Reader Extent
-extent present high p l =
-    if present then
-    andThen (field 1 1 high l) (λ n r. andThen (skip n p r) (λ u r′. good (record { count = n; from = r }) r′)) else
-    good (record { count = 0; from = l }) l
-
-abbrev pub endsView : List ℕ → Ends → Parse (Unit {0})
-endsView s (Ends.At next) = good tt (drop next s)
-endsView s Ends.Bad = bad
-
-abbrev pub itemsView : List ℕ → Items → Parse Extent
-itemsView s (Items.Read n p next) = good (record { count = n; from = drop p s }) (drop next s)
-itemsView s Items.Bad = bad
-
-abbrev pub segmentView : List ℕ → SegmentRead → Parse BookSegment
-segmentView s (SegmentRead.Record e next) = good (entryView s e) (drop next s)
-segmentView s SegmentRead.Bad = bad
+unfoldable pub itemsAt : {A : Type 0} → ℕ → Parse (List A) → ℕ → Items
+itemsAt at (good xs r) size = Items.Read (length xs) (listAt at xs) (listAt at xs + size * length xs)
+itemsAt at bad size = Items.Bad

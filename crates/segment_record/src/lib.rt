@@ -6,13 +6,14 @@ use engine_value::Zone;
 use fields::Field;
 use fields::Width;
 use fields::read_field;
+ghost use Prim.Native.Nat.{_*_};
 ghost use mathlib.Core.Path.{_≡_};
 ghost use mathlib.Core.List.{[], _∷_};
 ghost use lib.ListN.{drop};
-ghost use Rattle.fields.specs.Parse.{mapFits};
+ghost use Rattle.fields.specs.Parse.{mapFits, many, listed};
 ghost use Rattle.segment_record.specs.Record.{segmentRecord, lookupPoint};
 ghost use Rattle.segment_record.specs.View.{entryView, blankEntry, pointView, zoneView, zonesView};
-ghost use Rattle.segment_record.specs.View.{item, most, skip, extent, endsView, itemsView, segmentView};
+ghost use Rattle.segment_record.specs.View.{item, itemSize, most, endsAt, itemsAt, segmentAt};
 
 // "length (4, 1-16,777,214)"
 const MAX_LENGTH: u32 = 16777214;
@@ -71,7 +72,7 @@ pub enum SegmentRead {
 
 // The position behind a point whose fields are in their ranges.
 fn point_end(s: &[u8], at: usize, length: u32) -> Ends
-    ensures { λ r. ⌜ endsView (now (s .entry)) r ≡ item Kind.Points length (drop at (now (s .entry))) ⌝ }
+    ensures { λ r. ⌜ r ≡ endsAt at (item Kind.Points length (drop at (now (s .entry)))) (itemSize Kind.Points) ⌝ }
 {
     let Field::Value(_, a) = read_field(s, at, Width::Four, 0, MAX_NIDTP) else {
         return Ends::Bad;
@@ -87,7 +88,7 @@ fn point_end(s: &[u8], at: usize, length: u32) -> Ends
 
 // The position behind a zone whose ends are in their ranges.
 fn zone_end(s: &[u8], at: usize, length: u32) -> Ends
-    ensures { λ r. ⌜ endsView (now (s .entry)) r ≡ item Kind.Zones length (drop at (now (s .entry))) ⌝ }
+    ensures { λ r. ⌜ r ≡ endsAt at (item Kind.Zones length (drop at (now (s .entry)))) (itemSize Kind.Zones) ⌝ }
 {
     let Field::Value(start, a) = read_field(s, at, Width::Four, 0, length) else {
         return Ends::Bad;
@@ -99,7 +100,7 @@ fn zone_end(s: &[u8], at: usize, length: u32) -> Ends
 }
 
 fn item_end(s: &[u8], at: usize, kind: Kind, length: u32) -> Ends
-    ensures { λ r. ⌜ endsView (now (s .entry)) r ≡ item kind length (drop at (now (s .entry))) ⌝ }
+    ensures { λ r. ⌜ r ≡ endsAt at (item kind length (drop at (now (s .entry)))) (itemSize kind) ⌝ }
 {
     match kind {
         Kind::Points => point_end(s, at, length),
@@ -109,7 +110,7 @@ fn item_end(s: &[u8], at: usize, kind: Kind, length: u32) -> Ends
 
 // The position behind n items.
 fn items_end(s: &[u8], at: usize, n: u32, kind: Kind, length: u32) -> Ends
-    ensures { λ r. ⌜ endsView (now (s .entry)) r ≡ skip n (item kind length) (drop at (now (s .entry))) ⌝ }
+    ensures { λ r. ⌜ r ≡ endsAt at (many n (item kind length) (drop at (now (s .entry)))) (itemSize kind * n) ⌝ }
 {
     let mut p = at;
     let mut i: u32 = 0;
@@ -135,7 +136,7 @@ fn most_of(kind: Kind) -> u32
 
 // A list that stands only where its bit does.
 fn read_items(s: &[u8], at: usize, present: bool, kind: Kind, length: u32) -> Items
-    ensures { λ r. ⌜ itemsView (now (s .entry)) r ≡ extent present (most kind) (item kind length) (drop at (now (s .entry))) ⌝ }
+    ensures { λ r. ⌜ r ≡ itemsAt at (listed present (most kind) (item kind length) (drop at (now (s .entry)))) (itemSize kind) ⌝ }
 {
     if present {
         let high = most_of(kind);
@@ -168,7 +169,7 @@ fn segment_map(map: u32) -> bool
 }
 
 pub fn read_segment(s: &[u8], at: usize) -> SegmentRead
-    ensures { λ r. ⌜ segmentView (now (s .entry)) r ≡ segmentRecord (drop at (now (s .entry))) ⌝ }
+    ensures { λ r. ⌜ r ≡ segmentAt at (segmentRecord (drop at (now (s .entry)))) ⌝ }
 {
     let Field::Value(map, a) = read_field(s, at, Width::One, 0, 255) else {
         return SegmentRead::Bad;

@@ -3,12 +3,14 @@ use denote.Ref.{now}
 use mathlib.Core.Path.{_≡_, _∙_, sym, ap}
 use mathlib.Core.List.{List, []}
 use mathlib.Core.Logic.{⊎-elim}
-use lib.ListN.{length, drop, set}
+use lib.ListN.{length, set}
 use lib.Seq.{set-out}
 use native.Mathlib.Omega.{arith}
-use Rattle.fields.specs.Parse.Parse.{good}
-use Rattle.segment_record.specs.Record.{BookSegment, segmentRecord}
-use Rattle.segment_record.specs.View.{entryView, segmentView}
+use Rattle.segment_record.specs.Record.{BookSegment}
+use Rattle.segment_record.specs.View.{blankEntry}
+use Rattle.segment_record.proofs.Positions.{SegmentTold, segment-bad, segment-told}
+use Rattle.book.specs.View.{entriesAt}
+use Rattle.book.proofs.Filled.{filled-length}
 use Rattle.book.proofs.Whole.{ReadTo, closer, read-start, read-step, read-bad, read-end}
 use borrow.Author.Needs.{needs}
 use Rattle.book.proofs.read_records.Statement.{statement}
@@ -27,17 +29,17 @@ returns : tie.Need-returns Inv-loop μ-loop
 returns c =
     let s = now (c .before .before .before .before .before .before .before .args .s) in
     let w = c .before .before .before .before .loop in
-    let h = sym (c .before .before .read-segment .ensures) ∙ ap (segmentView s) (c .enum-told .given .1) in
+    let h = segment-bad _ _ _ (c .before .before .read-segment .ensures) (c .enum-told .given .1) in
     read-bad s (w .at) (w .n) (w .first) (w .inv .1) (w .inv .2) (c .before .before .before .loop-test .taken) h
 
 -- the record of a turn; the next one is 11 bytes further on at least
 one-read : (c : tie.After-known-told Inv-loop μ-loop) → let s = now (c .before .before .before .before .before .before .before .before .args .s) in
-    segmentRecord (drop (c .before .before .before .before .before .loop .at) s) ≡ good (entryView s (c .before .e .given .0 .0)) (drop (c .before .e .given .0 .1 .0) s)
-one-read c = sym (c .before .before .before .read-segment .ensures) ∙ ap (segmentView (now (c .before .before .before .before .before .before .before .before .args .s))) (c .before .e .given .1)
+    SegmentTold s (c .before .before .before .before .before .loop .at) (c .before .e .given .0 .0) (c .before .e .given .0 .1 .0)
+one-read c = segment-told (now (c .before .before .before .before .before .before .before .before .args .s)) _ _ _ _ (c .before .before .before .read-segment .ensures) (c .before .e .given .1)
 
 near : (c : tie.After-known-told Inv-loop μ-loop) → let s = now (c .before .before .before .before .before .before .before .before .args .s) in
     length s - c .before .e .given .0 .1 .0 + 11 ≤ length s - c .before .before .before .before .before .loop .at
-near c = let w = c .before .before .before .before .before in closer (now (w .before .before .before .args .s)) (w .loop .at) (c .before .e .given .0 .1 .0) _ (one-read c)
+near c = let w = c .before .before .before .before .before in closer (now (w .before .before .before .args .s)) (w .loop .at) (c .before .e .given .0 .1 .0) _ (one-read c .read)
 
 add-n : tie.Need-add-n Inv-loop μ-loop
 add-n c = let h = near (c .before) in omega arith
@@ -50,7 +52,7 @@ loop-again c =
     let w = c .before .before .before .before .before .before .loop in
     let v = c .before .before .e .given .0 in
     let h = near (c .before) in
-    let kept : c .if1 .first ≡ set (w .first) (w .n) (v .0) = ⊎-elim (λ x. x .1) (λ x. x .1 ∙ sym (set-out (w .first) (w .n) (v .0) (omega (arith, w .inv .2 .listed .size, x .0 .left)))) (c .if1 .came) in
+    let kept : c .if1 .first ≡ set (w .first) (w .n) (v .0) = ⊎-elim (λ x. x .1) (λ x. x .1 ∙ sym (set-out (w .first) (w .n) (v .0) (omega (arith, ap length (w .inv .2 .listed .array), filled-length 40 blankEntry (entriesAt 0 (w .inv .1)), x .0 .left)))) (c .if1 .came) in
     (omega arith, _, read-step _ (w .at) (w .n) (w .first) (c .if1 .first) (w .inv .1) (v .0) (v .1 .0) (w .inv .2) (one-read (c .before)) kept)
 
 returns-2 : tie.Need-returns-2 Inv-loop μ-loop

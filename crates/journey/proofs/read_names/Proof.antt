@@ -4,7 +4,7 @@ use mathlib.Core.Path.{refl, _∙_, sym, ap}
 use lib.ListN.{drop}
 use native.Mathlib.Omega.{arith}
 use borrow.Author.Needs.{needs}
-use Rattle.fields.specs.View.{fieldView}
+use Rattle.fields.proofs.Answers.{field-told}
 use Rattle.journey.specs.Journey.{blankName, nameRecord}
 use Rattle.journey.proofs.Filling.{ListTo, list-uncounted, list-counted, list-bad, list-more, list-end}
 use Rattle.journey.specs.View.{nameView}
@@ -20,13 +20,13 @@ abbrev μ-loop : tie.MeasureT-loop
 returns : tie.Need-returns Inv-loop μ-loop
 returns c =
     let s = now (c .before .before .before .before .args .s) in
-    let e = sym (c .before .before .read-field .ensures) ∙ ap (fieldView s) (c .enum-told .given .1) in
+    let e = field-told s _ _ _ _ _ _ (c .before .before .read-field .ensures) (c .enum-told .given .1) in
     list-uncounted nameRecord blankName 40 s _ _ e
 
 loop-holds : tie.Need-loop-holds Inv-loop μ-loop
 loop-holds c =
     let s = now (c .before .before .before .before .before .args .s) in
-    let e = sym (c .before .before .before .read-field .ensures) ∙ ap (fieldView s) (c .before .n .given .1) in
+    let e = field-told s _ _ _ _ _ _ (c .before .before .before .read-field .ensures) (c .before .n .given .1) in
     list-counted nameRecord blankName 40 s _ _ _ e
 
 returns-2 : tie.Need-returns-2 Inv-loop μ-loop

@@ -1,43 +1,50 @@
+use Prim.Native.Nat.{ℕ}
 use denote.Ref.{now}
-use mathlib.Core.Path.{_∙_, sym, ap}
-use Rattle.fields.specs.View.{fieldView}
+use mathlib.Core.Path.{ap}
+use native.Mathlib.Omega.{arith}
+use Rattle.fields.proofs.Answers.{field-told, field-next}
 use Rattle.segment_record.specs.Record.{bookPoint}
+use Rattle.segment_record.specs.View.{endsAt}
+use Rattle.segment_record.specs.declared.Ends.{Ends}
 use borrow.Author.Needs.{needs}
 use Rattle.segment_record.proofs.point_end.Statement.{statement}
 use Rattle.segment_record.proofs.point_end.Tie as tie
 
 returns : tie.Need-returns
-unfolding bookPoint
+unfolding bookPoint endsAt
 returns c =
     let s = now (c .before .before .before .before .args .s) in
-    let e1 = sym (c .before .before .read-field .ensures) ∙ ap (fieldView s) (c .enum-told .given .1) in
+    let e1 = field-told s _ _ _ _ _ _ (c .before .before .read-field .ensures) (c .enum-told .given .1) in
     rw (e1)
 
 returns-2 : tie.Need-returns-2
-unfolding bookPoint
+unfolding bookPoint endsAt
 returns-2 c =
     let s = now (c .before .before .before .before .before .before .before .before .args .s) in
-    let e1 = sym (c .before .before .before .before .before .before .read-field .ensures) ∙ ap (fieldView s) (c .before .before .before .before .a .given .1) in
-    let e2 = sym (c .before .before .read-field2 .ensures) ∙ ap (fieldView s) (c .enum-told2 .given .1) in
+    let e1 = field-told s _ _ _ _ _ _ (c .before .before .before .before .before .before .read-field .ensures) (c .before .before .before .before .a .given .1) in
+    let e2 = field-told s _ _ _ _ _ _ (c .before .before .read-field2 .ensures) (c .enum-told2 .given .1) in
     rw (e1, e2)
 
 returns-3 : tie.Need-returns-3
-unfolding bookPoint
+unfolding bookPoint endsAt
 returns-3 c =
     let s = now (c .before .before .before .before .before .before .before .before .before .before .before .before .args .s) in
-    let e1 = sym (c .before .before .before .before .before .before .before .before .before .before .read-field .ensures) ∙ ap (fieldView s) (c .before .before .before .before .before .before .before .before .a .given .1) in
-    let e2 = sym (c .before .before .before .before .before .before .read-field2 .ensures) ∙ ap (fieldView s) (c .before .before .before .before .b .given .1) in
-    let e3 = sym (c .before .before .read-field3 .ensures) ∙ ap (fieldView s) (c .enum-told3 .given .1) in
+    let e1 = field-told s _ _ _ _ _ _ (c .before .before .before .before .before .before .before .before .before .before .read-field .ensures) (c .before .before .before .before .before .before .before .before .a .given .1) in
+    let e2 = field-told s _ _ _ _ _ _ (c .before .before .before .before .before .before .read-field2 .ensures) (c .before .before .before .before .b .given .1) in
+    let e3 = field-told s _ _ _ _ _ _ (c .before .before .read-field3 .ensures) (c .enum-told3 .given .1) in
     rw (e1, e2, e3)
 
 returns-4 : tie.Need-returns-4
-unfolding bookPoint
+unfolding bookPoint endsAt
 returns-4 c =
     let s = now (c .before .before .before .before .before .before .before .before .before .before .before .before .before .args .s) in
-    let e1 = sym (c .before .before .before .before .before .before .before .before .before .before .before .read-field .ensures) ∙ ap (fieldView s) (c .before .before .before .before .before .before .before .before .before .a .given .1) in
-    let e2 = sym (c .before .before .before .before .before .before .before .read-field2 .ensures) ∙ ap (fieldView s) (c .before .before .before .before .before .b .given .1) in
-    let e3 = sym (c .before .before .before .read-field3 .ensures) ∙ ap (fieldView s) (c .before .next .given .1) in
-    rw (e1, e2, e3)
+    let e1 = field-told s _ _ _ _ _ _ (c .before .before .before .before .before .before .before .before .before .before .before .read-field .ensures) (c .before .before .before .before .before .before .before .before .before .a .given .1) in
+    let e2 = field-told s _ _ _ _ _ _ (c .before .before .before .before .before .before .before .read-field2 .ensures) (c .before .before .before .before .before .b .given .1) in
+    let e3 = field-told s _ _ _ _ _ _ (c .before .before .before .read-field3 .ensures) (c .before .next .given .1) in
+    let n1 = field-next _ _ _ _ _ _ (c .before .before .before .before .before .before .before .before .before .before .before .read-field .ensures) (c .before .before .before .before .before .before .before .before .before .a .given .1) in
+    let n2 = field-next _ _ _ _ _ _ (c .before .before .before .before .before .before .before .read-field2 .ensures) (c .before .before .before .before .before .b .given .1) in
+    let n3 = field-next _ _ _ _ _ _ (c .before .before .before .read-field3 .ensures) (c .before .next .given .1) in
+    rw (e1, e2, e3) (ap (λ (x : ℕ). Ends.At x) (omega (arith, n1, n2, n3)))
 
 pub point-end-spec : {M : Type 1} → statement M
 point-end-spec =

@@ -1,33 +1,39 @@
+use Prim.Native.Nat.{ℕ}
 use denote.Ref.{now}
-use mathlib.Core.Path.{_∙_, sym, ap}
-use Rattle.fields.specs.View.{fieldView}
+use mathlib.Core.Path.{ap}
+use native.Mathlib.Omega.{arith}
+use Rattle.fields.proofs.Answers.{field-told, field-next}
 use Rattle.segment_record.specs.Record.{zoneRecord}
+use Rattle.segment_record.specs.View.{endsAt}
+use Rattle.segment_record.specs.declared.Ends.{Ends}
 use borrow.Author.Needs.{needs}
 use Rattle.segment_record.proofs.zone_end.Statement.{statement}
 use Rattle.segment_record.proofs.zone_end.Tie as tie
 
 returns : tie.Need-returns
-unfolding zoneRecord
+unfolding zoneRecord endsAt
 returns c =
     let s = now (c .before .before .before .before .args .s) in
-    let e1 = sym (c .before .before .read-field .ensures) ∙ ap (fieldView s) (c .enum-told .given .1) in
+    let e1 = field-told s _ _ _ _ _ _ (c .before .before .read-field .ensures) (c .enum-told .given .1) in
     rw (e1)
 
 returns-2 : tie.Need-returns-2
-unfolding zoneRecord
+unfolding zoneRecord endsAt
 returns-2 c =
     let s = now (c .before .before .before .before .before .before .before .before .args .s) in
-    let e1 = sym (c .before .before .before .before .before .before .read-field .ensures) ∙ ap (fieldView s) (c .before .before .before .before .start .given .1) in
-    let e2 = sym (c .before .before .read-field2 .ensures) ∙ ap (fieldView s) (c .enum-told2 .given .1) in
+    let e1 = field-told s _ _ _ _ _ _ (c .before .before .before .before .before .before .read-field .ensures) (c .before .before .before .before .start .given .1) in
+    let e2 = field-told s _ _ _ _ _ _ (c .before .before .read-field2 .ensures) (c .enum-told2 .given .1) in
     rw (e1, e2)
 
 returns-3 : tie.Need-returns-3
-unfolding zoneRecord
+unfolding zoneRecord endsAt
 returns-3 c =
     let s = now (c .before .before .before .before .before .before .before .before .before .args .s) in
-    let e1 = sym (c .before .before .before .before .before .before .before .read-field .ensures) ∙ ap (fieldView s) (c .before .before .before .before .before .start .given .1) in
-    let e2 = sym (c .before .before .before .read-field2 .ensures) ∙ ap (fieldView s) (c .before .next .given .1) in
-    rw (e1, e2)
+    let e1 = field-told s _ _ _ _ _ _ (c .before .before .before .before .before .before .before .read-field .ensures) (c .before .before .before .before .before .start .given .1) in
+    let e2 = field-told s _ _ _ _ _ _ (c .before .before .before .read-field2 .ensures) (c .before .next .given .1) in
+    let n1 = field-next _ _ _ _ _ _ (c .before .before .before .before .before .before .before .read-field .ensures) (c .before .before .before .before .before .start .given .1) in
+    let n2 = field-next _ _ _ _ _ _ (c .before .before .before .read-field2 .ensures) (c .before .next .given .1) in
+    rw (e1, e2) (ap (λ (x : ℕ). Ends.At x) (omega (arith, n1, n2)))
 
 pub zone-end-spec : {M : Type 1} → statement M
 zone-end-spec =

@@ -1,0 +1,39 @@
+-- An array that holds a list from its front on and blank elements behind it.
+use Prim.Native.Nat.{ℕ, zero, suc, _≤_}
+use mathlib.Core.Path.{_≡_, refl, sym, ap, _∙_}
+use mathlib.Core.List.{List, [], _∷_, _++_}
+use lib.ListN.{length, take, set, replicate, length-take, length-append, length-replicate}
+use lib.Seq.{take-take, take-at}
+use native.Mathlib.Omega.{arith}
+use Rattle.engine_value.specs.Engine.{filled}
+
+module _ {A : Type 0} where
+  pub filled-length : (high : ℕ) (blank : A) (l : List A) → length (filled high blank l) ≡ high
+  filled-length high blank l = simp (length-take, length-append, length-replicate) (omega arith)
+
+  -- a list that fits stands there whole
+  pub filled-take : (high : ℕ) (blank : A) (l : List A) → length l ≤ high → take (length l) (filled high blank l) ≡ l
+  filled-take high blank l h = take-take (length l) high (l ++ replicate high blank) h ∙ take-at l (replicate high blank) (length l) refl
+
+  -- the same element by element
+  abbrev pad : ℕ → A → List A → List A
+  pad zero blank l = []
+  pad (suc n) blank [] = blank ∷ pad n blank []
+  pad (suc n) blank (x ∷ l) = x ∷ pad n blank l
+
+  padded : (n k : ℕ) (blank : A) (l : List A) → n ≤ k → take n (l ++ replicate k blank) ≡ pad n blank l
+  padded zero k blank l h = refl
+  padded (suc n) zero blank [] h = absurd (omega arith)
+  padded (suc n) (suc k) blank [] h = ap (λ (x : List A). blank ∷ x) (padded n k blank [] (omega arith))
+  padded (suc n) k blank (x ∷ l) h = ap (λ (y : List A). x ∷ y) (padded n k blank l (omega arith))
+
+  pad-set : (n : ℕ) (blank : A) (l : List A) (a : A) → set (pad n blank l) (length l) a ≡ pad n blank (l ++ (a ∷ []))
+  pad-set zero blank [] a = refl
+  pad-set zero blank (x ∷ l) a = refl
+  pad-set (suc n) blank [] a = refl
+  pad-set (suc n) blank (x ∷ l) a = ap (λ (y : List A). x ∷ y) (pad-set n blank l a)
+
+  -- one more is set behind the list; where the array is full, nothing is
+  pub filled-set : (high : ℕ) (blank : A) (l : List A) (a : A) → set (filled high blank l) (length l) a ≡ filled high blank (l ++ (a ∷ []))
+  filled-set high blank l a =
+      ap (λ (x : List A). set x (length l) a) (padded high high blank l (omega arith)) ∙ pad-set high blank l a ∙ sym (padded high high blank (l ++ (a ∷ [])) (omega arith))
