@@ -124,7 +124,7 @@ states = record {
   AV-to-RE = record { answer = refl; memory = refl };
   AV-to-NA = record { answer = refl; memory = refl };
   NA-to-RE = record { answer = refl; memory = refl };
-  press = record { answer = refl; memory = refl };
+  pressing = record { answer = refl; memory = refl };
   EG = record { answer = refl; memory = refl };
   press-kept = record { answer = refl; memory = refl };
   press-lost = record { answer = refl; memory = refl };

@@ -45,10 +45,13 @@ nowhere = 0x00 ∷ 0x00 ∷ 0x00 ∷ 0x00 ∷ 0x00 ∷ 0x00 ∷ 0x00 ∷ 0xFF �
 abbrev pub report : List ℕ → Call
 report x = plain (0x09 ∷ x)
 
+abbrev pub load : Call
+load = loads journey book
+
 -- one of each kind but power on and power off
 abbrev pub others : List Call
 others =
-    configured ∷ fault ∷ reports 31 ∷ mode 1 ∷ lever 1 ∷ press ∷ report (inA 0 0) ∷ trainLength 1 ∷ loads journey book ∷ skip 7001 ∷ revoke 7001 ∷ []
+    configured ∷ fault ∷ reports 31 ∷ mode 1 ∷ lever 1 ∷ press ∷ report (inA 0 0) ∷ trainLength 1 ∷ load ∷ skip 7001 ∷ revoke 7001 ∷ []
 
 -- the call with so many bytes of memory
 abbrev pub lending : ℕ → Call → Call
@@ -78,3 +81,7 @@ plainPacket number x content = number ∷ (x ++ (0xFF ∷ 0xFF ∷ 0xFF ∷ 0xFF
 -- the content of a packet 62: NID_C, NID_TP, info, stopping data
 abbrev pub point : ℕ → ℕ → ℕ → ℕ → List ℕ
 point nidc nidtp info stopping = bytesOf 2 nidc ++ (bytesOf 4 nidtp ++ (info ∷ stopping ∷ []))
+
+-- the content of a packet 65 for the journey: NID_C, NID_ATOTS, date, seconds, counter, status
+abbrev pub received : ℕ → List ℕ
+received nidc = bytesOf 2 nidc ++ (0x01 ∷ 0x23 ∷ 0x0A ∷ 0x0B ∷ 0x01 ∷ 0x02 ∷ 0x03 ∷ 0x04 ∷ 0x07 ∷ 0x00 ∷ [])

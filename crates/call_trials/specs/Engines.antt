@@ -1,7 +1,7 @@
 -- The engine that the load leaves, and those a few calls later, each as a whole value: the examples start from them.
 use Prim.Native.Nat.{ℕ}
 use mathlib.Core.Path.{_≡_}
-use mathlib.Core.List.{List, [], _∷_, _++_}
+use mathlib.Core.List.{List, [], _∷_}
 use mathlib.Core.Bool.{Bool, true, false}
 use lib.ListN.{replicate}
 use Rattle.engine_value.specs.Engine.{Route, blankZone, blankSegment, blankPoint, noSkips, noRoute, freshPosition, fresh, progress}
@@ -13,9 +13,8 @@ use Rattle.engine_value.specs.declared.Inputs.{Inputs}
 use Rattle.engine_value.specs.declared.Control.{Control}
 use Rattle.engine_value.specs.declared.Engine.{Engine}
 use Rattle.call.specs.Call.{stepOf}
-use Rattle.call.specs.Trials.{loads, afterEach, powerOn, configured, reports, press, mode, trainLength}
-use Rattle.call_trials.specs.Journey.{journey, book}
-use Rattle.call_trials.specs.Calls.{inA, inB, report, fault, powerOff}
+use Rattle.call.specs.Trials.{afterEach, powerOn, configured, reports, press, mode, trainLength}
+use Rattle.call_trials.specs.Calls.{inA, inB, report, fault, powerOff, load}
 
 -- ---- the journey placed by the book
 
@@ -71,14 +70,14 @@ route = record {
 
 -- ---- engines
 
--- a train of 1,001 cm, no driver skip
-abbrev pub engineOf : Route → ℕ → Position → Progress → Inputs → Control → Engine
-engineOf r length x p i c = record {
+-- of a train of 1,001 cm, with no driver skip. Progress: the first point not passed, and whether it is reached
+abbrev pub engineOf : Route → Position → Progress → Inputs → Control → Engine
+engineOf r x p i c = record {
   points = r .points;
   skips = noSkips;
   segments = r .segments;
   load = r .load;
-  train = record { position = x; length = length };
+  train = record { position = x; length = 1001 };
   progress = p;
   inputs = i;
   control = c;
@@ -95,48 +94,48 @@ positionIn nidc nidsp offset speed = record { nidsp = nidsp; offset = offset; ni
 
 -- CO, no journey
 unfoldable pub on : Engine
-on = engineOf noRoute 1001 freshPosition (progress 0 false) (inputs 0 0 0) (control 1 false false)
+on = engineOf noRoute freshPosition (progress 0 false) (inputs 0 0 0) (control 1 false false)
 
 -- FA
 unfoldable pub failed : Engine
-failed = engineOf noRoute 1001 freshPosition (progress 0 false) (inputs 0 0 0) (control 7 false false)
+failed = engineOf noRoute freshPosition (progress 0 false) (inputs 0 0 0) (control 7 false false)
 
 -- CO, with the journey and no position
 unfoldable pub started : Engine
-started = engineOf route 1001 freshPosition (progress 0 false) (inputs 0 0 0) (control 1 false false)
+started = engineOf route freshPosition (progress 0 false) (inputs 0 0 0) (control 1 false false)
 
 -- RE, before the first point
 unfoldable pub ready : Engine
-ready = engineOf route 1001 (positionIn 17 500 10000 0) (progress 0 false) (inputs 0 0 31) (control 4 false true)
+ready = engineOf route (positionIn 17 500 10000 0) (progress 0 false) (inputs 0 0 31) (control 4 false true)
 
--- a press pending
+-- the same with a press pending
 unfoldable pub pressed : Engine
-pressed = engineOf route 1001 (positionIn 17 500 10000 0) (progress 0 false) (inputs 0 0 31) (control 4 true true)
+pressed = engineOf route (positionIn 17 500 10000 0) (progress 0 false) (inputs 0 0 31) (control 4 true true)
 
 -- EG
 unfoldable pub driving : Engine
-driving = engineOf route 1001 (positionIn 17 500 10000 0) (progress 0 false) (inputs 1 0 31) (control 5 false true)
+driving = engineOf route (positionIn 17 500 10000 0) (progress 0 false) (inputs 1 0 31) (control 5 false true)
 
 -- DE
 unfoldable pub degraded : Engine
-degraded = engineOf route 1001 (positionIn 17 500 10000 0) (progress 0 false) (inputs 1 0 30) (control 6 false true)
+degraded = engineOf route (positionIn 17 500 10000 0) (progress 0 false) (inputs 1 0 30) (control 6 false true)
 
 -- CO, at the stop 7001
 unfoldable pub stopped : Engine
-stopped = engineOf route 1001 (positionIn 17 500 19900 0) (progress 0 true) (inputs 0 0 0) (control 1 false false)
+stopped = engineOf route (positionIn 17 500 19900 0) (progress 0 true) (inputs 0 0 0) (control 1 false false)
 
 -- CO, 7001 to 7003 passed
 unfoldable pub nearB : Engine
-nearB = engineOf route 1001 (positionIn 17 500 90000 1) (progress 3 false) (inputs 0 0 0) (control 1 false false)
+nearB = engineOf route (positionIn 17 500 90000 1) (progress 3 false) (inputs 0 0 0) (control 1 false false)
 
 -- CO, at the stop 7004, the End of Journey
 unfoldable pub ended : Engine
-ended = engineOf route 1001 (positionIn 34 500 11000 0) (progress 3 true) (inputs 0 0 0) (control 1 false false)
+ended = engineOf route (positionIn 34 500 11000 0) (progress 3 true) (inputs 0 0 0) (control 1 false false)
 
 pub record Engines : Type 0 where
   pub to-on : afterEach fresh (powerOn ∷ trainLength 1001 ∷ []) ≡ on
   pub to-failed : stepOf on fault .engine ≡ failed
-  pub to-started : stepOf on (loads journey book) .engine ≡ started
+  pub to-started : stepOf on load .engine ≡ started
   pub to-ready : afterEach started (report (inA 10000 0) ∷ reports 31 ∷ configured ∷ []) ≡ ready
   pub to-pressed : stepOf ready press .engine ≡ pressed
   pub to-driving : stepOf pressed (mode 1) .engine ≡ driving

@@ -10,7 +10,8 @@ use Rattle.position.specs.declared.Standing.the-variants.{Unused, Targeted, Pas
 use Rattle.call.specs.Call.{stepOf}
 use Rattle.call.specs.Trials.{plain, loads, afterEach, answered, Gives, powerOn, configured, reports, press, mode, lever, trainLength, skip, revoke}
 use Rattle.call_trials.specs.Journey.{journey, book, bookWithC, shortRecords}
-use Rattle.call_trials.specs.Calls.{powerOff, fault, inA, inB, inC, inD, undefined, nowhere, report, others, lending, Refuses, answersTo, standings, packet, plainPacket, point}
+use Rattle.call_trials.specs.Calls.{powerOff, fault, inA, inB, inC, inD, undefined, nowhere, report, load, others, lending, Refuses, answersTo, standings}
+use Rattle.call_trials.specs.Calls.{packet, plainPacket, point, received}
 use Rattle.call_trials.specs.Engines.{on, failed, started, ready, pressed, driving, degraded, stopped, nearB, ended}
 
 -- ---- Numbers 1 to 6: event, power, state
@@ -34,7 +35,7 @@ pub record Refused : Type 0 where
   pub lever-2 : Gives (stepOf on (lever 2)) 1 false []
   pub train-of-1 : Gives (stepOf on (trainLength 1)) 1 false []
   pub train-of-100000 : Gives (stepOf on (trainLength 100000)) 1 false []
-  -- "3 NP and kind not 1": kinds 2 to 13; also with profiles that are none
+  -- "3 NP and kind not 1": kinds 2 to 13, whatever is lent
   pub all-in-NP : answersTo fresh (powerOff ∷ others) ≡ replicate 12 (refuse 3)
   pub load-in-NP : Refuses fresh (loads [] (0x00 ∷ [])) 3
   -- "4 kind 1 outside NP"; "5 FA and kind not 3 (kind 1: 4)"
@@ -50,7 +51,7 @@ pub record Refused : Type 0 where
   pub press-in-AV : Refuses (afterEach ready (lever 1 ∷ [])) press 6
   pub press-in-EG : Refuses driving press 6
 
--- ---- Numbers 7 to 12: book and journey, one byte changed
+-- ---- Numbers 7 to 12: book and journey, with a byte or two of theirs changed
 
 pub record RefusedLoads : Type 0 where
   -- "7 bad map, range or length": bit 5 of a map, bit 2 missing; NID_C 1,058; length 0; R 10,084; 7005 beyond the length; a zone's start behind its end;
@@ -69,13 +70,13 @@ pub record RefusedLoads : Type 0 where
   pub point-twice-in-a-record : Refuses on (loads journey (set book 25 0x5C)) 8
   pub records-41 : Refuses on (loads journey (shortRecords 41)) 8
   pub records-40 : Gives (stepOf on (loads journey (shortRecords 40))) 1 false
-      (packet 65 nowhere (0x04 ∷ 0x00 ∷ 0x01 ∷ 0x23 ∷ 0x0A ∷ 0x0B ∷ 0x01 ∷ 0x02 ∷ 0x03 ∷ 0x04 ∷ 0x07 ∷ 0x00 ∷ [])
+      (packet 65 nowhere (received 1024)
       ++ packet 68 nowhere (0x08 ∷ 0xC1 ∷ []))
   -- "Book and journey are each checked whole in row order": 7 in the last record before 8 in the first; the book before the journey
   pub book-whole : Refuses on (loads journey (set (set book 25 0x5C) 83 0x37)) 7
   pub book-first : Refuses on (loads (set journey 0 0x3F) (set book 25 0x5C)) 8
-  -- "9 bad map, range or length": bit 5 of the map, bit 1 missing; date, NID_ATOTS; NID_C 1,041; NID_TP FFFFFFFF; alignment 3, stopping data 128; bit 7 of a
-  -- point's map; 7002, which is no stop, skipped by trackside; a byte less, a byte more
+  -- "9 bad map, range or length": bit 5 of the map, bit 1 missing; date, NID_ATOTS; NID_C 1,041; NID_TP FFFFFFFF; alignment 3, stopping data 128;
+  -- bit 7 of a point's map; 7002, which is no stop, skipped by trackside; a byte less, a byte more
   pub map-of-the-journey : Refuses on (loads (set journey 0 0x3F) book) 9
   pub no-stamp : Refuses on (loads (set journey 0 0x1D) book) 9
   pub date-beyond : Refuses on (loads (set journey 5 0x80) book) 9
@@ -90,8 +91,8 @@ pub record RefusedLoads : Type 0 where
   pub journey-longer : Refuses on (loads (journey ++ (0x00 ∷ [])) book) 9
   -- "10 segment twice": C named as B
   pub segment-twice : Refuses on (loads (set journey 32 0xF4) book) 10
-  -- "11 index beyond, NID_TP twice, not just one End of Journey, or a booked segment without the point": 7006 in a fourth segment, or named 7001; 7006 an
-  -- End of Journey too, or 7004 none; 7005 named 7007
+  -- "11 index beyond, NID_TP twice, not just one End of Journey, or a booked segment without the point": 7006 in a fourth segment, or named 7001;
+  -- 7006 an End of Journey too, or 7004 none; 7005 named 7007
   pub index-beyond : Refuses on (loads (set journey 74 0x03) book) 11
   pub point-twice : Refuses on (loads (set journey 73 0x59) book) 11
   pub two-ends : Refuses on (loads (set journey 69 0x53) book) 11
@@ -100,7 +101,8 @@ pub record RefusedLoads : Type 0 where
   -- "12 index falls, or placed points do not strictly rise": 7003 in C, before 7004 in B; 7001 at the place of 7002, and 1 cm before it
   pub index-falls : Refuses on (loads (set journey 53 0x02) book) 12
   pub places-equal : Refuses on (loads journey (set (set book 60 0x9C) 61 0x40)) 12
-  pub places-rise : standings (afterEach on (loads journey (set (set book 60 0x9C) 61 0x3F) ∷ [])) ≡ Targeted ∷ Unused ∷ Unused ∷ Unused ∷ Unused ∷ Unused ∷ []
+  pub places-rise : standings (afterEach on (loads journey (set (set book 60 0x9C) 61 0x3F) ∷ []))
+      ≡ Targeted ∷ Unused ∷ Unused ∷ Unused ∷ Unused ∷ Unused ∷ []
 
 -- ---- Numbers 13 to 16: position, skip, output
 
@@ -131,10 +133,10 @@ pub record RefusedLater : Type 0 where
   pub trackside-and-driver : Gives (stepOf started (skip 7003)) 1 false (packet 62 nowhere (point 17 7003 0x2D 0x00))
   pub trackside-and-revoked : Gives (stepOf (afterEach started (skip 7003 ∷ [])) (revoke 7003)) 1 false (packet 62 nowhere (point 17 7003 0x35 0x00))
   -- "16 shorter than this event's packets": one byte less; no packet, no memory; the other numbers come first
-  pub load-16 : Refuses on (lending 47 (loads journey book)) 16
+  pub load-16 : Refuses on (lending 47 load) 16
   pub report-16 : Refuses started (lending 93 (report (inA 90000 1))) 16
   pub skip-16 : Refuses started (lending 24 (skip 7001)) 16
-  pub load-enough : stepOf on (lending 48 (loads journey book)) .answer ≡ answered 1 false 48
+  pub load-enough : stepOf on (lending 48 load) .answer ≡ answered 1 false 48
   pub no-memory : stepOf on (lending 0 (trainLength 1)) .answer ≡ answered 1 false 0
   pub before-16 : Refuses on (lending 0 (loads (set journey 0 0x3F) book)) 9
 
@@ -154,7 +156,7 @@ pub record States : Type 0 where
   pub AV-to-NA : Gives (stepOf (afterEach ready (lever 2 ∷ [])) (reports 29)) 2 false (packet 68 (inA 10000 0) (0x1F ∷ 0xD2 ∷ []))
   pub NA-to-RE : Gives (stepOf (afterEach ready (reports 30 ∷ [])) (reports 31)) 4 true (packet 68 (inA 10000 0) (0x1F ∷ 0xF4 ∷ []))
   -- "RE: with a press pending, O, T, N and AD: EG, which uses the press up; else U, a press kept only if RE stays"
-  pub press : Gives (stepOf ready press) 4 true []
+  pub pressing : Gives (stepOf ready press) 4 true []
   pub EG : Gives (stepOf pressed (mode 1)) 5 true (packet 68 (inA 10000 0) (0x1F ∷ 0xF5 ∷ []))
   pub press-kept : Gives (stepOf (afterEach pressed (report (inA 11000 1) ∷ [])) (mode 1)) 5 true (packet 68 (inA 11000 1) (0x1F ∷ 0xF5 ∷ []))
   pub press-lost : Gives (stepOf (afterEach pressed (lever 1 ∷ lever 0 ∷ [])) (mode 1)) 3 true (packet 68 (inA 10000 0) (0x1F ∷ 0xF3 ∷ []))
@@ -183,7 +185,7 @@ pub record States : Type 0 where
   pub DE-brake : Gives (stepOf (afterEach degraded (reports 31 ∷ [])) (lever 2)) 3 false (packet 68 (inA 10000 0) (0x1F ∷ 0xF3 ∷ []))
   pub DE-brake-not-O : Gives (stepOf degraded (lever 2)) 2 false (packet 68 (inA 10000 0) (0x1F ∷ 0xE2 ∷ []))
   pub DE-other : Gives (stepOf (afterEach degraded (reports 31 ∷ [])) (mode 0)) 4 true (packet 68 (inA 10000 0) (0x1F ∷ 0xF4 ∷ []))
-  -- "AD request: .. in AV with AD and N; given if wanted and (given before or mode other)"
+  -- "AD request (..): wanted in RE, EG, DE, and in AV with AD and N; given if wanted and (given before or mode other)"
   pub neutral-in-AD : Gives (stepOf (afterEach driving (lever 2 ∷ [])) (lever 0)) 3 false []
   pub traction-in-AV : Gives (stepOf (afterEach driving (report (inA 19850 0) ∷ [])) (lever 1)) 3 false []
   -- "fault gives FA until power off"; "Power off returns to fresh."
@@ -322,55 +324,57 @@ pub record Points : Type 0 where
 
 pub record Loads : Type 0 where
   -- "65 on an accepted load: NID_C (1,024 unless the position is known), NID_ATOTS, date, seconds, counter, status 0"; then the 68
-  pub no-position : Gives (stepOf on (loads journey book)) 1 false
+  pub no-position : Gives (stepOf on load) 1 false
       (0x41 ∷ 0x00 ∷ 0x00 ∷ 0x00 ∷ 0x00 ∷ 0x00 ∷ 0x00 ∷ 0x00 ∷ 0xFF ∷ 0xFF ∷ 0xFF ∷ 0x00 ∷ 0x00 ∷ 0x12 ∷ 0x34 ∷ 0x56 ∷ 0x78
       ∷ 0x04 ∷ 0x00 ∷ 0x01 ∷ 0x23 ∷ 0x0A ∷ 0x0B ∷ 0x01 ∷ 0x02 ∷ 0x03 ∷ 0x04 ∷ 0x07 ∷ 0x00
       ∷ 0x44 ∷ 0x00 ∷ 0x00 ∷ 0x00 ∷ 0x00 ∷ 0x00 ∷ 0x00 ∷ 0x00 ∷ 0xFF ∷ 0xFF ∷ 0xFF ∷ 0x00 ∷ 0x00 ∷ 0x12 ∷ 0x34 ∷ 0x56 ∷ 0x78
       ∷ 0x09 ∷ 0xC1 ∷ [])
   -- "the first point that is unplaced or has d ≤ margin is targeted, earlier ones passed, later ones not used"; "points that a load puts behind write none"
-  pub puts-behind : Gives (stepOf (afterEach on (report (inA 50000 0) ∷ [])) (loads journey book)) 1 false
+  pub puts-behind : Gives (stepOf (afterEach on (report (inA 50000 0) ∷ [])) load) 1 false
       (0x41 ∷ 0x00 ∷ 0x11 ∷ 0x00 ∷ 0x00 ∷ 0x01 ∷ 0xF4 ∷ 0x00 ∷ 0x00 ∷ 0xC3 ∷ 0x50 ∷ 0x00 ∷ 0x00 ∷ 0x12 ∷ 0x34 ∷ 0x56 ∷ 0x78
       ∷ 0x00 ∷ 0x11 ∷ 0x01 ∷ 0x23 ∷ 0x0A ∷ 0x0B ∷ 0x01 ∷ 0x02 ∷ 0x03 ∷ 0x04 ∷ 0x07 ∷ 0x00
       ∷ 0x44 ∷ 0x00 ∷ 0x11 ∷ 0x00 ∷ 0x00 ∷ 0x01 ∷ 0xF4 ∷ 0x00 ∷ 0x00 ∷ 0xC3 ∷ 0x50 ∷ 0x00 ∷ 0x00 ∷ 0x12 ∷ 0x34 ∷ 0x56 ∷ 0x78
       ∷ 0x0D ∷ 0xC1 ∷ [])
-  pub two-behind : standings (afterEach on (report (inA 50000 0) ∷ loads journey book ∷ [])) ≡ Passed ∷ Passed ∷ Targeted ∷ Unused ∷ Unused ∷ Unused ∷ []
-  pub none-written : Gives (stepOf (afterEach on (report (inA 50000 0) ∷ loads journey book ∷ [])) (report (inA 50000 1))) 1 false
+  pub two-behind : standings (afterEach on (report (inA 50000 0) ∷ load ∷ [])) ≡ Passed ∷ Passed ∷ Targeted ∷ Unused ∷ Unused ∷ Unused ∷ []
+  pub none-written : Gives (stepOf (afterEach on (report (inA 50000 0) ∷ load ∷ [])) (report (inA 50000 1))) 1 false
       (packet 68 (inA 50000 1) (0x0D ∷ 0xC1 ∷ []))
   -- the margin of the stop 7001, and of 7002; half of 1,003 is one more
-  pub at-margin : standings (afterEach on (report (inA 20150 1) ∷ loads journey book ∷ [])) ≡ Targeted ∷ Unused ∷ Unused ∷ Unused ∷ Unused ∷ Unused ∷ []
-  pub past-margin : standings (afterEach on (report (inA 20151 1) ∷ loads journey book ∷ [])) ≡ Passed ∷ Targeted ∷ Unused ∷ Unused ∷ Unused ∷ Unused ∷ []
-  pub train-of-1001 : standings (afterEach on (report (inA 40501 1) ∷ loads journey book ∷ [])) ≡ Passed ∷ Passed ∷ Targeted ∷ Unused ∷ Unused ∷ Unused ∷ []
-  pub train-of-1003 : standings (afterEach on (trainLength 1003 ∷ report (inA 40501 1) ∷ loads journey book ∷ [])) ≡ Passed ∷ Targeted ∷ Unused ∷ Unused ∷ Unused ∷ Unused ∷ []
+  pub at-margin : standings (afterEach on (report (inA 20150 1) ∷ load ∷ [])) ≡ Targeted ∷ Unused ∷ Unused ∷ Unused ∷ Unused ∷ Unused ∷ []
+  pub past-margin : standings (afterEach on (report (inA 20151 1) ∷ load ∷ [])) ≡ Passed ∷ Targeted ∷ Unused ∷ Unused ∷ Unused ∷ Unused ∷ []
+  pub train-of-1001 : standings (afterEach on (report (inA 40501 1) ∷ load ∷ [])) ≡ Passed ∷ Passed ∷ Targeted ∷ Unused ∷ Unused ∷ Unused ∷ []
+  pub train-of-1003 : standings (afterEach on (trainLength 1003 ∷ report (inA 40501 1) ∷ load ∷ []))
+      ≡ Passed ∷ Targeted ∷ Unused ∷ Unused ∷ Unused ∷ Unused ∷ []
   -- "unplaced": 7006; "where there is none such, all are passed", with the later book
-  pub in-B : Gives (stepOf (afterEach on (report (inB 80000 1) ∷ [])) (loads journey book)) 1 false
-      (packet 65 (inB 80000 1) (0x00 ∷ 0x22 ∷ 0x01 ∷ 0x23 ∷ 0x0A ∷ 0x0B ∷ 0x01 ∷ 0x02 ∷ 0x03 ∷ 0x04 ∷ 0x07 ∷ 0x00 ∷ [])
+  pub in-B : Gives (stepOf (afterEach on (report (inB 80000 1) ∷ [])) load) 1 false
+      (packet 65 (inB 80000 1) (received 34)
       ++ packet 68 (inB 80000 1) (0x0C ∷ 0x81 ∷ []))
-  pub unplaced-targeted : standings (afterEach on (report (inB 80000 1) ∷ loads journey book ∷ [])) ≡ Passed ∷ Passed ∷ Passed ∷ Passed ∷ Passed ∷ Targeted ∷ []
+  pub unplaced-targeted : standings (afterEach on (report (inB 80000 1) ∷ load ∷ [])) ≡ Passed ∷ Passed ∷ Passed ∷ Passed ∷ Passed ∷ Targeted ∷ []
   pub all-behind : Gives (stepOf (afterEach on (report (inC 1 1) ∷ [])) (loads journey bookWithC)) 1 false
-      (packet 65 (inC 1 1) (0x00 ∷ 0x22 ∷ 0x01 ∷ 0x23 ∷ 0x0A ∷ 0x0B ∷ 0x01 ∷ 0x02 ∷ 0x03 ∷ 0x04 ∷ 0x07 ∷ 0x00 ∷ [])
+      (packet 65 (inC 1 1) (received 34)
       ++ packet 68 (inC 1 1) (0x0D ∷ 0x01 ∷ []))
-  pub none-left : standings (afterEach on (report (inC 1 1) ∷ loads journey bookWithC ∷ [])) ≡ Passed ∷ Passed ∷ Passed ∷ Passed ∷ Passed ∷ Passed ∷ []
+  pub none-left : standings (afterEach on (report (inC 1 1) ∷ loads journey bookWithC ∷ []))
+      ≡ Passed ∷ Passed ∷ Passed ∷ Passed ∷ Passed ∷ Passed ∷ []
   -- "with no known position the first is targeted": in C, which is not placed; offset undefined
-  pub in-C : Gives (stepOf (afterEach on (report (inC 5000 1) ∷ [])) (loads journey book)) 1 false
-      (packet 65 (inC 5000 1) (0x04 ∷ 0x00 ∷ 0x01 ∷ 0x23 ∷ 0x0A ∷ 0x0B ∷ 0x01 ∷ 0x02 ∷ 0x03 ∷ 0x04 ∷ 0x07 ∷ 0x00 ∷ [])
+  pub in-C : Gives (stepOf (afterEach on (report (inC 5000 1) ∷ [])) load) 1 false
+      (packet 65 (inC 5000 1) (received 1024)
       ++ packet 68 (inC 5000 1) (0x0D ∷ 0xC1 ∷ []))
-  pub first-targeted : standings (afterEach nearB (report (inC 5000 1) ∷ loads journey book ∷ [])) ≡ Targeted ∷ Unused ∷ Unused ∷ Unused ∷ Unused ∷ Unused ∷ []
-  pub first-targeted-too : standings (afterEach nearB (report (inA undefined 1) ∷ loads journey book ∷ [])) ≡ Targeted ∷ Unused ∷ Unused ∷ Unused ∷ Unused ∷ Unused ∷ []
+  pub first-targeted : standings (afterEach nearB (report (inC 5000 1) ∷ load ∷ [])) ≡ Targeted ∷ Unused ∷ Unused ∷ Unused ∷ Unused ∷ Unused ∷ []
+  pub first-targeted-too : standings (afterEach nearB (report (inA undefined 1) ∷ load ∷ []))
+      ≡ Targeted ∷ Unused ∷ Unused ∷ Unused ∷ Unused ∷ Unused ∷ []
   -- "An offset held from before a load and beyond its segment's new length counts as undefined for the conditions; headers keep it": A of 65,696 cm
   pub shorter-A : Gives (stepOf nearB (loads journey (set book 41 0x00))) 1 false
-      (packet 65 (inA 90000 1) (0x04 ∷ 0x00 ∷ 0x01 ∷ 0x23 ∷ 0x0A ∷ 0x0B ∷ 0x01 ∷ 0x02 ∷ 0x03 ∷ 0x04 ∷ 0x07 ∷ 0x00 ∷ [])
+      (packet 65 (inA 90000 1) (received 1024)
       ++ packet 68 (inA 90000 1) (0x09 ∷ 0xC1 ∷ []))
   -- "Driver skips are cleared"; the load judges without them. A reached stop is targeted again
-  pub skip-cleared : standings (afterEach started (report (inA 20100 1) ∷ skip 7001 ∷ loads journey book ∷ [])) ≡ Targeted ∷ Unused ∷ Unused ∷ Unused ∷ Unused ∷ Unused ∷ []
-  pub reached-unskipped : Gives (stepOf (afterEach started (report (inA 20100 1) ∷ skip 7001 ∷ loads journey book ∷ [])) (report (inA 20100 0))) 1 false
+  pub skip-cleared : standings (afterEach started (report (inA 20100 1) ∷ skip 7001 ∷ load ∷ []))
+      ≡ Targeted ∷ Unused ∷ Unused ∷ Unused ∷ Unused ∷ Unused ∷ []
+  pub reached-unskipped : Gives (stepOf (afterEach started (report (inA 20100 1) ∷ skip 7001 ∷ load ∷ [])) (report (inA 20100 0))) 1 false
       (packet 62 (inA 20100 0) (point 17 7001 0x09 0x55))
-  pub at-the-stop : Gives (stepOf stopped (loads journey book)) 1 false
-      (packet 65 (inA 19900 0) (0x00 ∷ 0x11 ∷ 0x01 ∷ 0x23 ∷ 0x0A ∷ 0x0B ∷ 0x01 ∷ 0x02 ∷ 0x03 ∷ 0x04 ∷ 0x07 ∷ 0x00 ∷ []))
-  pub reached-again : Gives (stepOf (afterEach stopped (loads journey book ∷ [])) (report (inA 19900 0))) 1 false
+  pub at-the-stop : Gives (stepOf stopped load) 1 false (packet 65 (inA 19900 0) (received 17))
+  pub reached-again : Gives (stepOf (afterEach stopped (load ∷ [])) (report (inA 19900 0))) 1 false
       (packet 62 (inA 19900 0) (point 17 7001 0x09 0x55))
   -- "A book is 0 to 40 records": none, so nothing is placed; EG goes to DE
   pub empty-book : Gives (stepOf driving (loads journey [])) 6 true
-      (packet 65 (inA 10000 0) (0x04 ∷ 0x00 ∷ 0x01 ∷ 0x23 ∷ 0x0A ∷ 0x0B ∷ 0x01 ∷ 0x02 ∷ 0x03 ∷ 0x04 ∷ 0x07 ∷ 0x00 ∷ [])
+      (packet 65 (inA 10000 0) (received 1024)
       ++ packet 68 (inA 10000 0) (0x1E ∷ 0xF6 ∷ []))
-  pub load-in-EG : Gives (stepOf driving (loads journey book)) 5 true
-      (packet 65 (inA 10000 0) (0x00 ∷ 0x11 ∷ 0x01 ∷ 0x23 ∷ 0x0A ∷ 0x0B ∷ 0x01 ∷ 0x02 ∷ 0x03 ∷ 0x04 ∷ 0x07 ∷ 0x00 ∷ []))
+  pub load-in-EG : Gives (stepOf driving load) 5 true (packet 65 (inA 10000 0) (received 17))
