@@ -1,0 +1,1 @@
+// Examples of calls: definitions and proofs only.
