@@ -2,6 +2,7 @@
 use mathlib.Core.Path.{refl}
 use Rattle.wire.specs.Numbers.{number}
 use Rattle.fields.specs.Parse.{field, bitMap, optional, many, counted, listed}
+use Rattle.fields.specs.View.{fieldAt}
 use Rattle.fields.specs.Anchors.{Fields, Items, Answers, Anchors}
 
 fields : Fields
@@ -24,7 +25,8 @@ unfolding number field many counted listed
 items = record { several = refl; counts = refl; bit-stands = refl; bit-clear = refl }
 
 answers : Answers
-answers = record { widths = refl; reads = refl; wholes = refl; views = refl }
+unfolding fieldAt
+answers = record { widths = refl; reads = refl; wholes = refl; answered = refl }
 
 pub anchors : Anchors
 anchors = record { fields = fields; items = items; answers = answers }

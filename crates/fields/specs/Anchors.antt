@@ -4,9 +4,9 @@ use mathlib.Core.Path.{_≡_}
 use mathlib.Core.Bool.{true, false}
 use mathlib.Core.List.{List, [], _∷_, map}
 use Rattle.wire.specs.Judged.Judged.{refuse, accept}
-use Rattle.fields.specs.Parse.{Reader, _>>=_, _>>_, give, must, field, free, bitMap, optional, many, counted, listed, bytes, read, whole}
+use Rattle.fields.specs.Parse.{Parse, Reader, _>>=_, _>>_, give, must, field, free, bitMap, optional, many, counted, listed, bytes, read, whole}
 use Rattle.fields.specs.Parse.Parse.{bad, good}
-use Rattle.fields.specs.View.{fieldView}
+use Rattle.fields.specs.View.{fieldAt}
 use Rattle.fields.specs.declared.Field.{Field}
 use Rattle.fields.specs.declared.Width.the-variants.{One, Two, Four}
 
@@ -60,8 +60,8 @@ pub record Answers : Type 0 where
   -- "7 bad map, range or length": the row's number where nothing was read, or where a byte is left over
   pub reads : map (read {A = ℕ} 7) (bad ∷ good 5 [] ∷ good 5 (0 ∷ []) ∷ []) ≡ refuse 7 ∷ accept 5 ∷ accept 5 ∷ []
   pub wholes : map (whole {A = ℕ} 9) (bad ∷ good 5 [] ∷ good 5 (0 ∷ []) ∷ good 5 (1 ∷ 2 ∷ []) ∷ []) ≡ refuse 9 ∷ accept 5 ∷ refuse 9 ∷ refuse 9 ∷ []
-  -- of a slice, the number that was read and the bytes from the position behind it on
-  pub views : map (fieldView (1 ∷ 2 ∷ 3 ∷ [])) (Field.Value 258 2 ∷ Field.Bad ∷ []) ≡ good 258 (3 ∷ []) ∷ bad ∷ []
+  -- for a field of two bytes at position 3: the number that was read, and the position behind it
+  pub answered : map (λ (x : Parse ℕ). fieldAt 3 x 2) (good 258 (9 ∷ []) ∷ bad ∷ []) ≡ Field.Value 258 5 ∷ Field.Bad ∷ []
 
 pub record Anchors : Type 0 where
   pub fields : Fields
