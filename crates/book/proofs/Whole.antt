@@ -144,7 +144,7 @@ module _ (s : List ℕ) where
         listed = record {
           count = length-append gs (h ∷ []) ∙ ap (λ (k : ℕ). k + 1) (g .listed .count);
           array = x ∙ ap (λ (y : List Entry). set y n e) (g .listed .array) ∙ ap (λ (k : ℕ). set (filled 40 blankEntry (entriesAt 0 gs)) k e) n′
-          ∙ filled-set 40 blankEntry (entriesAt 0 gs) e ∙ ap (λ (y : Entry). filled 40 blankEntry (entriesAt 0 gs ++ (y ∷ []))) entry ∙ ap (filled 40 blankEntry) (sym (entries-more 0 gs h));
+              ∙ filled-set 40 blankEntry (entriesAt 0 gs) e ∙ ap (λ (y : Entry). filled 40 blankEntry (entriesAt 0 gs ++ (y ∷ []))) entry ∙ ap (filled 40 blankEntry) (sym (entries-more 0 gs h));
         };
       }
 

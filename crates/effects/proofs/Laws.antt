@@ -37,7 +37,7 @@ use Rattle.look_up.specs.LookUp.{routeConditionsIn, reportAs, lookUp}
 use Rattle.look_up.specs.declared.LookedUp.{LookedUp}
 use Rattle.look_up.proofs.Laws.{position-stays, stop-below}
 use Rattle.route.specs.Route.{LoadValue, loadOf}
-use Rattle.route.specs.View.{loadView}
+use Rattle.route.proofs.Rows.{loadView}
 use Rattle.route.specs.declared.Loaded.{Loaded}
 use Rattle.journey.specs.declared.Head.{Head}
 use Rattle.event_packets.specs.declared.Changes.{Changes}

@@ -11,6 +11,7 @@ use Rattle.fields.specs.Parse.{Parse, whole}
 use Rattle.fields.specs.Parse.Parse.{bad, good}
 use Rattle.wire.specs.Judged.{Judged, thenJudge, row}
 use Rattle.wire.specs.Judged.Judged.{refuse, accept}
+use Rattle.wire.specs.View.{verdictView}
 use Rattle.wire.specs.declared.Verdict.{Verdict}
 use Rattle.engine_value.specs.Engine.{blankSegment, blankPoint, filled}
 use Rattle.engine_value.specs.declared.Segment.{Segment}
@@ -19,17 +20,19 @@ use Rattle.engine_value.specs.declared.Load.{Load}
 use Rattle.segment_record.specs.Record.{BookSegment}
 use Rattle.book.specs.Table.{bookOf}
 use Rattle.book.proofs.Accepted.{book-numbers}
-use Rattle.book.specs.View.{segmentsView, bookView}
+use Rattle.book.specs.View.{segmentsView}
+use Rattle.book.proofs.Whole.{bookView}
 use Rattle.book.specs.declared.Book.{Book}
 use Rattle.journey.specs.Journey.{JourneyValue, journeyRecord, journeyValue}
 use Rattle.journey.proofs.Filling.{filled-take}
-use Rattle.journey.specs.View.{journeyView, valueView}
+use Rattle.journey.specs.View.{valueView}
+use Rattle.journey.proofs.Rows.{journeyView}
 use Rattle.journey.specs.declared.Journey.{Journey}
 use Rattle.route.specs.Placing.{segmentsOf, pointAt, pointsOf}
 use Rattle.journey_rows.specs.Rows.{sameName, indexBeyond, nidtps, ends, indices, places}
 use Rattle.route.specs.Table.{pointMissing, checked, journeyOf}
 use Rattle.route.specs.Route.{routeOf, loadGroup, LoadValue, loadValue, loadOf}
-use Rattle.route.specs.View.{refusedLoad, loadFor, Answered}
+use Rattle.route.specs.View.{refusedLoad, loadFor, loadHeld}
 use Rattle.route.specs.declared.Loaded.{Loaded}
 
 -- ---- the rows
@@ -91,15 +94,25 @@ module _ (book : List BookSegment) (v : JourneyValue) where
 
 -- ---- answers
 
-pub told-refused : (x : Judged LoadValue) (n : ℕ) (r : Loaded) → r ≡ refusedLoad n → x ≡ refuse n → Answered x r
-told-refused x n r e q = rw (e, q) record { seen = refl; held = refl }
+pub told-refused : (x : Judged LoadValue) (n : ℕ) (r : Loaded) → r ≡ refusedLoad n → x ≡ refuse n → r ≡ loadHeld x
+told-refused x n r e q = e ∙ ap loadHeld (sym q)
 
 pub told-loaded : (book : List BookSegment) (v : JourneyValue) (load : Load) (points : List Point) (segments : List Segment)
     → load ≡ loadGroup v → points ≡ filled 64 blankPoint (pointsOf book v) → segments ≡ filled 40 blankSegment (segmentsOf book (v .names))
-    → loadFor book v ≡ accept (loadValue book v) → Answered (loadFor book v) (record { verdict = Verdict.Accepted; load = load; points = points; segments = segments; head = v .head })
+    → loadFor book v ≡ accept (loadValue book v)
+    → record { verdict = Verdict.Accepted; load = load; points = points; segments = segments; head = v .head } ≡ loadHeld (loadFor book v)
 unfolding routeOf
 told-loaded book v load points segments a b c e =
-    record { seen = (λ i. accept (record { route = record { load = a i; points = b i; segments = c i }; head = v .head })) ∙ sym e; held = refl }
+    (λ i. record { verdict = Verdict.Accepted; load = a i; points = b i; segments = c i; head = v .head }) ∙ ap loadHeld (sym e)
+
+-- what an answer says
+abbrev pub loadView : Loaded → Judged LoadValue
+loadView r =
+    thenJudge (verdictView (r .verdict)) (λ u. accept (record { route = record { load = r .load; points = r .points; segments = r .segments }; head = r .head }))
+
+pub load-seen : (x : Judged LoadValue) (r : Loaded) → r ≡ loadHeld x → loadView r ≡ x
+load-seen (refuse n) r e = ap loadView e
+load-seen (accept v) r e = ap loadView e
 
 -- ---- book and journey
 

@@ -7,7 +7,6 @@ use mathlib.Core.Option.{Option, none, some}
 use lib.ListN.{length, getD, replicate}
 use Rattle.wire.specs.Judged.{Judged, thenJudge}
 use Rattle.wire.specs.Judged.Judged.{refuse, accept}
-use Rattle.wire.specs.View.{verdictView}
 use Rattle.wire.specs.declared.Verdict.{Verdict}
 use Rattle.engine_value.specs.Engine.{maxSegments, maxPoints, maxZones, blankSegment, blankPoint, noLoad, filled}
 use Rattle.segment_record.specs.Record.{BookPoint, BookSegment, maxLength, maxReach, lookupPoint}
@@ -18,7 +17,7 @@ use Rattle.journey.specs.Journey.{blankHead, JourneyValue}
 use Rattle.journey.specs.declared.Name.{Name}
 use Rattle.route.specs.Placing.{recordOf, pointsOn, segmentsOf, placeOn, reachOn, pointsOf}
 use Rattle.route.specs.Table.{pointMissing, checked}
-use Rattle.route.specs.Route.{LoadValue, loadValue, loadOf}
+use Rattle.route.specs.Route.{LoadValue, loadValue}
 use Rattle.route.specs.declared.Recorded.{Recorded}
 use Rattle.route.specs.declared.Placing.{Placing}
 use Rattle.route.specs.declared.Points.{Points}
@@ -26,16 +25,12 @@ use Rattle.route.specs.declared.Loaded.{Loaded}
 
 -- ---- a load
 
--- what an answer says
-abbrev pub loadView : Loaded → Judged LoadValue
-loadView r =
-    thenJudge (verdictView (r .verdict)) (λ u. accept (record { route = record { load = r .load; points = r .points; segments = r .segments }; head = r .head }))
-
 -- "Every refusal returns the number only"
 abbrev pub refusedLoad : ℕ → Loaded
 refusedLoad n =
     record { verdict = Verdict.Refused n; load = noLoad; points = replicate maxPoints blankPoint; segments = replicate maxSegments blankSegment; head = blankHead }
 
+-- the one answer for each outcome
 abbrev pub loadHeld : Judged LoadValue → Loaded
 loadHeld (refuse n) = refusedLoad n
 loadHeld (accept v) =
@@ -44,14 +39,6 @@ loadHeld (accept v) =
 -- the rows 10 to 12, and what is then loaded
 abbrev pub loadFor : List BookSegment → JourneyValue → Judged LoadValue
 loadFor book v = thenJudge (checked book v) (λ j. accept (loadValue book j))
-
--- an answer for an outcome: what it says, and that nothing stands beside the number of a refusal
-pub record Answered (x : Judged LoadValue) (r : Loaded) : Type 0 where
-  pub seen : loadView r ≡ x
-  pub held : r ≡ loadHeld (loadView r)
-
-abbrev pub LoadRead : List ℕ → List ℕ → Loaded → Type 0
-LoadRead journey bytes r = Answered (loadOf journey bytes) r
 
 -- ---- inner functions
 

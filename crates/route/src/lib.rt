@@ -32,8 +32,8 @@ ghost use Rattle.journey.specs.View.{namesView, valueView};
 ghost use Rattle.route.specs.Placing.{segmentOf, placeOn, reachOn, pointOf};
 ghost use Rattle.journey_rows.specs.Rows.{indexBeyond};
 ghost use Rattle.journey_rows.specs.View.{seenView};
-ghost use Rattle.route.specs.Route.{loadGroup};
-ghost use Rattle.route.specs.View.{refusedLoad, recordView, recordIf, recordedEntryView, Sound, PlacesFit, PlacingRead, PointsRead, loadFor, Answered, LoadRead};
+ghost use Rattle.route.specs.Route.{loadGroup, loadOf};
+ghost use Rattle.route.specs.View.{refusedLoad, recordView, recordIf, recordedEntryView, Sound, PlacesFit, PlacingRead, PointsRead, loadFor, loadHeld};
 
 // What a load takes; blank where a row refuses.
 pub struct Loaded {
@@ -316,7 +316,7 @@ fn refused(number: u8) -> Loaded
 // A journey that was read, by a book that was read: the rows 10 to 12 in their order.
 fn place(j: Journey, b: Book, s: &[u8]) -> Loaded
     requires { ⌜ Sound (segmentsView (now s) b) ⌝ }
-    ensures { λ r. ⌜ Answered (loadFor (segmentsView (now (s .entry)) b) (valueView j)) r ⌝ }
+    ensures { λ r. ⌜ r ≡ loadHeld (loadFor (segmentsView (now (s .entry)) b) (valueView j)) ⌝ }
 {
     let m = place_segments(j, b, s);
     let twice = journey_rows::name_twice(j);
@@ -352,7 +352,7 @@ fn place(j: Journey, b: Book, s: &[u8]) -> Loaded
 
 // The journey and the book that come with a load: the book's rows, then the journey's.
 pub fn load_route(journey: &[u8], book: &[u8]) -> Loaded
-    ensures { λ r. ⌜ LoadRead (now (journey .entry)) (now (book .entry)) r ⌝ }
+    ensures { λ r. ⌜ r ≡ loadHeld (loadOf (now (journey .entry)) (now (book .entry))) ⌝ }
 {
     let b = book::read_book(book);
     let of_book = b.verdict;
