@@ -1,3 +1,4 @@
 pub mod Laws
 pub mod WordLaws
 pub mod Anchors
+pub mod Sentences

@@ -6,16 +6,15 @@ use mathlib.Core.List.{List, [], _∷_, map}
 use mathlib.Core.Bool.{Bool, true, false}
 use lib.Dec.{eqb}
 use Rattle.wire.specs.Numbers.{if_then_else_}
-use Rattle.engine_value.specs.Engine.{Route, noLoad, noRoute, freshPosition, noOperational, progress, undefined}
+use Rattle.engine_value.specs.Engine.{Route, noRoute, freshPosition, noOperational, progress, undefined}
 use Rattle.engine_value.specs.declared.Position.{Position}
 use Rattle.position.specs.Position.{segmentNamed}
 use Rattle.position.specs.Standing.{standing}
 use Rattle.position.specs.Sample.{journey, at}
 use Rattle.position.specs.declared.Named.{Named}
 use Rattle.position.specs.declared.Standing.{Standing}
-use Rattle.position.specs.declared.Standing.the-variants.{Unused, Targeted, Reached, Passed}
-use Rattle.conditions.specs.Conditions.{etcsFulfilled, noEmergencyBrake, noInconsistency, dataValid, endAhead, lastAhead, firstAhead, profilesThere, tooFar, located, outsideZones, routeConditions, nine, wordOf, allOf, conditions, allConditions, O}
-use Rattle.conditions.specs.declared.RouteConditions.{RouteConditions}
+use Rattle.position.specs.declared.Standing.the-variants.{Unused, Passed}
+use Rattle.conditions.specs.Conditions.{etcsFulfilled, noEmergencyBrake, noInconsistency, dataValid, endAhead, lastAhead, firstAhead, profilesThere, tooFar, located, outsideZones, nine, wordOf, conditions, allConditions, O}
 
 -- where the points stand: n of them passed, the next targeted or reached
 abbrev targeted : ℕ → ℕ → Standing

@@ -1,2 +1,3 @@
 -- What an event looks up before anything is stored.
 pub mod LookUp
+pub mod Anchors
