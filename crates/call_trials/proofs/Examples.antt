@@ -127,6 +127,7 @@ states = record {
   pressing = record { answer = refl; memory = refl };
   EG = record { answer = refl; memory = refl };
   press-kept = record { answer = refl; memory = refl };
+  press-used-up = record { answer = refl; memory = refl };
   press-lost = record { answer = refl; memory = refl };
   EG-traction = record { answer = refl; memory = refl };
   EG-passes = record { answer = refl; memory = refl };
@@ -190,6 +191,7 @@ points = record {
   past-margin = record { answer = refl; memory = refl };
   still-reached = record { answer = refl; memory = refl };
   departs = record { answer = refl; memory = refl };
+  departs-unknown = record { answer = refl; memory = refl };
   departs-and-passes = record { answer = refl; memory = refl };
   middle = record { answer = refl; memory = refl };
   middle-passed = record { answer = refl; memory = refl };

@@ -1,5 +1,5 @@
--- Calls over one journey: what they answer, the packets in their memory, and what the table of numbers refuses. The values are those of the independent
--- model (tests/model), looked over against document 01.
+-- Calls over one journey: what they answer, the packets in their memory, and what the table of numbers refuses. The values are those of the
+-- independent model (tests/model), looked over against document 01.
 use mathlib.Core.Path.{_≡_}
 use mathlib.Core.List.{[], _∷_, _++_}
 use mathlib.Core.Bool.{true, false}
@@ -10,8 +10,8 @@ use Rattle.position.specs.declared.Standing.the-variants.{Unused, Targeted, Pas
 use Rattle.call.specs.Call.{stepOf}
 use Rattle.call.specs.Trials.{plain, loads, afterEach, answered, Gives, powerOn, configured, reports, press, mode, lever, trainLength, skip, revoke}
 use Rattle.call_trials.specs.Journey.{journey, book, bookWithC, shortRecords}
-use Rattle.call_trials.specs.Calls.{powerOff, fault, inA, inB, inC, inD, undefined, nowhere, report, load, others, lending, Refuses, answersTo, standings}
-use Rattle.call_trials.specs.Calls.{packet, plainPacket, point, received}
+use Rattle.call_trials.specs.Calls.{powerOff, fault, inA, inB, inC, inD, undefined, nowhere, report, load, others, lending}
+use Rattle.call_trials.specs.Calls.{Refuses, answersTo, standings, packet, plainPacket, point, received}
 use Rattle.call_trials.specs.Engines.{on, failed, started, ready, pressed, driving, degraded, stopped, nearB, ended}
 
 -- ---- Numbers 1 to 6: event, power, state
@@ -159,6 +159,7 @@ pub record States : Type 0 where
   pub pressing : Gives (stepOf ready press) 4 true []
   pub EG : Gives (stepOf pressed (mode 1)) 5 true (packet 68 (inA 10000 0) (0x1F ∷ 0xF5 ∷ []))
   pub press-kept : Gives (stepOf (afterEach pressed (report (inA 11000 1) ∷ [])) (mode 1)) 5 true (packet 68 (inA 11000 1) (0x1F ∷ 0xF5 ∷ []))
+  pub press-used-up : Gives (stepOf (afterEach driving (mode 0 ∷ [])) (mode 1)) 3 true (packet 68 (inA 10000 0) (0x1F ∷ 0xF3 ∷ []))
   pub press-lost : Gives (stepOf (afterEach pressed (lever 1 ∷ lever 0 ∷ [])) (mode 1)) 3 true (packet 68 (inA 10000 0) (0x1F ∷ 0xF3 ∷ []))
   -- "EG: lever at brake, mode other, or a point reached in this event (..): U; else not O or not T: DE; else EG."
   pub EG-traction : Gives (stepOf driving (lever 1)) 5 true []
@@ -253,11 +254,14 @@ pub record Points : Type 0 where
   pub past-margin : Gives (stepOf started (report (inA 20151 0))) 1 false
       (packet 62 (inA 20151 0) (point 17 7001 0x01 0x00)
       ++ packet 68 (inA 20151 0) (0x0D ∷ 0xC1 ∷ []))
-  -- "(a) a reached point, speed above 0: departed, it is passed, the next is targeted"; standing it stays reached, wherever
+  -- "(a) a reached point, speed above 0: departed, it is passed": a departure needs no known position; at speed 0 it stays reached
   pub still-reached : Gives (stepOf stopped (report (inA 30000 0))) 1 false []
   pub departs : Gives (stepOf stopped (report (inA 19900 1))) 1 false
       (packet 62 (inA 19900 1) (point 17 7001 0x11 0x00)
       ++ packet 68 (inA 19900 1) (0x0D ∷ 0xC1 ∷ []))
+  pub departs-unknown : Gives (stepOf stopped (report (inA undefined 1))) 1 false
+      (packet 62 (inA undefined 1) (point 17 7001 0x11 0x00)
+      ++ packet 68 (inA undefined 1) (0x09 ∷ 0xC1 ∷ []))
   pub departs-and-passes : Gives (stepOf stopped (report (inA 40501 1))) 1 false
       (packet 62 (inA 40501 1) (point 17 7001 0x11 0x00)
       ++ (packet 62 (inA 40501 1) (point 17 7002 0x03 0x00)

@@ -1,48 +1,54 @@
--- The book and the journey of the examples, byte for byte. Two countries, 17 and 34; segments A and B are placed, C is not in the book, D stands in the
--- book only. The End of Journey is neither the last point nor the last placed one.
+-- The book and the journey of the examples, byte for byte. Two countries, 17 and 34; segments A and B are placed, C is not in the book, D
+-- stands in the book only. The End of Journey is neither the last point nor the last placed one.
 use Prim.Native.Nat.{ℕ, zero, suc}
 use mathlib.Core.List.{List, [], _∷_, _++_}
 
 -- ---- the book
 
--- B: NID_C 34, NID_SP 500, length 80,000; two points
--- 7004 at 10,000, R 100; 7005 at 75,000, R 300
 abbrev pub recordB : List ℕ
 recordB =
+    -- B: NID_C 34, NID_SP 500, length 80,000; two points
     0x0F ∷ 0x00 ∷ 0x22 ∷ 0x00 ∷ 0x00 ∷ 0x01 ∷ 0xF4 ∷ 0x00 ∷ 0x01 ∷ 0x38 ∷ 0x80 ∷ 0x02
+    -- 7004 at 10,000, R 100
     ∷ 0x00 ∷ 0x00 ∷ 0x1B ∷ 0x5C ∷ 0x00 ∷ 0x00 ∷ 0x27 ∷ 0x10 ∷ 0x00 ∷ 0x64
+    -- 7005 at 75,000, R 300
     ∷ 0x00 ∷ 0x00 ∷ 0x1B ∷ 0x5D ∷ 0x00 ∷ 0x01 ∷ 0x24 ∷ 0xF8 ∷ 0x01 ∷ 0x2C
     ∷ []
 
--- A: NID_C 17, NID_SP 500, length 100,000; three points, not in the journey's order
--- 7002 at 40,000, R 50; 7001 at 20,000, R 150; 7003 at 60,000, R 200
--- a zone from 5,000 to 6,000
 abbrev pub recordA : List ℕ
 recordA =
+    -- A: NID_C 17, NID_SP 500, length 100,000; three points, not in the journey's order
     0x1F ∷ 0x00 ∷ 0x11 ∷ 0x00 ∷ 0x00 ∷ 0x01 ∷ 0xF4 ∷ 0x00 ∷ 0x01 ∷ 0x86 ∷ 0xA0 ∷ 0x03
+    -- 7002 at 40,000, R 50
     ∷ 0x00 ∷ 0x00 ∷ 0x1B ∷ 0x5A ∷ 0x00 ∷ 0x00 ∷ 0x9C ∷ 0x40 ∷ 0x00 ∷ 0x32
+    -- 7001 at 20,000, R 150
     ∷ 0x00 ∷ 0x00 ∷ 0x1B ∷ 0x59 ∷ 0x00 ∷ 0x00 ∷ 0x4E ∷ 0x20 ∷ 0x00 ∷ 0x96
+    -- 7003 at 60,000, R 200
     ∷ 0x00 ∷ 0x00 ∷ 0x1B ∷ 0x5B ∷ 0x00 ∷ 0x00 ∷ 0xEA ∷ 0x60 ∷ 0x00 ∷ 0xC8
+    -- a zone, from 5,000 to 6,000
     ∷ 0x01 ∷ 0x00 ∷ 0x00 ∷ 0x13 ∷ 0x88 ∷ 0x00 ∷ 0x00 ∷ 0x17 ∷ 0x70
     ∷ []
 
--- D: NID_C 17, NID_SP 600, length 1,000; all of it a zone
 abbrev pub recordD : List ℕ
 recordD =
+    -- D: NID_C 17, NID_SP 600, length 1,000
     0x17 ∷ 0x00 ∷ 0x11 ∷ 0x00 ∷ 0x00 ∷ 0x02 ∷ 0x58 ∷ 0x00 ∷ 0x00 ∷ 0x03 ∷ 0xE8
+    -- a zone, from 0 to 1,000
     ∷ 0x01 ∷ 0x00 ∷ 0x00 ∷ 0x00 ∷ 0x00 ∷ 0x00 ∷ 0x00 ∷ 0x03 ∷ 0xE8
     ∷ []
 
 abbrev pub book : List ℕ
 book = recordB ++ (recordA ++ recordD)
 
--- a later book, with C: NID_C 34, NID_SP 501, length 40,000; 7006 at its start, R 0
 abbrev pub recordC : List ℕ
 recordC =
+    -- C: NID_C 34, NID_SP 501, length 40,000; one point
     0x0F ∷ 0x00 ∷ 0x22 ∷ 0x00 ∷ 0x00 ∷ 0x01 ∷ 0xF5 ∷ 0x00 ∷ 0x00 ∷ 0x9C ∷ 0x40
+    -- 7006 at its start, R 0
     ∷ 0x01 ∷ 0x00 ∷ 0x00 ∷ 0x1B ∷ 0x5E ∷ 0x00 ∷ 0x00 ∷ 0x00 ∷ 0x00 ∷ 0x00 ∷ 0x00
     ∷ []
 
+-- a later book, with C
 abbrev pub bookWithC : List ℕ
 bookWithC = book ++ recordC
 
