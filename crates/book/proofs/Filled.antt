@@ -1,10 +1,12 @@
 -- An array that holds a list from its front on and blank elements behind it.
-use Prim.Native.Nat.{ℕ, zero, suc, _≤_}
+use Prim.Native.Nat.{ℕ, zero, suc, _+_, _≤_, _<_}
 use mathlib.Core.Path.{_≡_, refl, sym, ap, _∙_}
-use mathlib.Core.List.{List, [], _∷_, _++_}
-use lib.ListN.{length, take, set, replicate, length-take, length-append, length-replicate}
-use lib.Seq.{take-take, take-at}
+use mathlib.Core.List.{List, [], _∷_, _++_, map}
+use lib.ListN.{length, getD, take, set, replicate, length-map, length-take, length-append, length-replicate}
+use lib.Seq.{take-suc, take-take, take-at, length-take-le}
+use native.Mathlib.Numerals.{add-one}
 use native.Mathlib.Omega.{arith}
+use Rattle.wire.proofs.ListLaws.{map-append}
 use Rattle.engine_value.specs.Engine.{filled}
 
 module _ {A : Type 0} where
@@ -37,3 +39,12 @@ module _ {A : Type 0} where
   pub filled-set : (high : ℕ) (blank : A) (l : List A) (a : A) → set (filled high blank l) (length l) a ≡ filled high blank (l ++ (a ∷ []))
   filled-set high blank l a =
       ap (λ (x : List A). set x (length l) a) (padded high high blank l (omega arith)) ∙ pad-set high blank l a ∙ sym (padded high high blank (l ++ (a ∷ [])) (omega arith))
+
+-- a turn of a loop that fills an array with the values of a list's elements: one more is set
+pub filled-next : {A B : Type 0} (high : ℕ) (blank : B) (f : A → B) (d : A) (l : List A) (i : ℕ) (xs : List B) (y : B)
+    → xs ≡ filled high blank (map f (take i l)) → i < length l → y ≡ f (getD l i d) → set xs i y ≡ filled high blank (map f (take (i + 1) l))
+filled-next {A} {B} high blank f d l i xs y e h q =
+    let n : i ≡ length (map f (take i l)) = sym (length-map (take i l) f ∙ length-take-le i l (omega arith)) in
+    let t : take (i + 1) l ≡ take i l ++ (getD l i d ∷ []) = ap (λ (k : ℕ). take k l) (add-one i) ∙ take-suc l i d h in
+    ap (λ (x : List B). set x i y) e ∙ ap (λ (k : ℕ). set (filled high blank (map f (take i l))) k y) n ∙ filled-set high blank (map f (take i l)) y
+    ∙ ap (filled high blank) (ap (λ (x : B). map f (take i l) ++ (x ∷ [])) q ∙ sym (ap (map f) t ∙ map-append f (take i l) (getD l i d ∷ [])))

@@ -48,9 +48,9 @@ keyOf c sp = c * 4294967296 + sp
 abbrev pub entryKey : Entry → ℕ
 entryKey e = keyOf (e .nidc) (e .nidsp)
 
--- the keys of entries; each NID_SP is a number of four bytes, so that no two names have one key
+-- the keys of entries, and 0 behind them; each NID_SP is a number of four bytes, so that no two names have one key
 pub record Keyed (es : List Entry) (keys : List ℕ) : Type 0 where
-  pub each : keys ≡ map entryKey es
+  pub each : keys ≡ filled maxSegments 0 (map entryKey es)
   pub fit : All (λ (e : Entry). e .nidsp < 2 ^ 32) es
 
 -- where a key stands first, the count of the keys where it does not

@@ -80,7 +80,7 @@ pub fn key(nidc: u16, nidsp: u32) -> u64
 
 // The key of each entry.
 pub fn keys_of(b: Book) -> [u64; MAX_SEGMENTS]
-    ensures { λ r. ⌜ Keyed (entriesView b) (take (min (b .count) maxSegments) r) ⌝ }
+    ensures { λ r. ⌜ Keyed (entriesView b) r ⌝ }
 {
     let n = entry_count(b);
     let mut keys = [0; MAX_SEGMENTS];

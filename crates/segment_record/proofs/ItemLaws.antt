@@ -1,13 +1,15 @@
 -- Laws of items of one size that stand end to end, and of look-ups among them.
-use Prim.Native.Nat.{ℕ, zero, suc, _+_, _-_, _*_, _≤_, _<_}
+use Prim.Native.Nat.{ℕ, zero, suc, _+_, _-_, _*_, _≤_, _<_, min}
 use mathlib.Core.Path.{_≡_, refl, sym, ap, _∙_}
 use mathlib.Core.List.{List, [], _∷_, _++_, map, append-assoc, append-nil}
+use mathlib.Core.Bool.{Bool, true, false}
 use mathlib.Core.Option.{some}
 use lib.ListN.{length, drop, take, getD, set, drop-of-length-le}
 use lib.Seq.{drop-drop, take-suc-set}
+use lib.Dec.{leb}
 use native.Mathlib.Numerals.{add-one}
 use native.Mathlib.Omega.{arith}
-use borrow.Author.Tests.{eq-eqb, ne-eqb}
+use borrow.Author.Tests.{eq-eqb, ne-eqb, leb-true, leb-false}
 use Rattle.engine_value.specs.Engine.{filled}
 use Rattle.engine_value.specs.declared.Zone.{Zone}
 use Rattle.wire.specs.Numbers.{number}
@@ -15,12 +17,18 @@ use Rattle.segment_record.specs.Record.{BookPoint, lookupPoint}
 use Rattle.segment_record.specs.View.{items, pointOf, zoneOf, pointView}
 use Rattle.segment_record.specs.declared.PointFound.{PointFound}
 
--- stepping on by k bytes
-pub after-past : (s : List ℕ) (p k : ℕ) → length s ≤ p → drop p s ≡ drop k (drop p s)
-after-past s p k h = let q : length s ≤ p + k = omega arith in rw (drop-drop, drop-of-length-le s h, drop-of-length-le s q)
-
-pub after-end : (s : List ℕ) (p k : ℕ) → length s - p < k → drop (length s) s ≡ drop k (drop p s)
-after-end s p k h = let q : length s ≤ p + k = omega arith in let r : length s ≤ length s = omega arith in rw (drop-drop, drop-of-length-le s q, drop-of-length-le s r)
+-- stepping on by k bytes, at most to the end
+pub after-told : (s : List ℕ) (p k r : ℕ) → r ≡ min (p + k) (length s) → drop r s ≡ drop k (drop p s)
+after-told s p k r e = ap (λ (x : ℕ). drop x s) e ∙ go (leb (p + k) (length s)) refl ∙ sym (drop-drop k p s)
+  where
+    go : (b : Bool) → leb (p + k) (length s) ≡ b → drop (min (p + k) (length s)) s ≡ drop (p + k) s
+    go true t = let h : p + k ≤ length s = leb-true (p + k) (length s) t in let m : min (p + k) (length s) ≡ p + k = omega arith in rw m
+    go false t =
+        let h : length s < p + k = leb-false (p + k) (length s) t in
+        let m : min (p + k) (length s) ≡ length s = omega arith in
+        let q : length s ≤ p + k = omega arith in
+        let r : length s ≤ length s = omega arith in
+        rw (m, drop-of-length-le s q, drop-of-length-le s r)
 
 -- items, i of n behind
 module _ {A : Type 0} (v : List ℕ → A) (k n : ℕ) where

@@ -6,10 +6,10 @@ use engine_value::Zone;
 use fields::Field;
 use fields::Width;
 use fields::read_field;
-ghost use Prim.Native.Nat.{_*_};
+ghost use Prim.Native.Nat.{_+_, _*_, min};
 ghost use mathlib.Core.Path.{_≡_};
 ghost use mathlib.Core.List.{[], _∷_};
-ghost use lib.ListN.{drop};
+ghost use lib.ListN.{length, drop};
 ghost use Rattle.fields.specs.Parse.{mapFits, many, listed};
 ghost use Rattle.segment_record.specs.Record.{segmentRecord, lookupPoint};
 ghost use Rattle.segment_record.specs.View.{entryView, blankEntry, pointView, zoneView, zonesView};
@@ -229,10 +229,10 @@ pub fn blank_entry() -> Entry
 
 // The position k bytes further on, at most the end.
 pub fn after(s: &[u8], p: usize, k: usize) -> usize
-    ensures { λ r. ⌜ drop r (now (s .entry)) ≡ drop k (drop p (now (s .entry))) ⌝ }
+    ensures { λ r. ⌜ r ≡ min (p + k) (length (now (s .entry))) ⌝ }
 {
     if s.len() <= p {
-        return p;
+        return s.len();
     }
     if s.len() - p < k {
         return s.len();

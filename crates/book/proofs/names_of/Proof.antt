@@ -7,7 +7,7 @@ use native.Mathlib.Omega.{arith}
 use borrow.Author.Needs.{needs}
 use Rattle.wire.specs.Numbers.{number}
 use Rattle.segment_record.specs.View.{items}
-use Rattle.segment_record.proofs.ItemLaws.{items-start, items-step, kept-more, kept-all}
+use Rattle.segment_record.proofs.ItemLaws.{after-told, items-start, items-step, kept-more, kept-all}
 use Rattle.book.proofs.names_of.Statement.{statement}
 use Rattle.book.proofs.names_of.Tie as tie
 
@@ -27,7 +27,7 @@ loop-again c =
     let s = now (a .s) in
     let r = drop (c .after .result) s in
     let long : length (w .names) ≡ 16 = w .inv .1 in
-    let step = items-step (number 4) 10 (a .n) (w .i) (drop (w .p) s) r (omega arith) (c .after .ensures) in
+    let step = items-step (number 4) 10 (a .n) (w .i) (drop (w .p) s) r (omega arith) (after-told _ _ _ _ (c .after .ensures)) in
     (omega arith, length-set (w .names) (w .i) _ ∙ long, kept-more (w .names) (w .i) (a .n) (c .before .be32 .result) _ (drop (w .p) s) r (number 4) 10 (omega arith) (w .inv .2) step (c .before .be32 .ensures))
 
 returns : tie.Need-returns Inv-loop μ-loop

@@ -11,6 +11,7 @@ use Rattle.journey.specs.Journey.{blankName}
 use Rattle.journey.proofs.Left.{names-few, names-left, names-done}
 use denote.Ref.{now}
 use Rattle.book.specs.View.{entriesView, segmentsView, entryKey, indexOf}
+use Rattle.book.proofs.Entries.{keys-first}
 use Rattle.route.specs.View.{recordView}
 use Rattle.route.specs.Placing.{recordOf}
 use Rattle.route.proofs.Placed.{record-found, Placed, placed-none, placed-more, placed-end, next-length}
@@ -32,7 +33,7 @@ loop-holds c =
 
 -- the keys that are looked through are those of the book's entries
 keys-are : (c : tie.After-blank-entry Inv-loop μ-loop) → take (c .before .before .before .entry-count .result) (c .before .before .keys-of .result) ≡ map entryKey (entriesView (c .before .before .before .before .before .before .args .t2))
-keys-are c = ap (λ (i : ℕ). take i (c .before .before .keys-of .result)) (c .before .before .before .entry-count .ensures .0) ∙ c .before .before .keys-of .ensures .each
+keys-are c = keys-first (c .before .before .before .before .before .before .args .t2) (c .before .before .keys-of .result) (c .before .before .before .entry-count .result) (c .before .before .keys-of .ensures) (c .before .before .before .entry-count .ensures)
 
 slice-aggregate-find : tie.Need-slice-aggregate-find Inv-loop μ-loop
 slice-aggregate-find c =

@@ -7,7 +7,7 @@ use borrow.Author.Needs.{needs}
 use Rattle.wire.specs.Numbers.{number}
 use Rattle.segment_record.specs.Record.{lookupPoint}
 use Rattle.segment_record.specs.View.{items, pointOf}
-use Rattle.segment_record.proofs.ItemLaws.{items-start, items-step, items-end, name-found, name-next, point-answer}
+use Rattle.segment_record.proofs.ItemLaws.{after-told, items-start, items-step, items-end, name-found, name-next, point-answer}
 use Rattle.segment_record.proofs.find_point.Statement.{statement}
 use Rattle.segment_record.proofs.find_point.Tie as tie
 
@@ -28,7 +28,7 @@ returns c =
     let l = drop (w .p) (now (a .s)) in
     let t = sym (c .before .before .before .before .before .be32 .ensures) ∙ c .before .before .before .before .if1 .taken in
     let here = w .inv .1 ∙ ap (lookupPoint (a .nidtp)) (items-step pointOf 10 n (w .i) l (drop 10 l) (c .before .before .before .before .before .before .loop-test .taken) refl) ∙ name-found (a .nidtp) l (items pointOf 10 (n - (w .i + 1)) (drop 10 l)) t in
-    point-answer (a .nidtp) l _ _ t (c .before .be322 .ensures ∙ ap (number 4) (c .before .before .before .after .ensures)) (c .be16 .ensures ∙ ap (number 2) (c .before .before .after2 .ensures)) ∙ sym here
+    point-answer (a .nidtp) l _ _ t (c .before .be322 .ensures ∙ ap (number 4) (after-told _ _ _ _ (c .before .before .before .after .ensures))) (c .be16 .ensures ∙ ap (number 2) (after-told _ _ _ _ (c .before .before .after2 .ensures))) ∙ sym here
 
 loop-again : tie.Need-loop-again Inv-loop μ-loop
 loop-again c =
@@ -37,7 +37,7 @@ loop-again c =
     let n = a .e .points in
     let l = drop (w .p) (now (a .s)) in
     let r = drop (c .after3 .result) (now (a .s)) in
-    (omega arith, w .inv .1 ∙ ap (lookupPoint (a .nidtp)) (items-step pointOf 10 n (w .i) l r (c .before .before .before .loop-test .taken) (c .after3 .ensures)) ∙ name-next (a .nidtp) l (items pointOf 10 (n - (w .i + 1)) r) (λ z. c .before .if1 .left (c .before .before .be32 .ensures ∙ z)))
+    (omega arith, w .inv .1 ∙ ap (lookupPoint (a .nidtp)) (items-step pointOf 10 n (w .i) l r (c .before .before .before .loop-test .taken) (after-told _ _ _ _ (c .after3 .ensures))) ∙ name-next (a .nidtp) l (items pointOf 10 (n - (w .i + 1)) r) (λ z. c .before .if1 .left (c .before .before .be32 .ensures ∙ z)))
 
 returns-2 : tie.Need-returns-2 Inv-loop μ-loop
 returns-2 c =

@@ -5,7 +5,7 @@ use lib.ListN.{drop}
 use Rattle.engine_value.specs.Engine.{blankZone}
 use Rattle.wire.specs.Numbers.{number}
 use Rattle.segment_record.specs.View.{zoneOf, zoneView}
-use Rattle.segment_record.proofs.ItemLaws.{items-at, items-past, zone-answer}
+use Rattle.segment_record.proofs.ItemLaws.{after-told, items-at, items-past, zone-answer}
 use borrow.Author.Needs.{needs}
 use Rattle.segment_record.proofs.zone_in.Statement.{statement}
 use Rattle.segment_record.proofs.zone_in.Tie as tie
@@ -15,7 +15,7 @@ unfolding zoneView
 returns c =
     let a = c .before .before .before .before .before .before .before .args in
     let l = drop (a .e .«zones_at») (now (a .s)) in
-    zone-answer (drop (8 * a .k) l) _ _ (c .before .be32 .ensures ∙ ap (number 4) (c .before .before .before .after .ensures)) (c .be322 .ensures ∙ ap (number 4) (c .before .before .after2 .ensures ∙ ap (drop 4) (c .before .before .before .after .ensures)))
+    zone-answer (drop (8 * a .k) l) _ _ (c .before .be32 .ensures ∙ ap (number 4) (after-told _ _ _ _ (c .before .before .before .after .ensures))) (c .be322 .ensures ∙ ap (number 4) (after-told _ _ _ _ (c .before .before .after2 .ensures) ∙ ap (drop 4) (after-told _ _ _ _ (c .before .before .before .after .ensures))))
     ∙ sym (items-at zoneOf 8 blankZone (a .e .zones) (a .k) l (c .before .before .before .before .if1 .taken))
 
 returns-2 : tie.Need-returns-2
