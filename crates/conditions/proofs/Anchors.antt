@@ -39,5 +39,7 @@ anchors = record {
   no-journey = refl;
   O-there = refl;
   O-reports = refl;
-  O-lacking = refl;
+  O-points = refl;
+  O-route = refl;
+  O-position = refl;
 }

@@ -1,12 +1,12 @@
--- Values that the definitions must give for the journey of position/Sample, worked out by hand from document 01, "Nine conditions": the End of Journey
--- is point 3, the last point 4, which is not placed.
+-- Values that the definitions must give for the journey of position/Sample, worked out by hand from document 01, "Nine conditions": the End of
+-- Journey is point 3, the last point 4, which is not placed.
 use Prim.Native.Nat.{ℕ}
 use mathlib.Core.Path.{_≡_}
 use mathlib.Core.List.{List, [], _∷_, map}
 use mathlib.Core.Bool.{Bool, true, false}
 use lib.Dec.{eqb}
 use Rattle.wire.specs.Numbers.{if_then_else_}
-use Rattle.engine_value.specs.Engine.{Route, noRoute, freshPosition, noOperational, progress, undefined}
+use Rattle.engine_value.specs.Engine.{Route, blankPoint, noRoute, freshPosition, noOperational, progress, undefined}
 use Rattle.engine_value.specs.declared.Position.{Position}
 use Rattle.position.specs.Position.{segmentNamed}
 use Rattle.position.specs.Standing.{standing}
@@ -14,7 +14,8 @@ use Rattle.position.specs.Sample.{journey, at}
 use Rattle.position.specs.declared.Named.{Named}
 use Rattle.position.specs.declared.Standing.{Standing}
 use Rattle.position.specs.declared.Standing.the-variants.{Unused, Passed}
-use Rattle.conditions.specs.Conditions.{etcsFulfilled, noEmergencyBrake, noInconsistency, dataValid, endAhead, lastAhead, firstAhead, profilesThere, tooFar, located, outsideZones, nine, wordOf, conditions, allConditions, O}
+use Rattle.conditions.specs.Conditions.{etcsFulfilled, noEmergencyBrake, noInconsistency, dataValid, endAhead, lastAhead, firstAhead}
+use Rattle.conditions.specs.Conditions.{profilesThere, tooFar, located, outsideZones, nine, wordOf, conditions, allConditions, O}
 
 -- where the points stand: n of them passed, the next targeted or reached
 abbrev targeted : ℕ → ℕ → Standing
@@ -35,7 +36,7 @@ here = at 17 500 5 0
 abbrev unplacedJourney : Route
 unplacedJourney = record {
   load = record { operational = noOperational; valid = true; ending = 0; «point_count» = 1; «segment_count» = 1 };
-  points = record { nidtp = 7001; place = 0; reach = 0; nidc = 17; alignment = 0; stopping = 0; stop = false; trackside = false; placed = false; spare = 0 } ∷ [];
+  points = blankPoint ∷ [];
   segments = record { nidsp = 501; start = 0; length = 0; «zone_count» = 0; zones = []; nidc = 17; booked = false; placed = false } ∷ [];
 }
 
@@ -61,8 +62,7 @@ pub record Anchors : Type 0 where
   pub last-reached : map (λ n. lastAhead (journey .load) (reached n)) (3 ∷ 4 ∷ []) ≡ true ∷ true ∷ []
   pub last-only : map (λ n. lastAhead (journey .load) (only n)) (3 ∷ 4 ∷ []) ≡ true ∷ false ∷ []
   -- "first point not passed"
-  pub first-not-passed : firstAhead (targeted 2) 5 0 ∷ firstAhead (reached 2) 5 0 ∷ firstAhead (targeted 5) 5 0 ∷ firstAhead (only 0) 5 0 ∷ firstAhead (only 1) 5 0 ∷ []
-      ≡ 2 ∷ 2 ∷ 5 ∷ 1 ∷ 0 ∷ []
+  pub first-not-passed : map (λ s. firstAhead s 5 0) (targeted 2 ∷ reached 2 ∷ targeted 5 ∷ only 0 ∷ only 1 ∷ []) ≡ 2 ∷ 2 ∷ 5 ∷ 1 ∷ 0 ∷ []
   -- "4: first point not passed is placed, or none is left."
   pub profiles : map (λ n. profilesThere journey (targeted n)) (0 ∷ 3 ∷ 4 ∷ 5 ∷ []) ≡ true ∷ true ∷ false ∷ true ∷ []
   pub profiles-reached : map (λ n. profilesThere journey (reached n)) (3 ∷ 4 ∷ []) ≡ true ∷ false ∷ []
@@ -78,7 +78,8 @@ pub record Anchors : Type 0 where
   -- "7: not within a zone of a journey segment in the book, both ends inside"
   pub outside-first : map (λ o. outsideZones (segmentNamed journey (at 17 500 o 0)) (at 17 500 o 0)) (19999 ∷ 20000 ∷ 30000 ∷ 30001 ∷ undefined ∷ [])
       ≡ true ∷ false ∷ false ∷ true ∷ true ∷ []
-  pub outside-unplaced : map (λ o. outsideZones (segmentNamed journey (at 33 502 o 0)) (at 33 502 o 0)) (9 ∷ 10 ∷ 20 ∷ 21 ∷ []) ≡ true ∷ false ∷ false ∷ true ∷ []
+  pub outside-unplaced : map (λ o. outsideZones (segmentNamed journey (at 33 502 o 0)) (at 33 502 o 0)) (9 ∷ 10 ∷ 20 ∷ 21 ∷ [])
+      ≡ true ∷ false ∷ false ∷ true ∷ []
   pub outside-elsewhere : map (λ x. outsideZones (segmentNamed journey x) x) (at 17 502 15 0 ∷ at 17 501 15 0 ∷ []) ≡ true ∷ true ∷ []
   pub outside-too-far : map (λ o. outsideZones zoned (at 17 500 o 0)) (100 ∷ 101 ∷ undefined ∷ []) ≡ false ∷ true ∷ true ∷ []
   -- the word, "bit 0 is least significant": each of the nine alone
@@ -94,15 +95,16 @@ pub record Anchors : Type 0 where
   pub lacking-2 : conditions journey 31 here (reached 3) ≡ 507
   pub lacking-3 : conditions journey 31 here (only 4) ≡ 503
   pub lacking-4 : conditions unplacedJourney 31 (at 17 501 5 0) (targeted 0) ≡ 495
-  pub lacking-6 : map (λ x. conditions journey 31 x (targeted 0)) (at 17 500 undefined 0 ∷ at 17 500 100001 0 ∷ at 17 502 5 0 ∷ []) ≡ 447 ∷ 447 ∷ 447 ∷ []
+  pub lacking-6 : map (λ x. conditions journey 31 x (targeted 0)) (at 17 500 undefined 0 ∷ at 17 500 100001 0 ∷ at 17 502 5 0 ∷ [])
+      ≡ 447 ∷ 447 ∷ 447 ∷ []
   pub lacking-7 : conditions journey 31 (at 17 500 20000 0) (targeted 0) ≡ 383
   -- none left: 2 and 3 are 0, 4 is 1
   pub none-left : conditions journey 0 here (targeted 5) ≡ 208
   -- "With no journey 2, 3, 4, 6 are 0 and 7 is 1."
   pub no-journey : conditions noRoute 0 freshPosition (targeted 0) ∷ conditions noRoute 31 (at 0 0 5 0) (targeted 0) ∷ [] ≡ 128 ∷ 419 ∷ []
   -- "O means all nine"
-  pub O-there : O journey 15 here (targeted 0) ∷ O journey 31 here (targeted 0) ∷ O journey 31 (at 33 500 200 0) (targeted 3) ∷ [] ≡ true ∷ true ∷ true ∷ []
+  pub O-there : O journey 15 here (targeted 0) ∷ O journey 31 (at 33 500 200 0) (targeted 3) ∷ [] ≡ true ∷ true ∷ []
   pub O-reports : map (λ n. O journey n here (targeted 0)) (30 ∷ 29 ∷ 27 ∷ 23 ∷ []) ≡ false ∷ false ∷ false ∷ false ∷ []
-  pub O-lacking : O journey 31 here (reached 3) ∷ O journey 31 here (only 4) ∷ O unplacedJourney 31 (at 17 501 5 0) (targeted 0) ∷ O journey 31 (at 17 500 undefined 0) (targeted 0)
-      ∷ O journey 31 (at 17 500 20000 0) (targeted 0) ∷ O noRoute 31 here (targeted 0) ∷ []
-      ≡ false ∷ false ∷ false ∷ false ∷ false ∷ false ∷ []
+  pub O-points : map (O journey 31 here) (reached 3 ∷ only 4 ∷ targeted 4 ∷ []) ≡ false ∷ false ∷ false ∷ []
+  pub O-route : O unplacedJourney 31 (at 17 501 5 0) (targeted 0) ∷ O noRoute 31 here (targeted 0) ∷ [] ≡ false ∷ false ∷ []
+  pub O-position : map (λ x. O journey 31 x (targeted 0)) (at 17 500 undefined 0 ∷ at 17 500 20000 0 ∷ []) ≡ false ∷ false ∷ []

@@ -12,9 +12,12 @@ unfolding front stopFrom beyond atStop looked reported firstAhead
 anchors = record {
   positions = refl;
   position-whole = refl;
-  reports = refl;
+  report-passes = refl;
+  report-reaches = refl;
+  report-departs = refl;
   report-skipped = refl;
   no-reports = refl;
+  no-report = refl;
   stops = refl;
   routes = refl;
   by-report = refl;

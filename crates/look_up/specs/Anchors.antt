@@ -16,6 +16,7 @@ use Rattle.position.specs.declared.Found.the-variants.{At, Nothing}
 use Rattle.position.specs.declared.Stop.{Stop}
 use Rattle.timing.specs.declared.Reported.{Reported}
 use Rattle.conditions.specs.declared.RouteConditions.{RouteConditions}
+use Rattle.look_up.specs.declared.LookedUp.{LookedUp}
 use Rattle.look_up.specs.LookUp.{positionAfter, reportAs, stopAs, routeConditionsIn, lookUp}
 
 abbrev engine : Engine
@@ -37,15 +38,21 @@ brings p from departed reached =
 abbrev stop : Found → Bool → Stop
 stop k skipped = record { at = k; skipped = skipped }
 
+abbrev lookedUp : RouteConditions → Named → Reported → Stop → LookedUp
+lookedUp w s r t = record { before = w; segment = s; report = r; stop = t }
+
 pub record Anchors : Type 0 where
   -- "position .. come from the latest accepted event since power off that carries them"
-  pub positions : map (λ e. positionAfter engine e .offset) (PositionReport (at 33 500 7 9) ∷ Length 5 ∷ Load ∷ Press ∷ []) ≡ 7 ∷ 25000 ∷ 25000 ∷ 25000 ∷ []
+  pub positions : map (λ e. positionAfter engine e .offset) (PositionReport (at 33 500 7 9) ∷ Length 5 ∷ Load ∷ Press ∷ [])
+      ≡ 7 ∷ 25000 ∷ 25000 ∷ 25000 ∷ []
   pub position-whole : positionAfter engine (PositionReport (at 33 501 7 9)) ≡ at 33 501 7 9
   -- a position report moves the points, with the engine's train length and driver skips; another event none
-  pub reports : reportAs report engine (at 33 500 10302 1) ∷ reportAs report engine (at 17 500 40000 0) ∷ reportAs report (engineAt (at 17 500 40000 0) 0 true) (at 17 500 40000 1) ∷ []
-      ≡ brings (progress 3 false) 0 false false ∷ brings (progress 0 true) 0 false true ∷ brings (progress 1 false) 1 true false ∷ []
+  pub report-passes : reportAs report engine (at 33 500 10302 1) ≡ brings (progress 3 false) 0 false false
+  pub report-reaches : reportAs report engine (at 17 500 40000 0) ≡ brings (progress 0 true) 0 false true
+  pub report-departs : reportAs report (engineAt (at 17 500 40000 0) 0 true) (at 17 500 40000 1) ≡ brings (progress 1 false) 1 true false
   pub report-skipped : reportAs report engine (at 33 500 40150 0) ≡ brings (progress 3 false) 0 false false
-  pub no-reports : map (λ r. reportAs r engine (at 33 500 10302 1)) (load ∷ other ∷ skip 7001 true ∷ []) ≡ brings (progress 0 false) 0 false false ∷ brings (progress 0 false) 0 false false ∷ brings (progress 0 false) 0 false false ∷ []
+  pub no-reports : map (λ r. reportAs r engine (at 33 500 10302 1) .progress .next) (report ∷ load ∷ other ∷ skip 7001 true ∷ []) ≡ 3 ∷ 0 ∷ 0 ∷ 0 ∷ []
+  pub no-report : reportAs other (engineAt (at 17 500 40000 0) 0 true) (at 33 500 10302 1) ≡ brings (progress 0 true) 0 false false
   -- "12 driver skip (4, NID_TP); 13 driver revokes skip (4)"
   pub stops : map (λ r. stopAs r engine) (skip 7001 true ∷ skip 7004 false ∷ skip 7002 true ∷ report ∷ other ∷ [])
       ≡ stop (At 0) false ∷ stop (At 3) true ∷ stop Nothing false ∷ stop Nothing false ∷ stop Nothing false ∷ []
@@ -54,8 +61,8 @@ pub record Anchors : Type 0 where
       ≡ routed true true false ∷ routed false true true ∷ routed true false true ∷ routed false false true ∷ []
   -- of an event: the conditions before it, the segment after it
   pub by-report : lookUp engine (PositionReport (at 33 500 40150 0))
-      ≡ record { before = routed true true false; segment = segment false 100000 50000; report = brings (progress 3 false) 0 false false; stop = stop Nothing false }
-  pub by-skip : map (lookUp engine) (Skip 7004 ∷ Revoke 7004 ∷ [])
-      ≡ record { before = routed true true false; segment = segment true 0 100000; report = brings (progress 0 false) 0 false false; stop = stop (At 3) true }
-      ∷ record { before = routed true true false; segment = segment true 0 100000; report = brings (progress 0 false) 0 false false; stop = stop (At 3) true }
+      ≡ lookedUp (routed true true false) (segment false 100000 50000) (brings (progress 3 false) 0 false false) (stop Nothing false)
+  pub by-skip : map (lookUp engine) (Skip 7001 ∷ Revoke 7004 ∷ [])
+      ≡ lookedUp (routed true true false) (segment true 0 100000) (brings (progress 0 false) 0 false false) (stop (At 0) false)
+      ∷ lookedUp (routed true true false) (segment true 0 100000) (brings (progress 0 false) 0 false false) (stop (At 3) true)
       ∷ []

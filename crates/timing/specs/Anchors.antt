@@ -1,6 +1,6 @@
 -- Values that the definitions must give for the journey of position/Sample, worked out by hand from document 01, "Timing points": points at 40,000
--- (front, R 150), 90,000 (middle, passing), 110,000 (rear, skipped by trackside), 140,000 (middle, R 100), and one that is not placed; the train is 301
--- long, and its half 150.
+-- (front, R 150), 90,000 (middle, passing), 110,000 (rear, skipped by trackside), 140,000 (middle, R 100), and one that is not placed; the train is
+-- 301 long, and its half 150.
 use Prim.Native.Nat.{ℕ}
 use mathlib.Core.Path.{_≡_}
 use mathlib.Core.List.{List, [], _∷_, map}
@@ -46,7 +46,15 @@ longer n r = record { position = r .position; length = n; skips = r .skips }
 abbrev skipping : Report → Report
 skipping r = record { position = r .position; length = r .length; skips = λ k. eqb k 0 }
 
--- ---- what a report brings: the progress after it, the first point looked at, departed, reached, placed before and after
+-- ---- progress: n points are passed, and the next is targeted or reached
+
+abbrev targeted : ℕ → Progress
+targeted n = progress n false
+
+abbrev stopped : ℕ → Progress
+stopped n = progress n true
+
+-- what a report brings: the progress after it, the first point looked at, departed, reached, placed before and after
 abbrev brings : Progress → ℕ → Bool → Bool → Bool → Bool → Reported
 brings p from departed reached before after =
     record { progress = p; from = from; departed = departed; reached = reached; «placed_before» = before; «placed_after» = after }
@@ -74,22 +82,23 @@ pub record Anchors : Type 0 where
   -- "speed 0 and d ≥ −R", and "an unskipped stop"
   pub stops-R : map (λ f. stopsAt f 301 0 (point journey 0) false) (39849 ∷ 39850 ∷ 40150 ∷ []) ≡ false ∷ true ∷ true ∷ []
   pub stops-still : map (λ s. stopsAt 40000 301 s (point journey 0) false) (0 ∷ 1 ∷ []) ≡ true ∷ false ∷ []
-  pub stops-not : stopsAt 40000 301 0 (point journey 0) true ∷ stopsAt 90150 301 0 (point journey 1) false ∷ stopsAt 110301 301 0 (point journey 2) false ∷ []
-      ≡ false ∷ false ∷ false ∷ []
+  pub stops-skipping : stopsAt 40000 301 0 (point journey 0) true ≡ false
+  pub stops-not : map (λ k. stopsAt 200000 301 0 (point journey k) false) (1 ∷ 2 ∷ 3 ∷ []) ≡ false ∷ false ∷ true ∷ []
   -- the same at a report: "Skips and train length count as they stood at that report"
-  pub beyond-there : beyond journey (one 40150 0) 0 ∷ beyond journey (one 40151 9) 0 ∷ beyond journey (two 10301 9) 2 ∷ beyond journey (two 10302 9) 2 ∷ []
-      ≡ false ∷ true ∷ false ∷ true ∷ []
+  pub beyond-R : map (λ o. beyond journey (one o 0) 0) (40150 ∷ 40151 ∷ []) ≡ false ∷ true ∷ []
+  pub beyond-rear : map (λ o. beyond journey (two o 9) 2) (10301 ∷ 10302 ∷ []) ≡ false ∷ true ∷ []
   pub beyond-skipped : beyond journey (skipping (one 40001 9)) 0 ∷ beyond journey (skipping (two 40151 9)) 3 ∷ beyond journey (nowhere 9) 0 ∷ []
       ≡ true ∷ false ∷ false ∷ []
   pub at-stop : atStop journey (one 39850 0) 0 ∷ atStop journey (one 39850 1) 0 ∷ atStop journey (one 39849 0) 0 ∷ atStop journey (two 40050 0) 3 ∷ []
       ≡ true ∷ false ∷ false ∷ true ∷ []
-  pub at-stop-not : atStop journey (skipping (one 40000 0)) 0 ∷ atStop journey (skipping (two 40050 0)) 3 ∷ atStop journey (nowhere 0) 0 ∷ atStop journey (longer 303 (two 40050 0)) 3 ∷ []
-      ≡ false ∷ true ∷ false ∷ false ∷ []
+  pub at-stop-not : atStop journey (skipping (one 40000 0)) 0 ∷ atStop journey (nowhere 0) 0 ∷ [] ≡ false ∷ false ∷ []
+  pub at-stop-length : map (λ r. atStop journey r 3) (two 40050 0 ∷ skipping (two 40050 0) ∷ longer 303 (two 40050 0) ∷ []) ≡ true ∷ true ∷ false ∷ []
   -- "speed above 0"
   pub moves : map (λ s. moving (one 0 s)) (0 ∷ 1 ∷ []) ≡ false ∷ true ∷ []
   -- of an engine: its train length and its driver skips
   pub of-engine : let r = reportFrom (engineAt (at 17 500 0 0) 0 false) (at 33 500 7 8) in
-      (r .position .offset ∷ r .position .speed ∷ r .length ∷ [] ≡ 7 ∷ 8 ∷ 301 ∷ []) × (map (r .skips) (0 ∷ 3 ∷ 4 ∷ 64 ∷ []) ≡ false ∷ true ∷ false ∷ false ∷ [])
+      r .position .offset ∷ r .position .speed ∷ r .length ∷ [] ≡ 7 ∷ 8 ∷ 301 ∷ []
+  pub skips-of-engine : map (reportFrom (engineAt (at 17 500 0 0) 0 false) (at 33 500 7 8) .skips) (0 ∷ 3 ∷ 64 ∷ []) ≡ false ∷ true ∷ false ∷ []
   -- "the first point that is unplaced or has d ≤ margin is targeted, earlier ones passed"
   pub load-R : map (λ o. target journey (at 17 500 o 0) 301) (40000 ∷ 40150 ∷ 40151 ∷ []) ≡ 0 ∷ 0 ∷ 1 ∷ []
   pub load-middle : map (λ o. target journey (at 17 500 o 9) 301) (90150 ∷ 90151 ∷ []) ≡ 1 ∷ 2 ∷ []
@@ -98,52 +107,53 @@ pub record Anchors : Type 0 where
   -- "where there is none such, all are passed"
   pub load-all : target (journeyTo 4) (at 33 500 50000 0) 301 ∷ target (journeyTo 3) (at 33 500 50000 0) 301 ∷ [] ≡ 4 ∷ 3 ∷ []
   -- "with no known position the first is targeted": undefined, beyond the segment, in one that is not placed, in none
-  pub load-unknown : map (λ x. target journey x 301) (at 33 500 undefined 0 ∷ at 33 500 50001 0 ∷ at 33 502 5 0 ∷ at 33 503 5 0 ∷ []) ≡ 0 ∷ 0 ∷ 0 ∷ 0 ∷ []
+  pub load-unknown : map (λ x. target journey x 301) (at 33 500 undefined 0 ∷ at 33 500 50001 0 ∷ at 33 502 5 0 ∷ at 33 503 5 0 ∷ [])
+      ≡ 0 ∷ 0 ∷ 0 ∷ 0 ∷ []
   pub load-behind : map (putBehind journey (two 50000 0)) (0 ∷ 1 ∷ 2 ∷ 3 ∷ 4 ∷ []) ≡ true ∷ true ∷ true ∷ true ∷ false ∷ []
   -- (b) "d > margin, it is passed and the next looked at", as many as there are; "the targeted point placed"
-  pub passes-R : map (λ o. reported journey (one o 9) (progress 0 false)) (40150 ∷ 40151 ∷ []) ≡ progress 0 false ∷ progress 1 false ∷ []
-  pub passes-many : map (λ o. reported journey (two o 9) (progress 0 false)) (10301 ∷ 10302 ∷ 50000 ∷ []) ≡ progress 2 false ∷ progress 3 false ∷ progress 4 false ∷ []
-  pub passes-all : reported (journeyTo 4) (two 50000 9) (progress 1 false) ∷ reported (journeyTo 3) (two 50000 9) (progress 0 false) ∷ reported (journeyTo 3) (two 50000 0) (progress 3 false) ∷ []
-      ≡ progress 4 false ∷ progress 3 false ∷ progress 3 false ∷ []
-  pub passes-passing : reported journey (one 90150 0) (progress 1 false) ∷ reported journey (one 90151 0) (progress 1 false) ∷ [] ≡ progress 1 false ∷ progress 2 false ∷ []
+  pub passes-R : map (λ o. reported journey (one o 9) (targeted 0)) (40150 ∷ 40151 ∷ []) ≡ targeted 0 ∷ targeted 1 ∷ []
+  pub passes-many : map (λ o. reported journey (two o 9) (targeted 0)) (10301 ∷ 10302 ∷ 50000 ∷ []) ≡ targeted 2 ∷ targeted 3 ∷ targeted 4 ∷ []
+  pub passes-all : map (λ n. reported (journeyTo n) (two 50000 9) (targeted 1)) (4 ∷ 3 ∷ 1 ∷ []) ≡ targeted 4 ∷ targeted 3 ∷ targeted 1 ∷ []
+  pub passes-passing : reported journey (one 90150 0) (targeted 1) ∷ reported journey (one 90151 0) (targeted 1) ∷ [] ≡ targeted 1 ∷ targeted 2 ∷ []
   -- "While the position is known and the targeted point placed"
-  pub unplaced-stays : reported journey (two 50000 0) (progress 4 false) ∷ reported journey (nowhere 0) (progress 1 false) ∷ [] ≡ progress 4 false ∷ progress 1 false ∷ []
+  pub unplaced-stays : reported journey (two 50000 0) (targeted 4) ∷ reported journey (nowhere 0) (targeted 1) ∷ [] ≡ targeted 4 ∷ targeted 1 ∷ []
   -- "else, an unskipped stop with speed 0 and d ≥ −R is reached"
-  pub reaches-R : map (λ o. reported journey (one o 0) (progress 0 false)) (39849 ∷ 39850 ∷ 40150 ∷ 40151 ∷ [])
-      ≡ progress 0 false ∷ progress 0 true ∷ progress 0 true ∷ progress 1 false ∷ []
-  pub reaches-still : reported journey (one 40000 1) (progress 0 false) ∷ reported journey (skipping (one 40000 0)) (progress 0 false) ∷ [] ≡ progress 0 false ∷ progress 0 false ∷ []
-  pub reaches-later : reported journey (two 40150 0) (progress 0 false) ∷ reported journey (two 40049 0) (progress 0 false) ∷ [] ≡ progress 3 true ∷ progress 3 false ∷ []
+  pub reaches-R : map (λ o. reported journey (one o 0) (targeted 0)) (39849 ∷ 39850 ∷ 40150 ∷ 40151 ∷ [])
+      ≡ targeted 0 ∷ stopped 0 ∷ stopped 0 ∷ targeted 1 ∷ []
+  pub reaches-not : map (λ r. reported journey r (targeted 0)) (one 40000 1 ∷ skipping (one 40000 0) ∷ []) ≡ targeted 0 ∷ targeted 0 ∷ []
+  pub reaches-later : reported journey (two 40150 0) (targeted 0) ∷ reported journey (two 40049 0) (targeted 0) ∷ [] ≡ stopped 3 ∷ targeted 3 ∷ []
   -- (a) "a reached point, speed above 0: departed, it is passed, the next is targeted", also with no known position; then (b) in the same report
-  pub departing : map (λ r. reported journey r (progress 0 true)) (one 39900 1 ∷ nowhere 1 ∷ two 10302 1 ∷ []) ≡ progress 1 false ∷ progress 1 false ∷ progress 3 false ∷ []
+  pub departing : map (λ r. reported journey r (stopped 0)) (one 39900 1 ∷ nowhere 1 ∷ two 10302 1 ∷ []) ≡ targeted 1 ∷ targeted 1 ∷ targeted 3 ∷ []
   -- at speed 0 a reached point stays so, wherever the train is
-  pub staying : map (λ r. reported journey r (progress 0 true)) (one 39900 0 ∷ nowhere 0 ∷ two 50000 0 ∷ []) ≡ progress 0 true ∷ progress 0 true ∷ progress 0 true ∷ []
+  pub staying : map (λ r. reported journey r (stopped 0)) (one 39900 0 ∷ nowhere 0 ∷ two 50000 0 ∷ []) ≡ stopped 0 ∷ stopped 0 ∷ stopped 0 ∷ []
   -- "points: count (1, 1-64)"
   pub next-point : map following (0 ∷ 62 ∷ 63 ∷ []) ≡ 1 ∷ 63 ∷ 64 ∷ []
   -- "a point reached in this event"
-  pub became : becameReached journey (one 39850 0) (progress 0 false) ∷ becameReached journey (one 39850 1) (progress 0 false) ∷ becameReached journey (one 39850 0) (progress 0 true) ∷ becameReached journey (two 40150 0) (progress 0 false) ∷ becameReached journey (two 50000 0) (progress 0 true) ∷ []
-      ≡ true ∷ false ∷ false ∷ true ∷ false ∷ []
-  pub report-departs : reportOf journey (two 10302 1) (progress 0 true) ≡ brings (progress 3 false) 1 true false true true
-  pub report-stays : reportOf journey (two 10302 0) (progress 0 true) ≡ brings (progress 0 true) 0 false false true true
-  pub report-passes : reportOf journey (two 50000 9) (progress 3 false) ≡ brings (progress 4 false) 3 false false true false
-  pub report-reaches : reportOf journey (two 40150 0) (progress 1 false) ≡ brings (progress 3 true) 1 false true true true
-  pub no-report : noReport journey (progress 4 false) ∷ noReport journey (progress 0 true) ∷ []
-      ≡ brings (progress 4 false) 4 false false false false ∷ brings (progress 0 true) 0 false false true true ∷ []
-  pub reports-in-turn : run journey (progress 0 false) (one 39900 0 ∷ one 39901 1 ∷ two 10302 1 ∷ []) ≡ progress 3 false
+  pub became : map (λ r. becameReached journey r (targeted 0)) (one 39850 0 ∷ one 39850 1 ∷ two 40150 0 ∷ []) ≡ true ∷ false ∷ true ∷ []
+  pub became-stays : map (λ r. becameReached journey r (stopped 0)) (one 39850 0 ∷ two 40150 0 ∷ []) ≡ false ∷ false ∷ []
+  pub report-departs : reportOf journey (two 10302 1) (stopped 0) ≡ brings (targeted 3) 1 true false true true
+  pub report-stays : reportOf journey (two 10302 0) (stopped 0) ≡ brings (stopped 0) 0 false false true true
+  pub report-passes : reportOf journey (two 50000 9) (targeted 3) ≡ brings (targeted 4) 3 false false true false
+  pub report-reaches : reportOf journey (two 40150 0) (targeted 1) ≡ brings (stopped 3) 1 false true true true
+  pub no-report : noReport journey (targeted 4) ∷ noReport journey (stopped 0) ∷ []
+      ≡ brings (targeted 4) 4 false false false false ∷ brings (stopped 0) 0 false false true true ∷ []
+  pub reports-in-turn : run journey (targeted 0) (one 39900 0 ∷ one 39901 1 ∷ two 10302 1 ∷ []) ≡ targeted 3
   -- "status (0 passed, 1 stopped, 2 departed, 5 driver skip, 6 skip revoked)"
   pub statuses : statusPassed ∷ statusStopped ∷ statusDeparted ∷ statusSkipped ∷ statusRevoked ∷ [] ≡ 0 ∷ 1 ∷ 2 ∷ 5 ∷ 6 ∷ []
   -- "the 62s as they arise", with the progress "after that change". "A departure writes status 2 and no 0"
-  pub changes-departing : reportChanges journey (two 40150 1) (progress 0 true)
-      ≡ change 0 2 (progress 1 false) ∷ change 1 0 (progress 2 false) ∷ change 2 0 (progress 3 false) ∷ []
-  pub changes-reaching : reportChanges journey (two 40150 0) (progress 1 false)
-      ≡ change 1 0 (progress 2 false) ∷ change 2 0 (progress 3 false) ∷ change 3 1 (progress 3 true) ∷ []
-  pub changes-none : reportChanges journey (two 40150 0) (progress 3 true) ∷ reportChanges journey (two 40049 0) (progress 3 false) ∷ [] ≡ [] ∷ [] ∷ []
+  pub changes-departing : reportChanges journey (two 40150 1) (stopped 0)
+      ≡ change 0 2 (targeted 1) ∷ change 1 0 (targeted 2) ∷ change 2 0 (targeted 3) ∷ []
+  pub changes-reaching : reportChanges journey (two 40150 0) (targeted 1)
+      ≡ change 1 0 (targeted 2) ∷ change 2 0 (targeted 3) ∷ change 3 1 (stopped 3) ∷ []
+  pub changes-none : reportChanges journey (two 40150 0) (stopped 3) ∷ reportChanges journey (two 40049 0) (targeted 3) ∷ [] ≡ [] ∷ [] ∷ []
   -- moments: report t of a list, from 1
   pub numbered : map (λ t. reportNumber (one 7 1 ∷ one 8 1 ∷ []) t .position .offset) (0 ∷ 1 ∷ 2 ∷ 3 ∷ []) ≡ 16777215 ∷ 7 ∷ 8 ∷ 16777215 ∷ []
   -- "that very report included (for the first point, from the load)"
   pub from-moment : map firstOf (0 ∷ 1 ∷ 2 ∷ 3 ∷ []) ≡ 1 ∷ 1 ∷ 2 ∷ 3 ∷ []
   -- "with known position, the point placed, and either d > margin or, for an unskipped stop, speed 0 and d ≥ −R settles it"
-  pub settling : map (λ r. settles journey r 0) (one 39849 0 ∷ one 39850 0 ∷ one 39850 1 ∷ one 40150 1 ∷ one 40151 1 ∷ nowhere 0 ∷ skipping (one 40000 0) ∷ [])
-      ≡ false ∷ true ∷ false ∷ false ∷ true ∷ false ∷ false ∷ []
+  pub settling : map (λ r. settles journey r 0) (one 39849 0 ∷ one 39850 0 ∷ one 39850 1 ∷ one 40150 1 ∷ one 40151 1 ∷ [])
+      ≡ false ∷ true ∷ false ∷ false ∷ true ∷ []
+  pub settling-not : map (λ r. settles journey r 0) (nowhere 0 ∷ skipping (one 40000 0) ∷ []) ≡ false ∷ false ∷ []
   pub settling-placed : map (settles journey (two 50000 0)) (1 ∷ 3 ∷ 4 ∷ []) ≡ true ∷ true ∷ false ∷ []
   -- "Of the points with no passing moment the first is reached if so settled, else targeted; the rest are not used."
   pub rule-none : stand 0 [] ≡ Targeted ∷ Unused ∷ Unused ∷ Unused ∷ Unused ∷ []
@@ -163,9 +173,11 @@ pub record Anchors : Type 0 where
   pub rule-skip : stand 0 (skipping (one 40000 0) ∷ []) ∷ stand 0 (skipping (one 40001 0) ∷ []) ∷ []
       ≡ (Targeted ∷ Unused ∷ Unused ∷ Unused ∷ Unused ∷ []) ∷ (Passed ∷ Targeted ∷ Unused ∷ Unused ∷ Unused ∷ []) ∷ []
   -- "Where the load put it behind, that is the load."
-  pub rule-load : map (λ n. stand n []) (1 ∷ 2 ∷ 5 ∷ [])
-      ≡ (Passed ∷ Targeted ∷ Unused ∷ Unused ∷ Unused ∷ []) ∷ (Passed ∷ Passed ∷ Targeted ∷ Unused ∷ Unused ∷ []) ∷ (Passed ∷ Passed ∷ Passed ∷ Passed ∷ Passed ∷ []) ∷ []
+  pub rule-load-1 : stand 1 [] ≡ Passed ∷ Targeted ∷ Unused ∷ Unused ∷ Unused ∷ []
+  pub rule-load-2 : stand 2 [] ≡ Passed ∷ Passed ∷ Targeted ∷ Unused ∷ Unused ∷ []
+  pub rule-load-all : stand 5 [] ≡ Passed ∷ Passed ∷ Passed ∷ Passed ∷ Passed ∷ []
   pub rule-load-then : stand 2 (one 39850 0 ∷ two 10302 1 ∷ []) ≡ Passed ∷ Passed ∷ Passed ∷ Targeted ∷ Unused ∷ []
   -- what came of a point, with the reports from its passing moment on
   pub outcomes : map (pointOutcome journey 1 (one 40000 0 ∷ two 10302 1 ∷ two 40150 0 ∷ [])) (0 ∷ 1 ∷ 2 ∷ 3 ∷ 4 ∷ [])
-      ≡ passes (one 40000 0 ∷ two 10302 1 ∷ two 40150 0 ∷ []) ∷ passes (two 10302 1 ∷ two 40150 0 ∷ []) ∷ passes (two 10302 1 ∷ two 40150 0 ∷ []) ∷ reaches ∷ notLookedAt ∷ []
+      ≡ passes (one 40000 0 ∷ two 10302 1 ∷ two 40150 0 ∷ []) ∷ passes (two 10302 1 ∷ two 40150 0 ∷ []) ∷ passes (two 10302 1 ∷ two 40150 0 ∷ [])
+      ∷ reaches ∷ notLookedAt ∷ []
