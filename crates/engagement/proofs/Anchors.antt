@@ -12,7 +12,7 @@ use Rattle.event.specs.declared.Event.the-variants.{PowerOn, Configured, Fault,
 use Rattle.state_codes.specs.Codes.{isNeutral, isBrake}
 use Rattle.state_codes.specs.declared.EtcsMode.the-variants.{AD}
 use Rattle.states.specs.Anchors.{waiting}
-use Rattle.engagement.specs.Engagement.{Waiting, Driving, Engagement}
+use Rattle.engagement.specs.Engagement.{Waiting, Driving}
 use Rattle.engagement.specs.Anchors.{Anchors, events, moments, traction, drive, held}
 
 -- ---- where an event lies
