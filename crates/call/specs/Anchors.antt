@@ -25,6 +25,7 @@ use Rattle.packets.specs.declared.Packet.{Packet}
 use Rattle.journey.specs.declared.Head.{Head}
 use Rattle.route.specs.Route.{LoadValue}
 use Rattle.timing.specs.Changes.{change}
+use Rattle.timing.specs.declared.Reported.{Reported}
 use Rattle.call_values.specs.Call.{Call}
 use Rattle.call_values.specs.Packets.{pointChange}
 use Rattle.call.specs.Packets.{changeIn}
@@ -79,6 +80,16 @@ inState s p = engine journey skips (train 15000 7 400) p (inputs 1 2 20) (contro
 abbrev pub held : Engine
 held = inState 3 (progress 1 false)
 
+-- with an offset beyond the segment; without a journey; engaged, one cm before the End of Journey
+abbrev pub tooFar : Engine
+tooFar = engine journey skips (train 100001 7 400) (progress 1 false) (inputs 1 2 20) (control 3 false true)
+
+abbrev pub unloaded : Engine
+unloaded = engine noRoute noSkips (train 15000 7 400) (progress 0 false) (inputs 1 2 20) (control 3 false true)
+
+abbrev pub engaged : Engine
+engaged = engine journey skips (train 29999 7 400) (progress 2 false) (inputs 1 0 31) (control 5 false true)
+
 -- ---- another journey, by the train's rear: with a train of 4 m at 150 m, d of its points is 136 m, 126 m, 151 cm, 150 cm, -354 m
 
 abbrev pub another : Route
@@ -116,6 +127,10 @@ packet68 h s n = Packet.AtoStatus (record { header = h; state = s; conditions = 
 abbrev pub refusal : {A : Type 0} → Judged A → ℕ
 refusal (refuse n) = n
 refusal (accept a) = 0
+
+abbrev pub reporting : Progress → ℕ → Bool → Bool → Reported
+reporting p from departed reached =
+    record { progress = p; from = from; departed = departed; reached = reached; «placed_before» = true; «placed_after» = true }
 
 -- an event with profiles that no load takes
 abbrev pub does : Engine → Event → Judged Effect
@@ -167,14 +182,15 @@ pub record Anchors : Type 0 where
   pub train-with : map (λ (v : Event). trainWith held (carried v)) (Mode 0 ∷ Lever 1 ∷ Reports 31 ∷ Length 9 ∷ PositionReport (at 5 6) ∷ Press ∷ [])
       ≡ train 15000 7 400 ∷ train 15000 7 400 ∷ train 15000 7 400 ∷ train 15000 7 9 ∷ train 5 6 400 ∷ train 15000 7 400 ∷ []
   -- "Other kinds ignore the lent profiles."
-  pub ignored : map (λ (v : Event). refusal (does held v)) (PowerOn ∷ Configured ∷ PowerOff ∷ Fault ∷ Reports 0 ∷ Mode 0 ∷ Lever 0 ∷ Press ∷ PositionReport (at 5 6) ∷ Length 9 ∷ Load ∷ Skip 7005 ∷ Revoke 7004 ∷ [])
+  pub ignored : map (λ (v : Event). refusal (does held v))
+      (PowerOn ∷ Configured ∷ PowerOff ∷ Fault ∷ Reports 0 ∷ Mode 0 ∷ Lever 0 ∷ Press ∷ PositionReport (at 5 6) ∷ Length 9 ∷ Load ∷ Skip 7005 ∷ Revoke 7004 ∷ [])
       ≡ 0 ∷ 0 ∷ 0 ∷ 0 ∷ 0 ∷ 0 ∷ 0 ∷ 0 ∷ 0 ∷ 0 ∷ 7 ∷ 0 ∷ 0 ∷ []
   pub nothing-brought : map (does held) (PowerOn ∷ Configured ∷ Fault ∷ Press ∷ []) ≡ replicate 4 (accept unchanged)
   -- "Power off returns to fresh.", and writes the packet 68 of it alone
   pub power-off : does held PowerOff >>= judge held PowerOff (replicate 19 0)
       ≡ accept (record { engine = fresh; packets = packet68 (record { nidc = 0; nidsp = 0; offset = 16777215; speed = 0; operational = 0xFFFFFFFF }) 0 128 ∷ [] })
   -- "the 62s as they arise": 7002 departs, 7003 is passed, 7004 is reached
-  pub report : reportedIn held (carried (PositionReport (at 5 6))) (record { progress = progress 3 true; from = 2; departed = true; reached = true; «placed_before» = true; «placed_after» = true })
+  pub report : reportedIn held (carried (PositionReport (at 5 6))) (reporting (progress 3 true) 2 true true)
       ≡ record {
         journey = kept;
         train = train 5 6 400;
@@ -186,11 +202,11 @@ pub record Anchors : Type 0 where
         reached = true;
       }
   -- at a stop that was reached before, no point became reached
-  pub standing-still : reportedIn held (carried (PositionReport (at 5 6))) (record { progress = progress 1 true; from = 1; departed = false; reached = false; «placed_before» = true; «placed_after» = true }) .reached ≡ false
+  pub standing-still : reportedIn held (carried (PositionReport (at 5 6))) (reporting (progress 1 true) 1 false false) .reached ≡ false
   -- "13 journey segment that is in the book, offset defined and beyond its length"
   pub row-13 : map (λ (offset : ℕ). refusal (does held (PositionReport (at offset 6)))) (100000 ∷ 100001 ∷ 16777214 ∷ 16777215 ∷ []) ≡ 0 ∷ 13 ∷ 13 ∷ 0 ∷ []
   -- of the new position, not of the one that is held
-  pub row-13-held : refusal (does (engine journey skips (train 100001 7 400) (progress 1 false) (inputs 1 2 20) (control 3 false true)) (PositionReport (at 100000 6))) ≡ 0
+  pub row-13-held : refusal (does tooFar (PositionReport (at 100000 6))) ≡ 0
   -- "Load, judged on the new journey and book with no driver skip": 8003 has d > R, 8004 not; "Driver skips are cleared."
   pub loaded : loadedIn (inState 3 (progress 1 true)) (carried Load) loading
       ≡ record {
@@ -204,15 +220,17 @@ pub record Anchors : Type 0 where
         reached = false;
       }
   -- "65 on an accepted load: NID_C (1,024 unless the position is known)", known by the new journey; "points that a load puts behind write none"
-  pub first-load : stepBy (engine noRoute noSkips (train 15000 7 400) (progress 0 false) (inputs 1 2 20) (control 3 false true)) Load (loadedIn held (carried Load) loading) .packets
+  pub first-load : stepBy unloaded Load (loadedIn unloaded (carried Load) loading) .packets
       ≡ packet65 (header 15000 7 0x9ABCDEF0) ∷ packet68 (header 15000 7 0x9ABCDEF0) 2 252 ∷ []
   -- "14 no stop of that name; 15 point reached or passed, driver skip already given, or no driver skip to revoke (a trackside skip counts for neither)":
   -- 7001 is passed, 7002 skipped by trackside, 7003 no stop, 7004 skipped by the driver, 7005 a stop ahead
   pub skips-given : map (λ (t : ℕ). refusal (does held (Skip t))) (7001 ∷ 7002 ∷ 7003 ∷ 7004 ∷ 7005 ∷ 7006 ∷ []) ≡ 15 ∷ 0 ∷ 14 ∷ 15 ∷ 0 ∷ 14 ∷ []
   pub skips-revoked : map (λ (t : ℕ). refusal (does held (Revoke t))) (7001 ∷ 7002 ∷ 7003 ∷ 7004 ∷ 7005 ∷ 7006 ∷ []) ≡ 15 ∷ 15 ∷ 14 ∷ 0 ∷ 15 ∷ 14 ∷ []
   -- 7005 ahead, targeted, reached, passed; 7004 likewise
-  pub skip-ahead : map (λ (p : Progress). refusal (does (inState 3 p) (Skip 7005))) (progress 3 true ∷ progress 4 false ∷ progress 4 true ∷ progress 5 false ∷ []) ≡ 0 ∷ 0 ∷ 15 ∷ 15 ∷ []
-  pub revoke-ahead : map (λ (p : Progress). refusal (does (inState 3 p) (Revoke 7004))) (progress 2 true ∷ progress 3 false ∷ progress 3 true ∷ progress 4 false ∷ []) ≡ 0 ∷ 0 ∷ 15 ∷ 15 ∷ []
+  pub skip-ahead : map (λ (p : Progress). refusal (does (inState 3 p) (Skip 7005))) (progress 3 true ∷ progress 4 false ∷ progress 4 true ∷ progress 5 false ∷ [])
+      ≡ 0 ∷ 0 ∷ 15 ∷ 15 ∷ []
+  pub revoke-ahead : map (λ (p : Progress). refusal (does (inState 3 p) (Revoke 7004))) (progress 2 true ∷ progress 3 false ∷ progress 3 true ∷ progress 4 false ∷ [])
+      ≡ 0 ∷ 0 ∷ 15 ∷ 15 ∷ []
   -- "5 driver skip, 6 skip revoked"
   pub given : does held (Skip 7005) ≡ accept (skipping 4 true 5)
   pub revoked : does held (Revoke 7004) ≡ accept (skipping 3 false 6)
@@ -221,17 +239,27 @@ pub record Anchors : Type 0 where
       ≡ skips ∷ replicate 64 false ∷ replicate 64 false ∷ (false ∷ false ∷ false ∷ true ∷ true ∷ []) ∷ replicate 5 false ∷ []
   pub route-after : map (routeAfter held) (kept ∷ cleared ∷ replaced another ∷ skipSet 4 true ∷ []) ≡ journey ∷ noRoute ∷ another ∷ journey ∷ []
   -- the engine with an effect's values
-  pub stores : stored held (record { journey = replaced another; train = train 5 6 9; progress = progress 4 true; inputs = inputs 0 1 31; control = control 4 true false; loaded = some head; changes = []; reached = false })
+  pub stores : stored held (record {
+    journey = replaced another;
+    train = train 5 6 9;
+    progress = progress 4 true;
+    inputs = inputs 0 1 31;
+    control = control 4 true false;
+    loaded = some head;
+    changes = [];
+    reached = false;
+  })
       ≡ engine another noSkips (train 5 6 9) (progress 4 true) (inputs 0 1 31) (control 4 true false)
   -- conditions 2 to 8 with reports 20, the End of Journey being the third point of five: none passed, it is targeted, reached, passed; all passed
-  pub nine : map (λ (p : Progress). conditionsIn (inState 3 p)) (progress 0 false ∷ progress 2 false ∷ progress 2 true ∷ progress 3 false ∷ progress 5 false ∷ []) ≡ 252 ∷ 252 ∷ 248 ∷ 248 ∷ 240 ∷ []
+  pub nine : map (λ (p : Progress). conditionsIn (inState 3 p)) (progress 0 false ∷ progress 2 false ∷ progress 2 true ∷ progress 3 false ∷ progress 5 false ∷ [])
+      ≡ 252 ∷ 252 ∷ 248 ∷ 248 ∷ 240 ∷ []
   pub status : statusIn held ≡ record { state = 3; conditions = 252; speed = 7 }
   -- "Q_EOJ_REACHED (after that change; 0 once the End of Journey is reached or passed, else 1)": the standing of the third point, whichever changed
-  pub told : map (changeIn (held .load)) (change 1 0 (progress 2 false) ∷ change 2 0 (progress 3 false) ∷ change 2 1 (progress 2 true) ∷ change 4 5 (progress 1 true) ∷ [])
+  pub told : map (changeIn (held .load))
+      (change 1 0 (progress 2 false) ∷ change 2 0 (progress 3 false) ∷ change 2 1 (progress 2 true) ∷ change 4 5 (progress 1 true) ∷ [])
       ≡ pointChange 1 0 true ∷ pointChange 2 0 false ∷ pointChange 2 1 false ∷ pointChange 4 5 true ∷ []
   -- "EG: .. else not O or not T: DE", by the conditions after the points moved: the End of Journey is passed
-  pub end-in-EG : does (engine journey skips (train 29999 7 400) (progress 2 false) (inputs 1 0 31) (control 5 false true)) (PositionReport (at 30001 9))
-      >>= judge (engine journey skips (train 29999 7 400) (progress 2 false) (inputs 1 0 31) (control 5 false true)) (PositionReport (at 30001 9)) (replicate 44 0)
+  pub end-in-EG : does engaged (PositionReport (at 30001 9)) >>= judge engaged (PositionReport (at 30001 9)) (replicate 44 0)
       ≡ accept (record {
         engine = engine journey skips (train 30001 9 400) (progress 3 false) (inputs 1 0 31) (control 6 false true);
         packets = packet62 (header 30001 9 0x12345678) 7003 0 0 ∷ packet68 (header 30001 9 0x12345678) 6 507 ∷ [];
@@ -240,11 +268,14 @@ pub record Anchors : Type 0 where
   pub row-16 : map (λ (n : ℕ). refusal (judged held (call (4 ∷ []) n))) (0 ∷ 18 ∷ 19 ∷ 20 ∷ []) ≡ 16 ∷ 16 ∷ 0 ∷ 0 ∷ []
   pub row-16-two : map (λ (n : ℕ). refusal (judged held (call (skip 7005) n))) (25 ∷ 43 ∷ 44 ∷ []) ≡ 16 ∷ 16 ∷ 0 ∷ []
   -- "1 empty ..; 2 field out of range", "3 NP and kind not 1", before what follows; power on, accepted, would write a 68
-  pub in-NP : refusals 0 ([] ∷ (5 ∷ 32 ∷ []) ∷ (2 ∷ []) ∷ (3 ∷ []) ∷ (8 ∷ []) ∷ (11 ∷ []) ∷ beyondEnd ∷ skip 7006 ∷ (1 ∷ []) ∷ []) ≡ 1 ∷ 2 ∷ 3 ∷ 3 ∷ 3 ∷ 3 ∷ 3 ∷ 3 ∷ 16 ∷ []
+  pub in-NP : refusals 0 ([] ∷ (5 ∷ 32 ∷ []) ∷ (2 ∷ []) ∷ (3 ∷ []) ∷ (8 ∷ []) ∷ (11 ∷ []) ∷ beyondEnd ∷ skip 7006 ∷ (1 ∷ []) ∷ [])
+      ≡ 1 ∷ 2 ∷ 3 ∷ 3 ∷ 3 ∷ 3 ∷ 3 ∷ 3 ∷ 16 ∷ []
   -- "5 FA and kind not 3 (kind 1: 4)"
-  pub in-FA : refusals 7 ([] ∷ (5 ∷ 32 ∷ []) ∷ (1 ∷ []) ∷ (2 ∷ []) ∷ (8 ∷ []) ∷ (11 ∷ []) ∷ beyondEnd ∷ skip 7006 ∷ (3 ∷ []) ∷ []) ≡ 1 ∷ 2 ∷ 4 ∷ 5 ∷ 5 ∷ 5 ∷ 5 ∷ 5 ∷ 16 ∷ []
+  pub in-FA : refusals 7 ([] ∷ (5 ∷ 32 ∷ []) ∷ (1 ∷ []) ∷ (2 ∷ []) ∷ (8 ∷ []) ∷ (11 ∷ []) ∷ beyondEnd ∷ skip 7006 ∷ (3 ∷ []) ∷ [])
+      ≡ 1 ∷ 2 ∷ 4 ∷ 5 ∷ 5 ∷ 5 ∷ 5 ∷ 5 ∷ 16 ∷ []
   -- "6 kind 2 outside CO, kind 8 outside RE"; then 7, 13, 14, 15; 16 only where a packet is due, and reports 20 change nothing
-  pub in-NA : refusals 2 ((1 ∷ []) ∷ (2 ∷ []) ∷ (8 ∷ []) ∷ (11 ∷ []) ∷ beyondEnd ∷ skip 7006 ∷ skip 7001 ∷ skip 7005 ∷ (5 ∷ 20 ∷ []) ∷ []) ≡ 4 ∷ 6 ∷ 6 ∷ 7 ∷ 13 ∷ 14 ∷ 15 ∷ 16 ∷ 0 ∷ []
+  pub in-NA : refusals 2 ((1 ∷ []) ∷ (2 ∷ []) ∷ (8 ∷ []) ∷ (11 ∷ []) ∷ beyondEnd ∷ skip 7006 ∷ skip 7001 ∷ skip 7005 ∷ (5 ∷ 20 ∷ []) ∷ [])
+      ≡ 4 ∷ 6 ∷ 6 ∷ 7 ∷ 13 ∷ 14 ∷ 15 ∷ 16 ∷ 0 ∷ []
   pub in-CO : refusals 1 ((2 ∷ []) ∷ (8 ∷ []) ∷ []) ≡ 16 ∷ 6 ∷ []
   pub in-RE : refusals 4 ((2 ∷ []) ∷ (8 ∷ []) ∷ []) ≡ 6 ∷ 16 ∷ []
   -- where a point stands: 3 passed, 2 reached, 1 targeted, 0 not used and where there is no such point
