@@ -2,3 +2,4 @@ pub mod Computed
 pub mod Trials
 pub mod Rows
 pub mod Sizes
+pub mod Anchors

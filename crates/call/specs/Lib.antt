@@ -5,3 +5,4 @@ pub mod Call
 pub mod Shown
 pub mod View
 pub mod Trials
+pub mod Anchors

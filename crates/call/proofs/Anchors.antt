@@ -1,0 +1,46 @@
+-- The anchors, by computation.
+use mathlib.Core.Path.{refl}
+use Rattle.call.proofs.Computed.{computed}
+use Rattle.call.specs.Shown.{standingsIn}
+use Rattle.call.specs.Anchors.{Anchors}
+
+pub anchors : Anchors
+unfolding computed standingsIn
+anchors = record {
+  inputs-with = refl;
+  train-with = refl;
+  ignored = refl;
+  nothing-brought = refl;
+  power-off = refl;
+  report = refl;
+  standing-still = refl;
+  row-13 = refl;
+  row-13-held = refl;
+  loaded = refl;
+  first-load = refl;
+  skips-given = refl;
+  skips-revoked = refl;
+  skip-ahead = refl;
+  revoke-ahead = refl;
+  given = refl;
+  revoked = refl;
+  skips-after = refl;
+  route-after = refl;
+  stores = refl;
+  nine = refl;
+  status = refl;
+  told = refl;
+  end-in-EG = refl;
+  row-16 = refl;
+  row-16-two = refl;
+  in-NP = refl;
+  in-FA = refl;
+  in-NA = refl;
+  in-CO = refl;
+  in-RE = refl;
+  stands = refl;
+  stands-past = refl;
+  shows = refl;
+  shows-fresh = refl;
+  answers = refl;
+}
