@@ -3,7 +3,7 @@ use Prim.Native.Nat.{ℕ, zero, suc, _+_, _≤_, _<_}
 use mathlib.Core.Path.{_≡_, refl, subst}
 use mathlib.Core.List.{List, [], _∷_, map}
 use mathlib.Core.Bool.{Bool, true, false, cond, not, _||_}
-use mathlib.Core.Option.{Option}
+use mathlib.Core.Option.{Option, none, some}
 use native.Mathlib.Omega.{arith}
 use lib.ListN.{length, getD}
 use lib.Dec.{eqb}
@@ -17,13 +17,14 @@ use Rattle.engine_value.specs.Engine.{max4, blankSegment, blankPoint}
 use Rattle.engine_value.specs.declared.Segment.{Segment}
 use Rattle.engine_value.specs.declared.Point.{Point}
 use Rattle.segment_record.specs.Record.{BookPoint, BookSegment}
+use Rattle.book.specs.Book.{isSome}
 use Rattle.book.specs.Table.{bookOf}
 use Rattle.journey.specs.Journey.{blankName, JourneyValue, journeyValue}
 use Rattle.journey.proofs.Filling.{filled-length, filled-at}
 use Rattle.journey.proofs.Accepted.{NameFits, JourneyPointFits, HeadFits, JourneyFits, journey-fits}
 use Rattle.journey.specs.declared.Name.{Name}
 use Rattle.journey.specs.declared.JourneyPoint.{JourneyPoint}
-use Rattle.route.specs.Placing.{recordOf, segmentOf, nameAt, segmentAt, segmentsOf, recordPoint, placeOn, reachOn, pointOf, pointAt, pointsOf}
+use Rattle.route.specs.Placing.{recordOf, zonesOn, segmentOf, nameAt, segmentAt, segmentsOf, recordPoint, placeOn, reachOn, pointOf, pointAt, pointsOf}
 use Rattle.journey_rows.specs.Rows.{indexBeyond, nidtps, ends}
 use Rattle.route.specs.Table.{pointMissing, checked, journeyOf}
 use Rattle.journey_rows.specs.Rows.{endingOf}
@@ -39,6 +40,7 @@ pub record SegmentFits (g : Segment) : Type 0 where
   pub nidsp : g .nidsp ≤ max4
   pub length : g .length ≤ 16777214
   pub «zone_count» : g .«zone_count» ≤ 4
+  pub unbooked : g .booked ≡ false → g .«zone_count» ≡ 0
 
 -- a place is at most the sum of 40 lengths
 pub record PointFits (p : Point) : Type 0 where
@@ -65,7 +67,12 @@ pub record LoadFits (v : LoadValue) : Type 0 where
   pub starts : (k : ℕ) → getD (v .route .segments) k blankSegment .start ≤ 654311346
 
 blank-segment-fits : SegmentFits blankSegment
-blank-segment-fits = record { nidc = omega arith; nidsp = omega arith; length = omega arith; «zone_count» = omega arith }
+blank-segment-fits = record { nidc = omega arith; nidsp = omega arith; length = omega arith; «zone_count» = omega arith; unbooked = λ e. refl }
+
+-- a segment that is not in the book has no zones
+no-zones : (r : Option BookSegment) → isSome r ≡ false → length (zonesOn r) ≡ 0
+no-zones none e = refl
+no-zones (some g) e = let z : _≡_ {A = ℕ} 0 1 = cc in absurd (omega arith)
 
 blank-point-fits : PointFits blankPoint
 blank-point-fits = record { nidtp = omega arith; nidc = omega arith; alignment = omega arith; stopping = omega arith; place = omega arith; reach = omega arith }
@@ -77,7 +84,7 @@ module _ (book : List BookSegment) (sound : Sound book) where
       let n = all-at NameFits blankName (record { nidc = omega arith; nidsp = omega arith }) names k h in
       let r = recordOf book (nameAt names k) in
       let l = sound (nameAt names k .nidc) (nameAt names k .nidsp) in
-      record { nidc = n .nidc; nidsp = n .nidsp; length = length-limit r l; «zone_count» = zones-limit r l }
+      record { nidc = n .nidc; nidsp = n .nidsp; length = length-limit r l; «zone_count» = zones-limit r l; unbooked = no-zones r }
 
   segments-fit : (names : List Name) → All NameFits names → (k : ℕ) → SegmentFits (getD (segmentsOf book names) k blankSegment)
   segments-fit names h k = segments-all book names SegmentFits blank-segment-fits (λ i l. segment-fits names i h) k

@@ -1,15 +1,16 @@
 -- In every history the values that conditions and packets look at are within their ranges: each was read with its range, or is fresh.
 use mathlib.Core.Path.{_≡_, refl}
 use mathlib.Core.Bool.{Bool, true, false, false≢true}
-use mathlib.Core.List.{[], _∷_}
+use mathlib.Core.List.{List, [], _∷_}
 use mathlib.Core.Option.{Option, none, some}
 use Prim.Native.Nat.{ℕ, zero, suc, _≤_, _<_}
 use native.Mathlib.Omega.{arith}
-use lib.ListN.{getD, replicate}
+use lib.ListN.{getD, replicate, take}
 use Rattle.wire.specs.Numbers.{if_then_else_}
 use Rattle.wire.specs.Judged.{Judged}
 use Rattle.wire.specs.Judged.Judged.{refuse, accept}
-use Rattle.engine_value.specs.Engine.{Route, noRoute, freshPosition, blankPoint, max4}
+use Rattle.engine_value.specs.Engine.{Route, noRoute, freshPosition, blankPoint, blankSegment, max4}
+use Rattle.engine_value.specs.declared.Segment.{Segment}
 use Rattle.engine_value.specs.declared.Position.{Position}
 use Rattle.event.specs.Events.{eventOf}
 use Rattle.event.proofs.Accepted.{PositionFits, Fits, position-fits, event-fits}
@@ -20,6 +21,7 @@ use Rattle.event.specs.Kinds.{carried, Role, off, load, report, other, skip, ne
 use Rattle.route.specs.Route.{LoadValue, loadOf}
 use Rattle.route.proofs.Ranges.{PointFits, LoadFits, load-fits}
 use Rattle.position.specs.Position.{point, pointCount}
+use Rattle.conditions.specs.Sentences.{ZonesBooked}
 use Rattle.call_values.specs.Call.{Call}
 use Rattle.whole_list.specs.Values.{History, eventOfCall, loadOfCall, roleOfCall, latest, positionBy, routeLoaded, routeBy}
 use Rattle.whole_list.proofs.Recorded.{Ranged}
@@ -69,6 +71,7 @@ pub record RouteIn (j : Route) : Type 0 where
   pub operational : j .load .operational ≤ max4
   pub points : (k : ℕ) → PointFits (point j k)
   pub ending : j .load .valid ≡ true → j .load .ending < pointCount j
+  pub unbooked : (k : ℕ) → getD (j .segments) k blankSegment .booked ≡ false → getD (j .segments) k blankSegment .«zone_count» ≡ 0
 
 blank-in : PointFits blankPoint
 blank-in = record { nidtp = omega arith; nidc = omega arith; alignment = omega arith; stopping = omega arith; place = omega arith; reach = omega arith }
@@ -78,11 +81,16 @@ blanks-in zero k = blank-in
 blanks-in (suc n) zero = blank-in
 blanks-in (suc n) (suc k) = blanks-in n k
 
+no-zones-in : (n k : ℕ) → getD (replicate n blankSegment) k blankSegment .«zone_count» ≡ 0
+no-zones-in zero k = refl
+no-zones-in (suc n) zero = refl
+no-zones-in (suc n) (suc k) = no-zones-in n k
+
 none-in : RouteIn noRoute
-none-in = record { operational = omega arith; points = blanks-in 64; ending = λ v. absurd (false≢true v) }
+none-in = record { operational = omega arith; points = blanks-in 64; ending = λ v. absurd (false≢true v); unbooked = λ k e. no-zones-in 40 k }
 
 loaded-in : (l : LoadValue) → LoadFits l → RouteIn (l .route)
-loaded-in l h = record { operational = h .operational; points = h .points; ending = λ v. omega (arith, h .ending, h .most-points) }
+loaded-in l h = record { operational = h .operational; points = h .points; ending = λ v. omega (arith, h .ending, h .most-points); unbooked = λ k. h .segments k .unbooked }
 
 pub route-in : (h : History) → RouteIn (routeBy h)
 unfolding routeBy
@@ -100,6 +108,17 @@ route-in (c ∷ h) = go (roleOfCall c) (route-in h)
     go report k = k
     go other k = k
     go (skip t on) k = k
+
+-- of the journey's segments, those that are not in the book have no zones
+unbooked-among : (n : ℕ) (l : List Segment) → ((k : ℕ) → getD l k blankSegment .booked ≡ false → getD l k blankSegment .«zone_count» ≡ 0)
+    → (k : ℕ) → getD (take n l) k blankSegment .booked ≡ false → getD (take n l) k blankSegment .«zone_count» ≡ 0
+unbooked-among zero l h k e = refl
+unbooked-among (suc n) [] h k e = refl
+unbooked-among (suc n) (s ∷ l) h zero e = h 0 e
+unbooked-among (suc n) (s ∷ l) h (suc k) e = unbooked-among n l (λ i. h (suc i)) k e
+
+pub zones-booked : (h : History) → ZonesBooked (routeBy h)
+zones-booked h = let j = routeBy h in unbooked-among (j .load .«segment_count») (j .segments) (route-in h .unbooked)
 
 -- ---- both
 

@@ -35,6 +35,7 @@ use Rattle.whole_list.specs.Table.{packetsBy, answerBy, tableBy}
 use Rattle.whole_list.specs.Calls.{play, engineAfter, trace, withAccepted, acceptedIn, historyOf, laterAnswer, lastAnswer, keep, acceptedCalls}
 use Rattle.whole_list.specs.Recorded.{bytesWritten, packetsAfter, newest, lastStatus}
 use Rattle.whole_list.specs.WholeList.{EngagedExactly, PointsStand, bytesOfEach, StatusPacket, StatusWritten, JudgedByTable, WholeList, NothingAhead, NoTrace, RequestExactly}
+use Rattle.whole_list.proofs.Decoded.{zones-booked}
 use Rattle.whole_list.proofs.Fields.{skipsOf, progressRun, engineOf, stands-at}
 use Rattle.whole_list.proofs.FieldsControl.{conditions-in}
 use Rattle.whole_list.proofs.TableRows.{ruled, judged-is}
@@ -237,7 +238,7 @@ whole-list calls =
       status = claim-status _ _ _ _ k;
       judged = λ earlier c later e. claim-judged _ _ c (kept earlier .seen);
       request = ap (λ x. x .control .request) (k .seen);
-      as-ruled = record { stands = stands-exactly (historyOf calls); became = saw (historyOf calls) };
+      as-ruled = record { stands = stands-exactly (historyOf calls); became = saw (historyOf calls); zones = zones-booked (historyOf calls) };
       shown = rw (k .seen) (shown-by (historyOf calls));
     }
 

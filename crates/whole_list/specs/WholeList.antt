@@ -20,6 +20,7 @@ use Rattle.timing.specs.Distance.{beyond}
 use Rattle.position.specs.Standing.{standing, standingCode}
 use Rattle.timing.specs.Changes.{statusPassed}
 use Rattle.position.specs.declared.Standing.{Standing}
+use Rattle.conditions.specs.Sentences.{ZonesBooked}
 use Rattle.state_codes.specs.Codes.{code}
 use Rattle.states.specs.States.{wanted}
 use Rattle.state_codes.specs.declared.EtcsMode.the-variants.{Other}
@@ -82,6 +83,8 @@ pub record AsRuled (h : History) : Type 0 where
   pub stands : (k : ℕ) (s : Standing) → (standingBy h k ≡ s) ↔ StandsBy h k s
   -- "A point became reached at a report if the history rule has it so after, not before, that report", which is the last event of the history
   pub became : (becameReachedBy h ≡ true) ↔ JustReached h
+  -- condition 7 by its sentence (conditions/Sentences): what is not in the book has no zones
+  pub zones : ZonesBooked (routeBy h)
 
 -- 6. what the host's calls show of the engine
 pub record ShownBy (s : Shown) (h : History) : Type 0 where
