@@ -34,7 +34,8 @@ module _ (b : Book) (i : ℕ) where
   entries-none h = left-none blankEntry (min (b .count) maxSegments) i (b .entries) h
 
 -- the keys stand at the front of their array
-pub keys-first : (b : Book) (keys : List ℕ) (n : ℕ) → Keyed (entriesView b) keys → (n ≡ min (b .count) maxSegments) × (length (b .entries) ≡ maxSegments) → take n keys ≡ map entryKey (entriesView b)
+pub keys-first : (b : Book) (keys : List ℕ) (n : ℕ) → Keyed (entriesView b) keys
+    → (n ≡ min (b .count) maxSegments) × (length (b .entries) ≡ maxSegments) → take n keys ≡ map entryKey (entriesView b)
 keys-first b keys n k e =
     let h : length (map entryKey (entriesView b)) ≡ n = length-map (entriesView b) entryKey ∙ length-take (min (b .count) maxSegments) (b .entries) ∙ omega (arith, e .0, e .1) in
     ap (take n) (k .each) ∙ ap (λ (m : ℕ). take m (filled maxSegments 0 (map entryKey (entriesView b)))) (sym h)

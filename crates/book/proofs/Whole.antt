@@ -99,7 +99,8 @@ held-first gs n c h =
     ap (λ (k : ℕ). take k (filled 40 blankEntry (entriesAt 0 gs))) m ∙ filled-take 40 blankEntry (entriesAt 0 gs) (omega (arith, c, h, entries-length 0 gs))
 
 -- the entries stand for the records
-records-seen : (k : ℕ) (s : List ℕ) (at : ℕ) (gs : List BookSegment) (r : List ℕ) → records k (drop at s) ≡ good gs r → map (entryView s) (entriesAt at gs) ≡ gs
+records-seen : (k : ℕ) (s : List ℕ) (at : ℕ) (gs : List BookSegment) (r : List ℕ) → records k (drop at s) ≡ good gs r
+    → map (entryView s) (entriesAt at gs) ≡ gs
 unfolding records
 records-seen zero s at gs r = λ e. let z : _≡_ {A = ℕ} 0 1 = cc in absurd (omega arith)
 records-seen (suc k) s at gs r = go (eqb (length (drop at s)) 0) (λ p rest. records-seen k s p rest r)
@@ -131,7 +132,8 @@ module _ (s : List ℕ) where
   pub read-start : (es : List Entry) → es ≡ replicate 40 blankEntry → ReadTo s 0 0 es []
   read-start es e = record { all = before-none (allRecords s); here = refl; listed = record { count = refl; array = e } }
 
-  pub read-step : (p n : ℕ) (es es′ : List Entry) (gs : List BookSegment) (e : Entry) (q : ℕ) → ReadTo s p n es gs → (t : SegmentTold s p e q) → es′ ≡ set es n e
+  pub read-step : (p n : ℕ) (es es′ : List Entry) (gs : List BookSegment) (e : Entry) (q : ℕ) → ReadTo s p n es gs → (t : SegmentTold s p e q)
+      → es′ ≡ set es n e
       → ReadTo s q (n + 1) es′ (gs ++ (t .segment ∷ []))
   read-step p n es es′ gs e q g t x =
       let h = t .segment in

@@ -32,7 +32,8 @@ module _ (s : List ℕ) (at w low high : ℕ) where
   pub field-told : (r v : Field) → r ≡ fieldAt at (field w low high (drop at s)) w → r ≡ v → field w low high (drop at s) ≡ fieldView s v
   field-told r v e t = sym (ap (fieldView s) e ∙ behind) ∙ ap (fieldView s) t
 
-  pub optional-told : (present : Bool) (other : ℕ) (r v : Field) → r ≡ fieldAt at (optional present other (field w low high) (drop at s)) (if present then w else 0) → r ≡ v
+  pub optional-told : (present : Bool) (other : ℕ) (r v : Field)
+      → r ≡ fieldAt at (optional present other (field w low high) (drop at s)) (if present then w else 0) → r ≡ v
       → optional present other (field w low high) (drop at s) ≡ fieldView s v
   unfolding optional fieldAt
   optional-told true other r v e t = field-told r v e t

@@ -23,7 +23,8 @@ abbrev Holds : {A : Type 0} → (A → List ℕ → Type 0) → Parse A → Type
 Holds P bad = Unit {0}
 Holds P (good a r) = P a r
 
-holds-on : {A B : Type 0} (P : B → List ℕ → Type 0) (p : Parse A) (f : A → List ℕ → Parse B) → ((a : A) (r : List ℕ) → p ≡ good a r → Holds P (f a r)) → Holds P (andThen p f)
+holds-on : {A B : Type 0} (P : B → List ℕ → Type 0) (p : Parse A) (f : A → List ℕ → Parse B)
+    → ((a : A) (r : List ℕ) → p ≡ good a r → Holds P (f a r)) → Holds P (andThen p f)
 holds-on P bad f h = tt
 holds-on P (good a r) f h = h a r refl
 
@@ -57,7 +58,8 @@ record-stands s at =
     let y = list-read (zoneRecord len) zoneOf 8 (zone-fixed len) (bit 4 m) maxZones s (listAt (at + 11) ps + 10 * length ps) zs r₆ (ap (listed (bit 4 m) maxZones (zoneRecord len)) (sym (x .rest)) ∙ e₆) in
     (λ i. record { nidc = c; nidsp = sp; length = len; points = sym (x .values) i; zones = sym (y .values) i }, y .rest)))))))
   where
-    head : (s : List ℕ) (at : ℕ) (r₁ r₂ r₃ r₄ : List ℕ) → r₁ ≡ drop 1 (drop at s) → r₂ ≡ drop 2 r₁ → r₃ ≡ drop 4 r₂ → r₄ ≡ drop 4 r₃ → r₄ ≡ drop (at + 11) s
+    head : (s : List ℕ) (at : ℕ) (r₁ r₂ r₃ r₄ : List ℕ) → r₁ ≡ drop 1 (drop at s) → r₂ ≡ drop 2 r₁ → r₃ ≡ drop 4 r₂ → r₄ ≡ drop 4 r₃
+        → r₄ ≡ drop (at + 11) s
     head s at r₁ r₂ r₃ r₄ a b c d =
         let z : at + 1 + 2 + 4 + 4 ≡ at + 11 = omega arith in
         d ∙ ap (drop 4) (c ∙ ap (drop 4) (b ∙ ap (drop 2) (a ∙ drop-drop 1 at s) ∙ drop-drop 2 (at + 1) s) ∙ drop-drop 4 (at + 1 + 2) s) ∙ drop-drop 4 (at + 1 + 2 + 4) s ∙ ap (λ (x : ℕ). drop x s) z
@@ -80,11 +82,13 @@ pub record SegmentTold (s : List ℕ) (at : ℕ) (e : Entry) (next : ℕ) : Type
   pub end : next ≡ endAt at segment
   pub view : entryView s e ≡ segment
 
-pub segment-told : (s : List ℕ) (at : ℕ) (r : SegmentRead) (e : Entry) (next : ℕ) → r ≡ segmentAt at (segmentRecord (drop at s)) → r ≡ SegmentRead.Record e next → SegmentTold s at e next
+pub segment-told : (s : List ℕ) (at : ℕ) (r : SegmentRead) (e : Entry) (next : ℕ) → r ≡ segmentAt at (segmentRecord (drop at s))
+    → r ≡ SegmentRead.Record e next → SegmentTold s at e next
 unfolding segmentAt
 segment-told s at r e next = go (segmentRecord (drop at s)) refl (record-stands s at)
   where
-    go : (x : Parse BookSegment) → segmentRecord (drop at s) ≡ x → Holds (Stands s at) x → r ≡ segmentAt at x → r ≡ SegmentRead.Record e next → SegmentTold s at e next
+    go : (x : Parse BookSegment) → segmentRecord (drop at s) ≡ x → Holds (Stands s at) x → r ≡ segmentAt at x → r ≡ SegmentRead.Record e next
+        → SegmentTold s at e next
     go bad q h a t = let z : _≡_ {A = ℕ} 0 1 = cc in absurd (omega arith)
     go (good g l) q h a t =
         let x : e ≡ entryAt at g = cc in

@@ -70,7 +70,8 @@ module _ {A : Type 0} where
   ends-bad at size bad r e t = refl
   ends-bad at size (good a l) r e t = let z : _≡_ {A = ℕ} 0 1 = cc in absurd (omega arith)
 
-  pub ends-told : (at size : ℕ) (x : Parse A) (r : Ends) (next : ℕ) → r ≡ endsAt at x size → r ≡ Ends.At next → (next ≡ at + size) × (a : A) × (l : List ℕ) × (x ≡ good a l)
+  pub ends-told : (at size : ℕ) (x : Parse A) (r : Ends) (next : ℕ) → r ≡ endsAt at x size → r ≡ Ends.At next
+      → (next ≡ at + size) × (a : A) × (l : List ℕ) × (x ≡ good a l)
   unfolding endsAt
   ends-told at size bad r next e t = let z : _≡_ {A = ℕ} 0 1 = cc in absurd (omega arith)
   ends-told at size (good a l) r next e t = (cc, a, l, refl)
@@ -91,7 +92,8 @@ module _ {A : Type 0} (p : Reader A) (n at size : ℕ) where
   pub pass-start : (l : List ℕ) → endsAt at (many n p l) size ≡ endsAt at (many (n - 0) p l) size
   pass-start l = let e : n - 0 ≡ n = omega arith in rw e
 
-  pub pass-step : (i : ℕ) (l r : List ℕ) (a : A) → i < n → p l ≡ good a r → endsAt at (many (n - i) p l) size ≡ endsAt at (many (n - (i + 1)) p r) size
+  pub pass-step : (i : ℕ) (l r : List ℕ) (a : A) → i < n → p l ≡ good a r
+      → endsAt at (many (n - i) p l) size ≡ endsAt at (many (n - (i + 1)) p r) size
   unfolding many
   pass-step i l r a h g = let e : n - i ≡ suc (n - (i + 1)) = omega arith in rw (e, g) (end-cons a (many (n - (i + 1)) p r))
 
@@ -144,7 +146,8 @@ module _ {A : Type 0} (p : Reader A) (v : List ℕ → A) (k : ℕ) (fixed : Fix
     rest = t .1 ∙ drop-drop (k * n) (at + 1) s ∙ ap (λ (m : ℕ). drop (at + 1 + k * m) s) (sym c);
   }
 
-  pub list-read : (present : Bool) (high : ℕ) (s : List ℕ) (at : ℕ) (xs : List A) (r : List ℕ) → listed present high p (drop at s) ≡ good xs r → ListRead s at xs r
+  pub list-read : (present : Bool) (high : ℕ) (s : List ℕ) (at : ℕ) (xs : List A) (r : List ℕ) → listed present high p (drop at s) ≡ good xs r
+      → ListRead s at xs r
   unfolding listed counted
   list-read false high s at xs r e =
       let q : xs ≡ [] = cc in
@@ -165,7 +168,8 @@ module _ {A : Type 0} (p : Reader A) (v : List ℕ → A) (k : ℕ) (fixed : Fix
     pub from : q ≡ listAt at list
     pub end : next ≡ listAt at list + k * length list
 
-  pub list-told : (present : Bool) (high : ℕ) (s : List ℕ) (at n q next : ℕ) (r : Items) → r ≡ itemsAt at (listed present high p (drop at s)) k → r ≡ Items.Read n q next
+  pub list-told : (present : Bool) (high : ℕ) (s : List ℕ) (at n q next : ℕ) (r : Items) → r ≡ itemsAt at (listed present high p (drop at s)) k
+      → r ≡ Items.Read n q next
       → ListTold (listed present high p (drop at s)) s at n q next
   unfolding itemsAt
   list-told present high s at n q next r = go (listed present high p (drop at s)) refl
@@ -191,11 +195,13 @@ module _ {A : Type 0} (p : Reader A) (high at size : ℕ) (s : List ℕ) where
   unfolding listed counted itemsAt
   list-count e = rw e
 
-  pub list-items : (n : ℕ) (l : List ℕ) → field 1 1 high (drop at s) ≡ good n l → many n p l ≡ bad → itemsAt at (listed true high p (drop at s)) size ≡ Items.Bad
+  pub list-items : (n : ℕ) (l : List ℕ) → field 1 1 high (drop at s) ≡ good n l → many n p l ≡ bad
+      → itemsAt at (listed true high p (drop at s)) size ≡ Items.Bad
   unfolding listed counted itemsAt
   list-items n l e f = rw (e, f)
 
-  pub list-whole : (n : ℕ) (l : List ℕ) (xs : List A) (r : List ℕ) (q next : ℕ) → field 1 1 high (drop at s) ≡ good n l → many n p l ≡ good xs r → q ≡ at + 1 → next ≡ q + size * n
+  pub list-whole : (n : ℕ) (l : List ℕ) (xs : List A) (r : List ℕ) (q next : ℕ) → field 1 1 high (drop at s) ≡ good n l → many n p l ≡ good xs r
+      → q ≡ at + 1 → next ≡ q + size * n
       → Items.Read n q next ≡ itemsAt at (listed true high p (drop at s)) size
   unfolding listed counted itemsAt
   list-whole n l xs r q next e f a b = rw (e, f) (go xs (many-length p n l xs r f))
