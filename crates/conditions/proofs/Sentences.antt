@@ -66,7 +66,8 @@ module _ (j : Route) (standing : ℕ → Standing) where
           go true q = let h : pointCount j ≤ k = leb-true _ _ q in inr (λ i l. first .2 i (omega arith) (omega arith))
           go false q =
               let h : k < pointCount j = leb-false _ _ q in
-              inl (k, record { in-journey = h; not-passed = first .3 h; passed-before = λ i l. first .2 i (omega arith) l }, or-right _ _ (and-right (j .load .valid) _ e) q)
+              let f : FirstNotPassed j standing k = record { in-journey = h; not-passed = first .3 h; passed-before = λ i l. first .2 i (omega arith) l } in
+              inl (k, f, or-right _ _ (and-right (j .load .valid) _ e) q)
 
       same : (f : ℕ) → FirstNotPassed j standing f → k ≡ f
       same f h =
@@ -100,7 +101,8 @@ module _ (j : Route) (x : Position) where
   at-located e =
       let r = and-right (offsetDefined x) _ e in
       let (k, h) = found-at j x (and-left (segmentNamed j x .found) _ r) in
-      let far : tooFar x (named (x .offset) (segment j k)) ≡ false = ap (tooFar x) (sym (named-at j x k h)) ∙ not-true _ (and-right (segmentNamed j x .found) _ r) in
+      let near = not-true _ (and-right (segmentNamed j x .found) _ r) in
+      let far : tooFar x (named (x .offset) (segment j k)) ≡ false = ap (tooFar x) (sym (named-at j x k h)) ∙ near in
       (k, record { offset-defined = eqb-false _ _ (not-true _ (and-left (offsetDefined x) _ e)); its-segment = h; not-beyond = λ b. within k b far })
     where
       within : (k : ℕ) → segment j k .booked ≡ true → tooFar x (named (x .offset) (segment j k)) ≡ false → x .offset ≤ segment j k .length
@@ -159,4 +161,9 @@ module _ (j : Route) (x : Position) where
           not-below i h = omega arith
 
 pub sentences : Sentences
-sentences = record { condition-4 = condition-4; condition-6 = λ j x. (at-located j x, λ h. located-at j x (h .0) (h .1)); condition-7 = condition-7; condition-7-booked = condition-7-booked }
+sentences = record {
+  condition-4 = condition-4;
+  condition-6 = λ j x. (at-located j x, λ h. located-at j x (h .0) (h .1));
+  condition-7 = condition-7;
+  condition-7-booked = condition-7-booked;
+}

@@ -80,10 +80,13 @@ module _ (j : Route) (x : Position) where
   pub found-at : segmentNamed j x .found ≡ true → (k : ℕ) × IsNamed j x k
   found-at e =
       let (k, h) = first-hit (bears (x .nidc) (x .nidsp)) (x .offset) (listed j) e in
-      (k, record { in-journey = h .there; bears-name = bears-true x (segment j k) (h .holds); none-before = λ i q b. false≢true (sym (h .none-before i q) ∙ true-bears x (segment j i) b) })
+      let none : (i : ℕ) → i < k → ¬ Bears x (segment j i) = λ i q b. false≢true (sym (h .none-before i q) ∙ true-bears x (segment j i) b) in
+      (k, record { in-journey = h .there; bears-name = bears-true x (segment j k) (h .holds); none-before = none })
 
   known-front : (k : ℕ) → KnownIn j x k → frontAt j x ≡ Known (segment j k .start + x .offset)
-  known-front k h = ap (λ s. front s x) (named-at k (h .its-segment)) ∙ by-within (named (x .offset) (segment j k)) x (h .offset-defined) refl (h .segment-placed) (h .within)
+  known-front k h =
+      ap (λ s. front s x) (named-at k (h .its-segment))
+      ∙ by-within (named (x .offset) (segment j k)) x (h .offset-defined) refl (h .segment-placed) (h .within)
 
   -- what the test of `front` says
   tested : (s : Named) → isKnown (front s x) ≡ true → (¬ (x .offset ≡ undefined)) × (s .found ≡ true) × (s .placed ≡ true) × (x .offset ≤ s .length)
@@ -187,10 +190,19 @@ module _ (j : Route) (t : ℕ) where
           go (inl (i, (a, b, h, f), r)) = absurd (n i (stop-true i b h))
           go (inr (f, r)) = r
 
+front-is : (j : Route) (x : Position) (f : ℕ) → (frontAt j x ≡ Known f) ↔ ((k : ℕ) × KnownIn j x k × (f ≡ segment j k .start + x .offset))
+front-is j x f = (there, λ h. known-front j x (h .0) (h .1) ∙ ap Known (sym (h .2)))
+  where
+    there : frontAt j x ≡ Known f → (k : ℕ) × KnownIn j x k × (f ≡ segment j k .start + x .offset)
+    there e =
+        let (k, h) = front-known j x (ap isKnown e) in
+        let g = known-front j x k h in
+        (k, h, cc)
+
 pub sentences : Sentences
 sentences = record {
   position-known = λ j x. (front-known j x, λ h. ap isKnown (known-front j x (h .0) (h .1)));
-  front-there = λ j x f. (λ e. let (k, h) = front-known j x (ap isKnown e) in let g = known-front j x k h in (k, h, cc), λ h. known-front j x (h .0) (h .1) ∙ ap Known (sym (h .2)));
+  front-there = front-is;
   stop-there = stop-at;
   no-stop = stop-none;
 }

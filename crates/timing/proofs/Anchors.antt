@@ -84,5 +84,6 @@ anchors = record {
   rule-load-2 = refl;
   rule-load-all = refl;
   rule-load-then = refl;
+  outcome-departs = refl;
   outcomes = refl;
 }

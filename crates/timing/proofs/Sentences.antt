@@ -18,7 +18,7 @@ use Rattle.engine_value.specs.declared.Position.{Position}
 use Rattle.position.specs.Position.{pointCount, point, placed, front, frontAt, isKnown, known}
 use Rattle.position.specs.declared.Front.{Front}
 use Rattle.position.specs.declared.Front.the-variants.{Known, Unknown}
-use Rattle.timing.specs.Distance.{Report, back, distance, unskipped, margin, exceeds, stopsAt, moving}
+use Rattle.timing.specs.Distance.{Report, back, distance, unskipped, margin, exceeds, stopsAt, beyond, moving}
 use Rattle.timing.specs.Load.{unskippedReport, putBehind, targetFrom, target}
 use Rattle.timing.specs.History.{reportNumber, settles}
 use Rattle.timing.specs.Sentences.{Sentences}
@@ -35,8 +35,10 @@ module _ (f length : ℕ) (p : Point) (driver : Bool) where
   exceeds-is = ap (ltZ (pos (margin p driver))) (minus-minus f (back length (p .alignment)) (p .place)) ∙ above (margin p driver) f far
 
   beyond-margin : (exceeds f length p driver ≡ true) ↔ (p .place + back length (p .alignment) + margin p driver < f)
-  beyond-margin =
-      (λ e. let h : margin p driver + far < f = ltb-true _ _ (sym exceeds-is ∙ e) in omega arith, λ h. exceeds-is ∙ lt-ltb (margin p driver + far) f (omega arith))
+  beyond-margin = (
+    λ e. let h : margin p driver + far < f = ltb-true _ _ (sym exceeds-is ∙ e) in omega arith,
+    λ h. exceeds-is ∙ lt-ltb (margin p driver + far) f (omega arith),
+  )
 
   at-least-is : leZ (negℤ (pos (p .reach))) (distance f length p) ≡ leb far (f + p .reach)
   at-least-is = ap (leZ (negℤ (pos (p .reach)))) (minus-minus f (back length (p .alignment)) (p .place)) ∙ least (p .reach) f far
@@ -111,7 +113,9 @@ module _ (j : Route) (x : Position) (length k : ℕ) where
       there h =
           let (below, all) = below-target j r (pointCount j) 0 k (omega arith) h in
           let (f, at) = known-front (frontAt j x) (and-left (known j x) _ (all 0 (omega arith) (omega arith))) in
-          (omega arith, (f, at, λ i l. let b = and-right (known j x) _ (all i (omega arith) l) in (and-left (placed j i) _ b, sym (beyond-known j r f at i) ∙ and-right (placed j i) _ b)))
+          let each : (i : ℕ) → i ≤ k → (placed j i ≡ true) × (beyond j r i ≡ true) =
+          λ i l. let b = and-right (known j x) _ (all i (omega arith) l) in (and-left (placed j i) _ b, and-right (placed j i) _ b) in
+          (omega arith, (f, at, λ i l. (each i l .0, sym (beyond-known j r f at i) ∙ each i l .1)))
 
       back : Said → k < targetFrom j r (pointCount j) 0
       back (below, (f, at, all)) =
@@ -130,4 +134,9 @@ stand-in l (suc t) (inr h) =
     (λ j k. refl, refl)
 
 pub sentences : Sentences
-sentences = record { beyond-margin = beyond-margin; at-stop = λ f length speed p driver. at-stop f length p driver speed; load-behind = load-behind; stand-in = stand-in }
+sentences = record {
+  beyond-margin = beyond-margin;
+  at-stop = λ f length speed p driver. at-stop f length p driver speed;
+  load-behind = load-behind;
+  stand-in = stand-in;
+}

@@ -137,7 +137,7 @@ pub record Anchors : Type 0 where
   pub report-reaches : reportOf journey (two 40150 0) (targeted 1) ≡ brings (stopped 3) 1 false true true true
   pub no-report : noReport journey (targeted 4) ∷ noReport journey (stopped 0) ∷ []
       ≡ brings (targeted 4) 4 false false false false ∷ brings (stopped 0) 0 false false true true ∷ []
-  pub reports-in-turn : run journey (targeted 0) (one 39900 0 ∷ one 39901 1 ∷ two 10302 1 ∷ []) ≡ targeted 3
+  pub reports-in-turn : run journey (targeted 0) (two 10302 1 ∷ two 40150 0 ∷ []) ≡ stopped 3
   -- "status (0 passed, 1 stopped, 2 departed, 5 driver skip, 6 skip revoked)"
   pub statuses : statusPassed ∷ statusStopped ∷ statusDeparted ∷ statusSkipped ∷ statusRevoked ∷ [] ≡ 0 ∷ 1 ∷ 2 ∷ 5 ∷ 6 ∷ []
   -- "the 62s as they arise", with the progress "after that change". "A departure writes status 2 and no 0"
@@ -178,6 +178,8 @@ pub record Anchors : Type 0 where
   pub rule-load-all : stand 5 [] ≡ Passed ∷ Passed ∷ Passed ∷ Passed ∷ Passed ∷ []
   pub rule-load-then : stand 2 (one 39850 0 ∷ two 10302 1 ∷ []) ≡ Passed ∷ Passed ∷ Passed ∷ Targeted ∷ Unused ∷ []
   -- what came of a point, with the reports from its passing moment on
+  pub outcome-departs : pointOutcome journey 0 (one 39850 0 ∷ one 39900 0 ∷ one 39950 1 ∷ two 10302 1 ∷ []) 0
+      ≡ passes (one 39950 1 ∷ two 10302 1 ∷ [])
   pub outcomes : map (pointOutcome journey 1 (one 40000 0 ∷ two 10302 1 ∷ two 40150 0 ∷ [])) (0 ∷ 1 ∷ 2 ∷ 3 ∷ 4 ∷ [])
       ≡ passes (one 40000 0 ∷ two 10302 1 ∷ two 40150 0 ∷ []) ∷ passes (two 10302 1 ∷ two 40150 0 ∷ []) ∷ passes (two 10302 1 ∷ two 40150 0 ∷ [])
       ∷ reaches ∷ notLookedAt ∷ []

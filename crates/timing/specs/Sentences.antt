@@ -23,7 +23,8 @@ pub record Sentences : Type 0 where
       → (stopsAt f length speed p driver ≡ true)
       ↔ ((unskipped p driver ≡ true) × (speed ≡ 0) × (p .place + back length (p .alignment) ≤ f + p .reach))
   -- "Load, judged .. with no driver skip: the first point that is unplaced or has d ≤ margin is targeted, earlier ones passed, ..; with no known
-  -- position the first is targeted": a load puts point k behind where the position is known, and it and every point before it are placed with d > margin
+  -- position the first is targeted": a load puts point k behind where the position is known, and it and every point before it are placed with
+  -- d > margin
   pub load-behind : (j : Route) (x : Position) (length k : ℕ)
       → (k < target j x length)
       ↔ ((k < pointCount j)
