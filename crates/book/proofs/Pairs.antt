@@ -5,9 +5,8 @@ use mathlib.Core.Logic.{_↔_, _⊎_, inl, inr}
 use mathlib.Core.List.{List, [], _∷_, map}
 use mathlib.Core.Bool.{Bool, true, false, not, _&&_, _||_, false≢true}
 use native.Mathlib.Omega.{arith}
-use lib.ListN.{length, getD}
 use lib.Dec.{eqb, ltb, leb}
-use borrow.Author.Tests.{eqb-true, eq-eqb, ltb-true, lt-ltb, le-ltb, ltb-false, leb-true, le-leb}
+use borrow.Author.Tests.{eqb-true, eq-eqb, ltb-true, lt-ltb, leb-true, le-leb}
 use Rattle.wire.specs.Lists.{any, every, those, twice, falls, strictlyRises}
 use Rattle.wire.proofs.ListLaws.{and-left, and-right}
 use Rattle.book.specs.Sentences.{Some, Two}
@@ -184,5 +183,6 @@ twice-at blank same P agree l =
 -- two elements have one number
 pub number-twice : {A : Type 0} (blank : A) (f : A → ℕ) (l : List A) → (twice eqb (map f l) ≡ true) ↔ Two blank (λ a b. f a ≡ f b) l
 number-twice blank f l =
-    through (twice eqb (map f l)) (later (λ x y. eqb (f y) (f x)) l) (Two blank (λ a b. f a ≡ f b) l) (twice-later eqb (map f l) ∙ later-map f (λ x y. eqb y x) l)
+    through (twice eqb (map f l)) (later (λ x y. eqb (f y) (f x)) l) (Two blank (λ a b. f a ≡ f b) l)
+    (twice-later eqb (map f l) ∙ later-map f (λ x y. eqb y x) l)
     (two-at blank (λ x y. eqb (f y) (f x)) (λ a b. f a ≡ f b) (λ a b. equal-back (f a) (f b)) l)

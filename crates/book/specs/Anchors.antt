@@ -58,6 +58,7 @@ pub record Anchors : Type 0 where
       (segments 41 ++ (0x00 ∷ [])) ∷ (segment 17 5 ++ segment 17 5 ++ (0x00 ∷ [])) ∷ (having 17 5 (1 ∷ 1 ∷ []) ++ (0x00 ∷ [])) ∷ []
       ) ≡ refuse 7 ∷ refuse 7 ∷ refuse 7 ∷ []
   -- a segment is named by NID_C and NID_SP together
-  pub look-up : map (λ (n : ℕ × ℕ). lookup (n .0) (n .1) (value 17 5 ∷ value 18 5 ∷ value 17 6 ∷ [])) ((17, 5) ∷ (18, 5) ∷ (17, 6) ∷ (18, 6) ∷ (5, 17) ∷ [])
-      ≡ some (value 17 5) ∷ some (value 18 5) ∷ some (value 17 6) ∷ none ∷ none ∷ []
+  pub look-up : map (λ (n : ℕ × ℕ). lookup (n .0) (n .1) (value 17 5 ∷ value 18 5 ∷ value 17 6 ∷ [])) (
+      (17, 5) ∷ (18, 5) ∷ (17, 6) ∷ (18, 6) ∷ (5, 17) ∷ []
+      ) ≡ some (value 17 5) ∷ some (value 18 5) ∷ some (value 17 6) ∷ none ∷ none ∷ []
   pub found : map isSome (some (value 17 5) ∷ none ∷ []) ≡ true ∷ false ∷ []

@@ -4,9 +4,9 @@ use mathlib.Core.Path.{_≡_}
 use mathlib.Core.Logic.{_↔_, _⊎_}
 use mathlib.Core.List.{List, []}
 use mathlib.Core.Bool.{true}
+use mathlib.Core.Option.{some}
 use lib.ListN.{length, getD}
 use Rattle.wire.specs.Lists.{any, twice}
-use Rattle.wire.specs.Judged.{Judged}
 use Rattle.wire.specs.Judged.Judged.{refuse, accept}
 use Rattle.fields.specs.Parse.{read}
 use Rattle.segment_record.specs.Record.{BookPoint, BookSegment, lookupPoint}
@@ -57,3 +57,7 @@ pub record Sentences : Type 0 where
   -- the look-ups find what there is
   pub in-book : (book : List BookSegment) (c sp : ℕ) → (isSome (lookup c sp book) ≡ true) ↔ InBook book c sp
   pub in-record : (s : BookSegment) (t : ℕ) → (isSome (lookupPoint t (s .points)) ≡ true) ↔ InRecord s t
+  -- by its name, and none but one that is there
+  pub found : (book : List BookSegment) (c sp : ℕ) (s : BookSegment) → lookup c sp book ≡ some s
+      → ((s .nidc ≡ c) × (s .nidsp ≡ sp)) × Some blankRecord (λ g. g ≡ s) book
+  pub found-point : (ps : List BookPoint) (t : ℕ) (p : BookPoint) → lookupPoint t ps ≡ some p → (p .nidtp ≡ t) × Some blankRecordPoint (λ q. q ≡ p) ps

@@ -8,7 +8,7 @@ use Rattle.wire.specs.Judged.{Judged, thenJudge}
 use Rattle.wire.specs.Judged.Judged.{refuse, accept}
 use Rattle.fields.specs.Parse.{Parse}
 use Rattle.fields.specs.Parse.Parse.{bad, good}
-use Rattle.journey.specs.Journey.{JourneyValue, nameRecord, pointRecord, headRecord, journeyRecord, journeyValue}
+use Rattle.journey.specs.Journey.{nameRecord, pointRecord, headRecord, journeyValue}
 use Rattle.journey.specs.declared.Name.{Name}
 use Rattle.journey.specs.declared.JourneyPoint.{JourneyPoint}
 use Rattle.journey.specs.declared.Head.{Head}
@@ -72,16 +72,18 @@ pub record Anchors : Type 0 where
   pub atots-over : headRecord ((0x1E ∷ stamp) ++ (0x40 ∷ 0x00 ∷ [])) ≡ bad
   pub operational-last : headRecord (0x1B ∷ 0xFF ∷ 0xFF ∷ 0xFF ∷ 0xFF ∷ stamp) ≡ good (stamped 4294967295 16384) []
   -- "each NID_C, NID_SP as above"
-  pub names : map nameRecord (n500 ∷ (nLast ++ (0xAA ∷ [])) ∷ (0x04 ∷ 0x00 ∷ 0x00 ∷ 0x00 ∷ 0x00 ∷ 0x00 ∷ []) ∷ (0x00 ∷ 0x11 ∷ 0x00 ∷ 0x00 ∷ 0x00 ∷ []) ∷ [])
-      ≡ good name500 [] ∷ good (record { nidc = 1023; nidsp = 4294967295 }) (0xAA ∷ []) ∷ bad ∷ bad ∷ []
-  -- "A point's map: 0 NID_TP (4, ..); 1 segment index (1, from 0); 2 alignment (1: 0 front, 1 middle, 2 rear; absent means 0); 3 stopping data (1, 0-127;
-  -- absent means 0); 4 it is a stop; 5 trackside skips it; 6 End of Journey. Bits 4-6 carry no field"
+  pub names : map nameRecord (
+      n500 ∷ (nLast ++ (0xAA ∷ [])) ∷ (0x04 ∷ 0x00 ∷ 0x00 ∷ 0x00 ∷ 0x00 ∷ 0x00 ∷ []) ∷ (0x00 ∷ 0x11 ∷ 0x00 ∷ 0x00 ∷ 0x00 ∷ []) ∷ []
+      ) ≡ good name500 [] ∷ good (record { nidc = 1023; nidsp = 4294967295 }) (0xAA ∷ []) ∷ bad ∷ bad ∷ []
+  -- "A point's map: 0 NID_TP (4, ..); 1 segment index (1, from 0); 2 alignment (1: 0 front, 1 middle, 2 rear; absent means 0);
+  -- 3 stopping data (1, 0-127; absent means 0); 4 it is a stop; 5 trackside skips it; 6 End of Journey. Bits 4-6 carry no field"
   pub point-all : pointRecord (p7001 0x7F (0x02 ∷ 0x7F ∷ 0xAA ∷ [])) ≡ good (point7001 2 127 true true true) (0xAA ∷ [])
   pub point-bits : map pointRecord (
-      p7001 0x03 (0x01 ∷ []) ∷ p7001 0x07 (0x01 ∷ []) ∷ p7001 0x0B (0x01 ∷ []) ∷ p7001 0x13 (0x01 ∷ []) ∷ p7001 0x33 (0x01 ∷ []) ∷ p7001 0x43 (0x01 ∷ []) ∷ []
+      p7001 0x03 (0x01 ∷ []) ∷ p7001 0x07 (0x01 ∷ []) ∷ p7001 0x0B (0x01 ∷ []) ∷ p7001 0x13 (0x01 ∷ [])
+      ∷ p7001 0x33 (0x01 ∷ []) ∷ p7001 0x43 (0x01 ∷ []) ∷ []
       ) ≡ good (point7001 0 0 false false false) (0x01 ∷ []) ∷ good (point7001 1 0 false false false) [] ∷ good (point7001 0 1 false false false) []
-      ∷ good (point7001 0 0 true false false) (0x01 ∷ []) ∷ good (point7001 0 0 true true false) (0x01 ∷ []) ∷ good (point7001 0 0 false false true) (0x01 ∷ [])
-      ∷ []
+      ∷ good (point7001 0 0 true false false) (0x01 ∷ []) ∷ good (point7001 0 0 true true false) (0x01 ∷ [])
+      ∷ good (point7001 0 0 false false true) (0x01 ∷ []) ∷ []
   -- "0 and 1 must stand, 7 not; 5 needs 4."
   pub point-maps : map (λ m. taken (pointRecord (p7001 m []))) (0x02 ∷ 0x01 ∷ 0x83 ∷ 0x23 ∷ 0x63 ∷ []) ≡ false ∷ false ∷ false ∷ false ∷ false ∷ []
   pub none-left-out : map pointRecord ((0x02 ∷ 0x03 ∷ []) ∷ (0x01 ∷ 0x00 ∷ 0x00 ∷ 0x1B ∷ 0x59 ∷ []) ∷ []) ≡ bad ∷ bad ∷ []
@@ -98,7 +100,8 @@ pub record Anchors : Type 0 where
       ≡ accept (record {
         head = stamped 4294967295 16384;
         names = record { nidc = 1023; nidsp = 4294967295 } ∷ name500 ∷ [];
-        points = point7001 0 0 false false true ∷ record { nidtp = 2; index = 0; alignment = 0; stopping = 0; stop = true; trackside = false; end = false } ∷ [];
+        points = point7001 0 0 false false true
+            ∷ record { nidtp = 2; index = 0; alignment = 0; stopping = 0; stop = true; trackside = false; end = false } ∷ [];
       })
   -- "3 segments: count (1, 1-40), ..; 4 points: count (1, 1-64)"
   pub counts : map sizes (

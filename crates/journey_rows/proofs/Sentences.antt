@@ -6,20 +6,20 @@ use mathlib.Core.List.{List, [], _∷_}
 use mathlib.Core.Bool.{Bool, true, false, cond, not, _&&_, false≢true}
 use native.Mathlib.Numerals.{add-one}
 use native.Mathlib.Omega.{arith}
-use lib.ListN.{length, getD}
+use lib.ListN.{length}
 use lib.Dec.{eqb, ltb, leb}
 use borrow.Author.Tests.{not-true, ltb-false, le-ltb}
 use Rattle.wire.specs.Numbers.{flag}
 use Rattle.wire.specs.Lists.{twice, falls, strictlyRises}
 use Rattle.engine_value.specs.Engine.{blankPoint}
 use Rattle.engine_value.specs.declared.Point.{Point}
-use Rattle.book.specs.Sentences.{Two}
-use Rattle.book.proofs.Pairs.{and-both, equal-back, below, at-most, through, some-at, two-at, twice-at, number-twice, later, falls-later, rises-later, later-map, later-those}
+use Rattle.book.proofs.Pairs.{and-both, equal-back, below, at-most, through, some-at, two-at, twice-at, number-twice}
+use Rattle.book.proofs.Pairs.{later, falls-later, rises-later, later-map, later-those}
 use Rattle.journey.specs.Journey.{blankName, blankJourneyPoint, JourneyValue}
 use Rattle.journey.specs.declared.Name.{Name}
 use Rattle.journey.specs.declared.JourneyPoint.{JourneyPoint}
-use Rattle.journey_rows.specs.Rows.{sameName, indexBeyond, nidtps, ends, indices, places, endingOf}
-use Rattle.journey_rows.specs.Sentences.{SegmentTwice, IndexBeyond, PointTwice, EndsAt, OneEnd, IndexFalls, PlacesFall, Sentences}
+use Rattle.journey_rows.specs.Rows.{sameName, indexBeyond, ends, indices, places, endingOf}
+use Rattle.journey_rows.specs.Sentences.{SegmentTwice, IndexBeyond, EndsAt, OneEnd, IndexFalls, PlacesFall, Sentences}
 
 segments : (ns : List Name) → (twice sameName ns ≡ true) ↔ SegmentTwice ns
 segments =
@@ -28,7 +28,8 @@ segments =
 
 beyond : (j : JourneyValue) → (indexBeyond j ≡ true) ↔ IndexBeyond j
 beyond j =
-    some-at blankJourneyPoint (λ p. leb (length (j .names)) (p .index)) (λ p. length (j .names) ≤ p .index) (λ p. at-most (length (j .names)) (p .index)) (j .points)
+    some-at blankJourneyPoint (λ p. leb (length (j .names)) (p .index)) (λ p. length (j .names) ≤ p .index)
+    (λ p. at-most (length (j .names)) (p .index)) (j .points)
 
 index-falls : (ps : List JourneyPoint) → (falls (indices ps) ≡ true) ↔ IndexFalls ps
 index-falls ps =
@@ -43,14 +44,22 @@ not-below a b = (λ e. ltb-false a b (not-true (ltb a b) e), λ h. rw (le-ltb a 
 itself : (b : Bool) → (b ≡ true) ↔ (b ≡ true)
 itself b = (λ e. e, λ e. e)
 
+-- two placed points, of which the one behind does not lie beyond the other
+abbrev back : Point → Point → Bool
+back p q = p .placed && (q .placed && not (ltb (p .place) (q .place)))
+
+abbrev Back : Point → Point → Type 0
+Back p q = (p .placed ≡ true) × ((q .placed ≡ true) × (q .place ≤ p .place))
+
+back-is : (p q : Point) → (back p q ≡ true) ↔ Back p q
+back-is p q =
+    and-both (p .placed) _ _ _ (itself (p .placed)) (and-both (q .placed) _ _ _ (itself (q .placed)) (not-below (p .place) (q .place)))
+
 places-fall : (ps : List Point) → (not (strictlyRises (places ps)) ≡ true) ↔ PlacesFall ps
 places-fall ps =
-    through (not (strictlyRises (places ps))) (later (λ p q. p .placed && (q .placed && not (ltb (p .place) (q .place)))) ps) (PlacesFall ps)
+    through (not (strictlyRises (places ps))) (later back ps) (PlacesFall ps)
     (rises-later (places ps) ∙ later-those (λ (p : Point). p .placed) (λ (p : Point). p .place) (λ x y. not (ltb x y)) ps)
-    (two-at blankPoint (λ p q. p .placed && (q .placed && not (ltb (p .place) (q .place)))) (λ p q. (p .placed ≡ true) × ((q .placed ≡ true) × (q .place ≤ p .place)))
-    (λ p q. and-both (p .placed) (q .placed && not (ltb (p .place) (q .place))) (p .placed ≡ true) ((q .placed ≡ true) × (q .place ≤ p .place)) (itself (p .placed))
-    (and-both (q .placed) (not (ltb (p .place) (q .place))) (q .placed ≡ true) (q .place ≤ p .place) (itself (q .placed)) (not-below (p .place) (q .place))))
-    ps)
+    (two-at blankPoint back Back back-is ps)
 
 -- ---- the End of Journey
 

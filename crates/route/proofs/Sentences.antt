@@ -3,7 +3,7 @@ use Prim.Native.Nat.{ℕ, zero, suc, _≤_, _<_}
 use mathlib.Core.Path.{_≡_, refl, sym, ap, subst}
 use mathlib.Core.Logic.{_↔_, Iff·trans}
 use mathlib.Core.List.{List, [], _∷_}
-use mathlib.Core.Bool.{Bool, true, false, not, _&&_, _||_, false≢true}
+use mathlib.Core.Bool.{Bool, true, false, not, _&&_, false≢true}
 use mathlib.Core.Option.{Option, none, some}
 use native.Mathlib.Omega.{arith}
 use lib.ListN.{length, getD, take}
@@ -19,11 +19,10 @@ use Rattle.book.proofs.Pairs.{or-either, either, equal, fails, some-at}
 use Rattle.book.proofs.Sentences.{sentences as ofBook}
 use Rattle.journey.specs.Journey.{blankName, blankJourneyPoint, JourneyValue}
 use Rattle.journey.specs.declared.Name.{Name}
-use Rattle.journey.specs.declared.JourneyPoint.{JourneyPoint}
-use Rattle.journey_rows.specs.Rows.{indexBeyond, nidtps, ends}
+use Rattle.journey_rows.specs.Rows.{ends}
 use Rattle.journey_rows.specs.Sentences.{OneEnd}
 use Rattle.journey_rows.proofs.Sentences.{sentences as ofRows}
-use Rattle.route.specs.Placing.{pointsOn, booked, placedAt, nameAt, recordAt, pointsOf}
+use Rattle.route.specs.Placing.{pointsOn, booked, placedAt, recordAt, pointsOf}
 use Rattle.route.specs.Table.{pointMissing, checked}
 use Rattle.route.specs.Sentences.{Booked, PointMissing, Ten, Eleven, Twelve, Sentences}
 use Rattle.route.proofs.Rows.{ten, eleven, twelve}
@@ -118,7 +117,10 @@ module _ (book : List BookSegment) where
   pub sentences : Sentences book
   unfolding placedAt checked
   sentences = record {
-    placed = λ names k h. (each-there blankName (booked book) (Booked book) in-book names k h, each-back blankName (booked book) (Booked book) in-book names k h);
+    placed = λ names k h. (
+      each-there blankName (booked book) (Booked book) in-book names k h,
+      each-back blankName (booked book) (Booked book) in-book names k h,
+    );
     missing = missing;
     row-10 = λ j. is-10 j (Ten j) (Eleven book j) (Twelve book j) (ten j) (eleven book j) (twelve (pointsOf book j) j) (by-10 j);
     row-11 = λ j. is-11 j (Ten j) (Eleven book j) (Twelve book j) (ten j) (eleven book j) (twelve (pointsOf book j) j) (by-10 j) (by-11 j);

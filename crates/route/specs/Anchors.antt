@@ -1,25 +1,23 @@
 -- Document 01, "Book and journey": what a load takes, and the rows 10 to 12 against a book. Values are worked out from the paper.
 -- The journey has two countries: segments A (17, 500) and B (18, 500) are in the book, C (17, 501) is not, D (17, 502) is.
-use Prim.Native.Nat.{ℕ}
+use Prim.Native.Nat.{ℕ, _-_}
 use mathlib.Core.Path.{_≡_}
 use mathlib.Core.List.{List, [], _∷_, _++_, map}
-use mathlib.Core.Bool.{Bool, true, false}
-use lib.ListN.{replicate}
+use mathlib.Core.Bool.{true, false}
+use lib.ListN.{length, replicate}
 use Rattle.wire.specs.Judged.{Judged}
 use Rattle.wire.specs.Judged.Judged.{refuse, accept}
 use Rattle.engine_value.specs.Engine.{blankZone, blankSegment, blankPoint}
 use Rattle.engine_value.specs.declared.Zone.{Zone}
 use Rattle.engine_value.specs.declared.Segment.{Segment}
 use Rattle.engine_value.specs.declared.Point.{Point}
-use Rattle.engine_value.specs.declared.Load.{Load}
 use Rattle.segment_record.specs.Record.{BookPoint, BookSegment}
-use Rattle.journey.specs.Journey.{JourneyValue}
 use Rattle.journey.specs.declared.Name.{Name}
 use Rattle.journey.specs.declared.JourneyPoint.{JourneyPoint}
 use Rattle.journey.specs.declared.Head.{Head}
 use Rattle.route.specs.Placing.{placedAt, startAt, segmentsOf, pointsOf}
 use Rattle.route.specs.Table.{checked, journeyOf}
-use Rattle.route.specs.Route.{LoadValue, loadOf}
+use Rattle.route.specs.Route.{loadOf}
 
 -- ---- the book
 
@@ -115,12 +113,16 @@ placed =
     ∷ record { nidtp = 4; place = 0; reach = 0; nidc = 17; alignment = 0; stopping = 0; stop = true; trackside = false; placed = false; spare = 0 }
     ∷ []
 
+-- the array of a segment's zones
+abbrev pub zones : List Zone → List Zone
+zones zs = zs ++ replicate (4 - length zs) blankZone
+
 abbrev pub segments : List Segment
 segments =
-    record { nidsp = 500; start = 0; length = 1000; «zone_count» = 0; zones = replicate 4 blankZone; nidc = 17; booked = true; placed = true }
-    ∷ record { nidsp = 500; start = 1000; length = 2000; «zone_count» = 2; zones = zone 100 200 ∷ zone 300 400 ∷ blankZone ∷ blankZone ∷ []; nidc = 18; booked = true; placed = true }
-    ∷ record { nidsp = 501; start = 0; length = 0; «zone_count» = 0; zones = replicate 4 blankZone; nidc = 17; booked = false; placed = false }
-    ∷ record { nidsp = 502; start = 0; length = 4000; «zone_count» = 1; zones = zone 0 50 ∷ blankZone ∷ blankZone ∷ blankZone ∷ []; nidc = 17; booked = true; placed = false }
+    record { nidsp = 500; start = 0; length = 1000; «zone_count» = 0; zones = zones []; nidc = 17; booked = true; placed = true }
+    ∷ record { nidsp = 500; start = 1000; length = 2000; «zone_count» = 2; zones = zones (zone 100 200 ∷ zone 300 400 ∷ []); nidc = 18; booked = true; placed = true }
+    ∷ record { nidsp = 501; start = 0; length = 0; «zone_count» = 0; zones = zones []; nidc = 17; booked = false; placed = false }
+    ∷ record { nidsp = 502; start = 0; length = 4000; «zone_count» = 1; zones = zones (zone 0 50 ∷ []); nidc = 17; booked = true; placed = false }
     ∷ []
 
 -- a journey of no optional field with twice the segment A, and one byte more
@@ -157,10 +159,12 @@ pub record Anchors : Type 0 where
   pub row-10 : judged (a ∷ b ∷ a ∷ [], last 1 0 ∷ []) ≡ 10
   -- "11 index beyond, NID_TP twice, not just one End of Journey" (none, two)
   pub row-11 : map judged (
-      (a ∷ b ∷ [], last 1 0 ∷ point 2 2 ∷ []) ∷ (c ∷ a ∷ [], last 1 0 ∷ point 1 1 ∷ []) ∷ (a ∷ [], point 1 0 ∷ []) ∷ (a ∷ [], last 1 0 ∷ last 6 0 ∷ []) ∷ []
+      (a ∷ b ∷ [], last 1 0 ∷ point 2 2 ∷ []) ∷ (c ∷ a ∷ [], last 1 0 ∷ point 1 1 ∷ [])
+      ∷ (a ∷ [], point 1 0 ∷ []) ∷ (a ∷ [], last 1 0 ∷ last 6 0 ∷ []) ∷ []
       ) ≡ 11 ∷ 11 ∷ 11 ∷ 11 ∷ []
   -- "11 .. or a booked segment without the point": also where another has it, and where the segment is not placed
-  pub row-11-book : map judged ((a ∷ [], last 3 0 ∷ []) ∷ (a ∷ b ∷ [], last 2 0 ∷ []) ∷ (c ∷ d ∷ [], last 3 0 ∷ point 1 1 ∷ []) ∷ []) ≡ 11 ∷ 11 ∷ 11 ∷ []
+  pub row-11-book : map judged ((a ∷ [], last 3 0 ∷ []) ∷ (a ∷ b ∷ [], last 2 0 ∷ []) ∷ (c ∷ d ∷ [], last 3 0 ∷ point 1 1 ∷ []) ∷ [])
+      ≡ 11 ∷ 11 ∷ 11 ∷ []
   -- "12 index falls": of points that are not placed
   pub row-12-index : judged (c ∷ d ∷ [], point 4 1 ∷ last 3 0 ∷ []) ≡ 12
   -- "12 .. or placed points do not strictly rise": within a segment; the end of one is the start of the next

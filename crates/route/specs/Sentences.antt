@@ -6,7 +6,6 @@ use mathlib.Core.List.{List}
 use mathlib.Core.Bool.{true}
 use mathlib.Core.Option.{some}
 use lib.ListN.{length}
-use Rattle.wire.specs.Judged.{Judged}
 use Rattle.wire.specs.Judged.Judged.{refuse, accept}
 use Rattle.segment_record.specs.Record.{BookSegment}
 use Rattle.book.specs.Sentences.{Some, InBook, InRecord}

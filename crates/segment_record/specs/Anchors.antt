@@ -63,9 +63,10 @@ abbrev pub having : List BookPoint → List Zone → BookSegment
 having ps zs = record { nidc = 17; nidsp = 500; length = 100000; points = ps; zones = zs }
 
 pub record Anchors : Type 0 where
-  -- "Map one byte: 0 NID_C (2 bytes, 0-1023); 1 NID_SP (4); 2 length (4, ..); 3 points: count (1, 1-16), each NID_TP (4, ..), place (4, ..), reached distance R (2, ..);
-  -- 4 inhibition zones: count (1, 1-4), each start, end (4, 4; ..)": all of them, and the byte behind
-  pub all : with100000 0x1F ((2 ∷ p7001) ++ pLast ++ (2 ∷ zFirst) ++ zLast ++ (0xAA ∷ [])) ≡ good (having (point7001 ∷ pointLast ∷ []) zones) (0xAA ∷ [])
+  -- "Map one byte: 0 NID_C (2 bytes, 0-1023); 1 NID_SP (4); 2 length (4, ..); 3 points: count (1, 1-16), each NID_TP (4, ..), place (4, ..),
+  -- reached distance R (2, ..); 4 inhibition zones: count (1, 1-4), each start, end (4, 4; ..)": all of them, and the byte behind
+  pub all : with100000 0x1F ((2 ∷ p7001) ++ pLast ++ (2 ∷ zFirst) ++ zLast ++ (0xAA ∷ []))
+      ≡ good (having (point7001 ∷ pointLast ∷ []) zones) (0xAA ∷ [])
   -- "then only the fields whose bit stands"
   pub plain : with100000 0x07 (2 ∷ []) ≡ good (having [] []) (2 ∷ [])
   pub no-zones : with100000 0x0F (1 ∷ p7001) ≡ good (having (point7001 ∷ []) []) []
