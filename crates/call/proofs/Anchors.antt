@@ -7,15 +7,14 @@ use Rattle.call.specs.Anchors.{Anchors}
 pub anchors : Anchors
 unfolding computed standingsIn
 anchors = record {
-  inputs-with = refl;
-  train-with = refl;
-  ignored = refl;
+  brought = refl;
   nothing-brought = refl;
+  ignored = refl;
   power-off = refl;
   report = refl;
   standing-still = refl;
   row-13 = refl;
-  row-13-held = refl;
+  row-13-elsewhere = refl;
   loaded = refl;
   first-load = refl;
   skips-given = refl;

@@ -29,7 +29,7 @@ use Rattle.timing.specs.declared.Reported.{Reported}
 use Rattle.call_values.specs.Call.{Call}
 use Rattle.call_values.specs.Packets.{pointChange}
 use Rattle.call.specs.Packets.{changeIn}
-use Rattle.call.specs.Effect.{kept, cleared, replaced, skipSet, Effect, trainWith, inputsWith, reportedIn, loadedIn, effect, routeAfter, skipsAfter, stored}
+use Rattle.call.specs.Effect.{kept, cleared, replaced, skipSet, Effect, reportedIn, loadedIn, effect, routeAfter, skipsAfter, stored}
 use Rattle.call.specs.Call.{conditionsIn, statusIn, stepBy, judge, judged}
 use Rattle.call.specs.Shown.{standingIn}
 use Rattle.call.specs.View.{answerView, shownView}
@@ -56,6 +56,9 @@ journey = record {
 abbrev pub at : ℕ → ℕ → Position
 at offset speed = record { nidsp = 500; offset = offset; nidc = 17; speed = speed }
 
+abbrev pub outside : Position
+outside = record { nidsp = 600; offset = 100001; nidc = 18; speed = 6 }
+
 abbrev pub train : ℕ → ℕ → ℕ → Train
 train offset speed length = record { position = at offset speed; length = length }
 
@@ -80,9 +83,9 @@ inState s p = engine journey skips (train 15000 7 400) p (inputs 1 2 20) (contro
 abbrev pub held : Engine
 held = inState 3 (progress 1 false)
 
--- with an offset beyond the segment; without a journey; engaged, one cm before the End of Journey
-abbrev pub tooFar : Engine
-tooFar = engine journey skips (train 100001 7 400) (progress 1 false) (inputs 1 2 20) (control 3 false true)
+-- in segment 18/600, which is not the journey's; without a journey; engaged, one cm before the End of Journey
+abbrev pub elsewhere : Engine
+elsewhere = engine journey skips (record { position = outside; length = 400 }) (progress 1 false) (inputs 1 2 20) (control 3 false true)
 
 abbrev pub unloaded : Engine
 unloaded = engine noRoute noSkips (train 15000 7 400) (progress 0 false) (inputs 1 2 20) (control 3 false true)
@@ -150,18 +153,10 @@ beyondEnd = 9 ∷ 0 ∷ 17 ∷ 0 ∷ 0 ∷ 1 ∷ 244 ∷ 0 ∷ 1 ∷ 134 ∷ 161
 abbrev pub skip : ℕ → List ℕ
 skip t = 12 ∷ bytesOf 4 t
 
--- what an event does that brings no value: nothing; the rows of the states follow
-abbrev pub unchanged : Effect
-unchanged = record {
-  journey = kept;
-  train = train 15000 7 400;
-  progress = progress 1 false;
-  inputs = inputs 1 2 20;
-  control = control 3 false true;
-  loaded = none;
-  changes = [];
-  reached = false;
-}
+-- what an event does that only brings values: the points are not judged
+abbrev pub values : Train → Inputs → Effect
+values x i =
+    record { journey = kept; train = x; progress = progress 1 false; inputs = i; control = control 3 false true; loaded = none; changes = []; reached = false }
 
 abbrev pub skipping : ℕ → Bool → ℕ → Effect
 skipping k on status = record {
@@ -177,15 +172,14 @@ skipping k on status = record {
 
 pub record Anchors : Type 0 where
   -- "Mode, lever, reports, position and train length come from the latest accepted event since power off that carries them"
-  pub inputs-with : map (λ (v : Event). inputsWith held (carried v)) (Mode 0 ∷ Lever 1 ∷ Reports 31 ∷ Length 9 ∷ PositionReport (at 5 6) ∷ Press ∷ [])
-      ≡ inputs 0 2 20 ∷ inputs 1 1 20 ∷ inputs 1 2 31 ∷ inputs 1 2 20 ∷ inputs 1 2 20 ∷ inputs 1 2 20 ∷ []
-  pub train-with : map (λ (v : Event). trainWith held (carried v)) (Mode 0 ∷ Lever 1 ∷ Reports 31 ∷ Length 9 ∷ PositionReport (at 5 6) ∷ Press ∷ [])
-      ≡ train 15000 7 400 ∷ train 15000 7 400 ∷ train 15000 7 400 ∷ train 15000 7 9 ∷ train 5 6 400 ∷ train 15000 7 400 ∷ []
+  pub brought : map (does held) (Mode 0 ∷ Lever 1 ∷ Reports 31 ∷ Length 9 ∷ [])
+      ≡ accept (values (train 15000 7 400) (inputs 0 2 20)) ∷ accept (values (train 15000 7 400) (inputs 1 1 20))
+      ∷ accept (values (train 15000 7 400) (inputs 1 2 31)) ∷ accept (values (train 15000 7 9) (inputs 1 2 20)) ∷ []
+  pub nothing-brought : map (does held) (PowerOn ∷ Configured ∷ Fault ∷ Press ∷ []) ≡ replicate 4 (accept (values (train 15000 7 400) (inputs 1 2 20)))
   -- "Other kinds ignore the lent profiles."
   pub ignored : map (λ (v : Event). refusal (does held v))
       (PowerOn ∷ Configured ∷ PowerOff ∷ Fault ∷ Reports 0 ∷ Mode 0 ∷ Lever 0 ∷ Press ∷ PositionReport (at 5 6) ∷ Length 9 ∷ Load ∷ Skip 7005 ∷ Revoke 7004 ∷ [])
       ≡ 0 ∷ 0 ∷ 0 ∷ 0 ∷ 0 ∷ 0 ∷ 0 ∷ 0 ∷ 0 ∷ 0 ∷ 7 ∷ 0 ∷ 0 ∷ []
-  pub nothing-brought : map (does held) (PowerOn ∷ Configured ∷ Fault ∷ Press ∷ []) ≡ replicate 4 (accept unchanged)
   -- "Power off returns to fresh.", and writes the packet 68 of it alone
   pub power-off : does held PowerOff >>= judge held PowerOff (replicate 19 0)
       ≡ accept (record { engine = fresh; packets = packet68 (record { nidc = 0; nidsp = 0; offset = 16777215; speed = 0; operational = 0xFFFFFFFF }) 0 128 ∷ [] })
@@ -203,10 +197,10 @@ pub record Anchors : Type 0 where
       }
   -- at a stop that was reached before, no point became reached
   pub standing-still : reportedIn held (carried (PositionReport (at 5 6))) (reporting (progress 1 true) 1 false false) .reached ≡ false
-  -- "13 journey segment that is in the book, offset defined and beyond its length"
-  pub row-13 : map (λ (offset : ℕ). refusal (does held (PositionReport (at offset 6)))) (100000 ∷ 100001 ∷ 16777214 ∷ 16777215 ∷ []) ≡ 0 ∷ 13 ∷ 13 ∷ 0 ∷ []
-  -- of the new position, not of the one that is held
-  pub row-13-held : refusal (does tooFar (PositionReport (at 100000 6))) ≡ 0
+  -- "13 journey segment that is in the book, offset defined and beyond its length": of the new position, not of the one held
+  pub row-13 : map (λ (x : Position). refusal (does held (PositionReport x))) (at 100000 6 ∷ at 100001 6 ∷ at 16777214 6 ∷ at 16777215 6 ∷ outside ∷ [])
+      ≡ 0 ∷ 13 ∷ 13 ∷ 0 ∷ 0 ∷ []
+  pub row-13-elsewhere : map (λ (x : Position). refusal (does elsewhere (PositionReport x))) (at 100000 6 ∷ at 100001 6 ∷ outside ∷ []) ≡ 0 ∷ 13 ∷ 0 ∷ []
   -- "Load, judged on the new journey and book with no driver skip": 8003 has d > R, 8004 not; "Driver skips are cleared."
   pub loaded : loadedIn (inState 3 (progress 1 true)) (carried Load) loading
       ≡ record {
