@@ -1,7 +1,6 @@
 use denote.Ref.{now}
-use mathlib.Core.Path.{_∙_, sym, ap}
+use mathlib.Core.Path.{sym}
 use native.Mathlib.Omega.{arith}
-use Rattle.fields.specs.Parse.{field}
 use Rattle.fields.proofs.Answers.{field-told, field-read}
 use Rattle.fields.proofs.ReaderLaws.{field-inv}
 use Rattle.segment_record.specs.View.{item, itemSize, most}

@@ -1,6 +1,5 @@
 use denote.Ref.{now}
-use mathlib.Core.Path.{_∙_, sym, ap}
-use lib.ListN.{drop}
+use mathlib.Core.Path.{_∙_, sym}
 use native.Mathlib.Omega.{arith}
 use borrow.Author.Tests.{not-true, not-false}
 use Rattle.wire.specs.Numbers.{bit}
