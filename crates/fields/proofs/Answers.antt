@@ -19,6 +19,11 @@ abbrev pub fieldView : List ℕ → Field → Parse ℕ
 fieldView s (Field.Value n next) = good n (drop next s)
 fieldView s Field.Bad = bad
 
+position : (at w : ℕ) (x : Parse ℕ) (n p : ℕ) → fieldAt at x w ≡ Field.Value n p → p ≡ at + w
+unfolding fieldAt
+position at w bad n p e = let z : _≡_ {A = ℕ} 0 1 = cc in absurd (omega arith)
+position at w (good k l) n p e = cc
+
 -- the bytes behind a field are those from its position on
 module _ (s : List ℕ) (at w low high : ℕ) where
   behind : fieldView s (fieldAt at (field w low high (drop at s)) w) ≡ field w low high (drop at s)
@@ -39,8 +44,7 @@ module _ (s : List ℕ) (at w low high : ℕ) where
   optional-told true other r v e t = field-told r v e t
   optional-told false other r v e t = sym (ap (fieldView s) e ∙ rw (add-zero at)) ∙ ap (fieldView s) t
 
--- the position of an answer that has a number
-pub field-next : (at : ℕ) (x : Parse ℕ) (size : ℕ) (r : Field) (n p : ℕ) → r ≡ fieldAt at x size → r ≡ Field.Value n p → p ≡ at + size
-unfolding fieldAt
-field-next at bad size r n p e t = let z : _≡_ {A = ℕ} 0 1 = cc in absurd (omega arith)
-field-next at (good k l) size r n p e t = cc
+  -- the same where a number was answered, and its position
+  pub field-read : (r : Field) (n p : ℕ) → r ≡ fieldAt at (field w low high (drop at s)) w → r ≡ Field.Value n p
+      → (field w low high (drop at s) ≡ good n (drop p s)) × (p ≡ at + w)
+  field-read r n p e t = (field-told r (Field.Value n p) e t, position at w (field w low high (drop at s)) n p (sym e ∙ t))

@@ -13,7 +13,7 @@ use Rattle.fields.specs.Parse.{Parse, andThen, field, free, mapFits, bitMap, mu
 use Rattle.fields.specs.Parse.Parse.{bad, good}
 use Rattle.fields.proofs.ReaderLaws.{field-inv, then-inv}
 use Rattle.segment_record.specs.Record.{BookPoint, BookSegment, maxLength, maxRecordPoints, bookPoint, zoneRecord, segmentRecord}
-use Rattle.segment_record.specs.View.{pointOf, zoneOf, entryView, listAt, pointsAt, zonesAt, endAt, entryAt, segmentAt}
+use Rattle.segment_record.specs.View.{pointOf, zoneOf, entryView, listAt, endAt, entryAt, segmentAt}
 use Rattle.segment_record.specs.declared.SegmentRead.{SegmentRead}
 use Rattle.segment_record.specs.declared.Entry.{Entry}
 use Rattle.segment_record.proofs.Reading.{point-fixed, zone-fixed, list-read}

@@ -1,5 +1,4 @@
 use denote.Ref.{now}
-use mathlib.Core.Path.{_∙_, sym, ap}
 use native.Mathlib.Omega.{arith}
 use Rattle.fields.proofs.Answers.{field-told}
 use Rattle.fields.proofs.ReaderLaws.{field-inv}

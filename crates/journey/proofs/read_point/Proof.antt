@@ -1,6 +1,6 @@
 use Rattle.fields.proofs.Sure.{optional-most}
 use denote.Ref.{now}
-use mathlib.Core.Path.{_∙_, sym, ap}
+use mathlib.Core.Path.{_∙_, sym}
 use native.Mathlib.Omega.{arith}
 use Rattle.fields.proofs.Answers.{field-told, optional-told}
 use Rattle.fields.specs.Parse.{bitMap}

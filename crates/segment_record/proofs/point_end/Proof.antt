@@ -2,7 +2,7 @@ use Prim.Native.Nat.{ℕ}
 use denote.Ref.{now}
 use mathlib.Core.Path.{ap}
 use native.Mathlib.Omega.{arith}
-use Rattle.fields.proofs.Answers.{field-told, field-next}
+use Rattle.fields.proofs.Answers.{field-told, field-read}
 use Rattle.segment_record.specs.Record.{bookPoint}
 use Rattle.segment_record.specs.View.{endsAt}
 use Rattle.segment_record.specs.declared.Ends.{Ends}
@@ -38,13 +38,10 @@ returns-4 : tie.Need-returns-4
 unfolding bookPoint endsAt
 returns-4 c =
     let s = now (c .before .before .before .before .before .before .before .before .before .before .before .before .before .args .s) in
-    let e1 = field-told s _ _ _ _ _ _ (c .before .before .before .before .before .before .before .before .before .before .before .read-field .ensures) (c .before .before .before .before .before .before .before .before .before .a .given .1) in
-    let e2 = field-told s _ _ _ _ _ _ (c .before .before .before .before .before .before .before .read-field2 .ensures) (c .before .before .before .before .before .b .given .1) in
-    let e3 = field-told s _ _ _ _ _ _ (c .before .before .before .read-field3 .ensures) (c .before .next .given .1) in
-    let n1 = field-next _ _ _ _ _ _ (c .before .before .before .before .before .before .before .before .before .before .before .read-field .ensures) (c .before .before .before .before .before .before .before .before .before .a .given .1) in
-    let n2 = field-next _ _ _ _ _ _ (c .before .before .before .before .before .before .before .read-field2 .ensures) (c .before .before .before .before .before .b .given .1) in
-    let n3 = field-next _ _ _ _ _ _ (c .before .before .before .read-field3 .ensures) (c .before .next .given .1) in
-    rw (e1, e2, e3) (ap (λ (x : ℕ). Ends.At x) (omega (arith, n1, n2, n3)))
+    let e1 = field-read s _ _ _ _ _ _ _ (c .before .before .before .before .before .before .before .before .before .before .before .read-field .ensures) (c .before .before .before .before .before .before .before .before .before .a .given .1) in
+    let e2 = field-read s _ _ _ _ _ _ _ (c .before .before .before .before .before .before .before .read-field2 .ensures) (c .before .before .before .before .before .b .given .1) in
+    let e3 = field-read s _ _ _ _ _ _ _ (c .before .before .before .read-field3 .ensures) (c .before .next .given .1) in
+    rw (e1 .0, e2 .0, e3 .0) (ap (λ (x : ℕ). Ends.At x) (omega (arith, e1 .1, e2 .1, e3 .1)))
 
 pub point-end-spec : {M : Type 1} → statement M
 point-end-spec =

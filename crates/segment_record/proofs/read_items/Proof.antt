@@ -1,8 +1,7 @@
 use denote.Ref.{now}
-use mathlib.Core.Path.{_∙_, sym, ap}
+use mathlib.Core.Path.{sym}
 use native.Mathlib.Omega.{arith}
-use Rattle.fields.specs.Parse.{field}
-use Rattle.fields.proofs.Answers.{field-told, field-next}
+use Rattle.fields.proofs.Answers.{field-told, field-read}
 use Rattle.fields.proofs.ReaderLaws.{field-inv}
 use Rattle.segment_record.specs.View.{item, itemSize, most}
 use Rattle.segment_record.proofs.Reading.{most-small, ends-bad, ends-told, list-absent, list-count, list-items, list-whole}
@@ -36,11 +35,10 @@ returns-3 : tie.Need-returns-3
 returns-3 c =
     let a = c .before .before .before .before .before .before .before .before .before .before .before .args in
     let s = now (a .s) in
-    let e1 = field-told s _ _ _ _ _ _ (c .before .before .before .before .before .before .before .read-field .ensures) (c .before .before .before .before .before .n .given .1) in
-    let n1 = field-next _ _ _ _ _ _ (c .before .before .before .before .before .before .before .read-field .ensures) (c .before .before .before .before .before .n .given .1) in
+    let e1 = field-read s _ _ _ _ _ _ _ (c .before .before .before .before .before .before .before .read-field .ensures) (c .before .before .before .before .before .n .given .1) in
     let t = ends-told _ _ _ _ _ (c .before .before .before .items-end .ensures) (c .before .next .given .1) in
     rw (c .before .before .before .before .before .before .before .before .before .if1 .taken)
-    (list-whole (item (a .kind) (a .length)) (most (a .kind)) (a .at) (itemSize (a .kind)) s _ _ (t .1) (t .2) _ _ (rw (c .before .before .before .before .before .before .before .before .most-of .ensures) at e1) (t .3) n1 (t .0))
+    (list-whole (item (a .kind) (a .length)) (most (a .kind)) (a .at) (itemSize (a .kind)) s _ _ (t .1) (t .2) _ _ (rw (c .before .before .before .before .before .before .before .before .most-of .ensures) at (e1 .0)) (t .3) (e1 .1) (t .0))
 
 returns-4 : tie.Need-returns-4
 returns-4 c =

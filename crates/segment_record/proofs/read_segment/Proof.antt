@@ -1,10 +1,9 @@
 use denote.Ref.{now}
-use mathlib.Core.Path.{_∙_, sym, ap}
-use lib.ListN.{drop}
+use mathlib.Core.Path.{_∙_, sym}
 use native.Mathlib.Omega.{arith}
 use borrow.Author.Tests.{not-true, not-false}
 use Rattle.wire.specs.Numbers.{bit}
-use Rattle.fields.proofs.Answers.{field-told, field-next}
+use Rattle.fields.proofs.Answers.{field-told, field-read}
 use Rattle.fields.specs.Parse.{bitMap}
 use Rattle.fields.proofs.ReaderLaws.{field-inv}
 use Rattle.segment_record.specs.Record.{bookPoint, zoneRecord, segmentRecord}
@@ -100,19 +99,15 @@ returns-8 c =
     let s = now (c .before .before .before .before .before .before .before .before .before .before .before .before .before .before .before .before .before .before .before .before .before .before .before .before .before .before .before .args .s) in
     let m = c .before .before .before .before .before .before .before .before .before .before .before .before .before .before .before .before .before .before .before .before .before .before .before .map .given .0 .0 in
     let len = c .before .before .before .before .before .before .before .before .before .length .given .0 .0 in
-    let e1 = field-told s _ _ _ _ _ _ (c .before .before .before .before .before .before .before .before .before .before .before .before .before .before .before .before .before .before .before .before .before .before .before .before .before .read-field .ensures) (c .before .before .before .before .before .before .before .before .before .before .before .before .before .before .before .before .before .before .before .before .before .before .before .map .given .1) in
+    let e1 = field-read s _ _ _ _ _ _ _ (c .before .before .before .before .before .before .before .before .before .before .before .before .before .before .before .before .before .before .before .before .before .before .before .before .before .read-field .ensures) (c .before .before .before .before .before .before .before .before .before .before .before .before .before .before .before .before .before .before .before .before .before .before .before .map .given .1) in
     let e2 = sym (c .before .before .before .before .before .before .before .before .before .before .before .before .before .before .before .before .before .before .before .before .before .segment-map .ensures) ∙ not-false _ (c .before .before .before .before .before .before .before .before .before .before .before .before .before .before .before .before .before .before .before .before .if1 .left) in
-    let e3 = field-told s _ _ _ _ _ _ (c .before .before .before .before .before .before .before .before .before .before .before .before .before .before .before .before .before .before .before .read-field2 .ensures) (c .before .before .before .before .before .before .before .before .before .before .before .before .before .before .before .before .before .nidc .given .1) in
-    let e4 = field-told s _ _ _ _ _ _ (c .before .before .before .before .before .before .before .before .before .before .before .before .before .before .before .read-field3 .ensures) (c .before .before .before .before .before .before .before .before .before .before .before .before .before .nidsp .given .1) in
-    let e5 = field-told s _ _ _ _ _ _ (c .before .before .before .before .before .before .before .before .before .before .before .read-field4 .ensures) (c .before .before .before .before .before .before .before .before .before .length .given .1) in
+    let e3 = field-read s _ _ _ _ _ _ _ (c .before .before .before .before .before .before .before .before .before .before .before .before .before .before .before .before .before .before .before .read-field2 .ensures) (c .before .before .before .before .before .before .before .before .before .before .before .before .before .before .before .before .before .nidc .given .1) in
+    let e4 = field-read s _ _ _ _ _ _ _ (c .before .before .before .before .before .before .before .before .before .before .before .before .before .before .before .read-field3 .ensures) (c .before .before .before .before .before .before .before .before .before .before .before .before .before .nidsp .given .1) in
+    let e5 = field-read s _ _ _ _ _ _ _ (c .before .before .before .before .before .before .before .before .before .before .before .read-field4 .ensures) (c .before .before .before .before .before .before .before .before .before .length .given .1) in
     let e6 = list-told (bookPoint len) pointOf 10 (point-fixed len) (bit 3 m) 16 s _ _ _ _ _ (c .before .before .before .before .before .before .before .read-items .ensures) (c .before .before .before .before .before .points .given .1) in
     let e7 = list-told (zoneRecord len) zoneOf 8 (zone-fixed len) (bit 4 m) 4 s _ _ _ _ _ (c .before .before .before .read-items2 .ensures) (c .before .zones .given .1) in
-    let n1 = field-next _ _ _ _ _ _ (c .before .before .before .before .before .before .before .before .before .before .before .before .before .before .before .before .before .before .before .before .before .before .before .before .before .read-field .ensures) (c .before .before .before .before .before .before .before .before .before .before .before .before .before .before .before .before .before .before .before .before .before .before .before .map .given .1) in
-    let n3 = field-next _ _ _ _ _ _ (c .before .before .before .before .before .before .before .before .before .before .before .before .before .before .before .before .before .before .before .read-field2 .ensures) (c .before .before .before .before .before .before .before .before .before .before .before .before .before .before .before .before .before .nidc .given .1) in
-    let n4 = field-next _ _ _ _ _ _ (c .before .before .before .before .before .before .before .before .before .before .before .before .before .before .before .read-field3 .ensures) (c .before .before .before .before .before .before .before .before .before .before .before .before .before .nidsp .given .1) in
-    let n5 = field-next _ _ _ _ _ _ (c .before .before .before .before .before .before .before .before .before .before .before .read-field4 .ensures) (c .before .before .before .before .before .before .before .before .before .length .given .1) in
-    rw (e1, e2, e3, e4, e5, e6 .read, e7 .read)
-    (segment-answer _ _ _ _ _ _ _ _ _ _ _ (e6 .list) (e7 .list) (omega (arith, n1, n3, n4, n5)) (e6 .count) (e6 .from) (e6 .end) (e7 .count) (e7 .from) (e7 .end))
+    rw (e1 .0, e2, e3 .0, e4 .0, e5 .0, e6 .read, e7 .read)
+    (segment-answer _ _ _ _ _ _ _ _ _ _ _ (e6 .list) (e7 .list) (omega (arith, e1 .1, e3 .1, e4 .1, e5 .1)) (e6 .count) (e6 .from) (e6 .end) (e7 .count) (e7 .from) (e7 .end))
 
 pub read-segment-spec : {M : Type 1} → statement M
 read-segment-spec =

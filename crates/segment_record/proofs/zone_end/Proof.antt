@@ -2,7 +2,7 @@ use Prim.Native.Nat.{ℕ}
 use denote.Ref.{now}
 use mathlib.Core.Path.{ap}
 use native.Mathlib.Omega.{arith}
-use Rattle.fields.proofs.Answers.{field-told, field-next}
+use Rattle.fields.proofs.Answers.{field-told, field-read}
 use Rattle.segment_record.specs.Record.{zoneRecord}
 use Rattle.segment_record.specs.View.{endsAt}
 use Rattle.segment_record.specs.declared.Ends.{Ends}
@@ -29,11 +29,9 @@ returns-3 : tie.Need-returns-3
 unfolding zoneRecord endsAt
 returns-3 c =
     let s = now (c .before .before .before .before .before .before .before .before .before .args .s) in
-    let e1 = field-told s _ _ _ _ _ _ (c .before .before .before .before .before .before .before .read-field .ensures) (c .before .before .before .before .before .start .given .1) in
-    let e2 = field-told s _ _ _ _ _ _ (c .before .before .before .read-field2 .ensures) (c .before .next .given .1) in
-    let n1 = field-next _ _ _ _ _ _ (c .before .before .before .before .before .before .before .read-field .ensures) (c .before .before .before .before .before .start .given .1) in
-    let n2 = field-next _ _ _ _ _ _ (c .before .before .before .read-field2 .ensures) (c .before .next .given .1) in
-    rw (e1, e2) (ap (λ (x : ℕ). Ends.At x) (omega (arith, n1, n2)))
+    let e1 = field-read s _ _ _ _ _ _ _ (c .before .before .before .before .before .before .before .read-field .ensures) (c .before .before .before .before .before .start .given .1) in
+    let e2 = field-read s _ _ _ _ _ _ _ (c .before .before .before .read-field2 .ensures) (c .before .next .given .1) in
+    rw (e1 .0, e2 .0) (ap (λ (x : ℕ). Ends.At x) (omega (arith, e1 .1, e2 .1)))
 
 pub zone-end-spec : {M : Type 1} → statement M
 zone-end-spec =
