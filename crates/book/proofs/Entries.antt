@@ -16,7 +16,7 @@ use Rattle.segment_record.proofs.Accepted.{SegmentFits}
 use Rattle.segment_record.proofs.ItemLaws.{items-length}
 use Rattle.book.specs.View.{entriesView, entryKey, Keyed}
 use Rattle.book.specs.declared.Book.{Book}
-use Rattle.book.proofs.Filled.{filled-take}
+use Rattle.engine_value.proofs.Filled.{filled-take}
 
 -- a list of numbers, i of them behind
 pub number-step : (l : List ℕ) (i : ℕ) → i < length l → drop i l ≡ getD l i 0 ∷ drop (i + 1) l
@@ -39,7 +39,7 @@ pub keys-first : (b : Book) (keys : List ℕ) (n : ℕ) → Keyed (entriesView b
 keys-first b keys n k e =
     let h : length (map entryKey (entriesView b)) ≡ n = length-map (entriesView b) entryKey ∙ length-take (min (b .count) maxSegments) (b .entries) ∙ omega (arith, e .0, e .1) in
     ap (take n) (k .each) ∙ ap (λ (m : ℕ). take m (filled maxSegments 0 (map entryKey (entriesView b)))) (sym h)
-    ∙ filled-take maxSegments 0 (map entryKey (entriesView b)) (omega (arith, h, e .0))
+    ∙ filled-take 0 maxSegments (map entryKey (entriesView b)) (omega (arith, h, e .0))
 
 -- an entry whose record fits has 16 points at most
 module _ (s : List ℕ) where

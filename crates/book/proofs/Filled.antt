@@ -1,23 +1,16 @@
--- An array that holds a list from its front on and blank elements behind it.
+-- The loops that fill an array from its front on.
 use Prim.Native.Nat.{ℕ, zero, suc, _+_, _≤_, _<_}
 use mathlib.Core.Path.{_≡_, refl, sym, ap, _∙_}
 use mathlib.Core.List.{List, [], _∷_, _++_, map}
-use lib.ListN.{length, getD, take, set, replicate, length-map, length-take, length-append, length-replicate}
-use lib.Seq.{take-suc, take-take, take-at, length-take-le}
+use lib.ListN.{length, getD, take, set, replicate, length-map}
+use lib.Seq.{take-suc, length-take-le}
 use native.Mathlib.Numerals.{add-one}
 use native.Mathlib.Omega.{arith}
 use Rattle.wire.proofs.ListLaws.{map-append}
 use Rattle.engine_value.specs.Engine.{filled}
 
 module _ {A : Type 0} where
-  pub filled-length : (high : ℕ) (blank : A) (l : List A) → length (filled high blank l) ≡ high
-  filled-length high blank l = simp (length-take, length-append, length-replicate) (omega arith)
-
-  -- a list that fits stands there whole
-  pub filled-take : (high : ℕ) (blank : A) (l : List A) → length l ≤ high → take (length l) (filled high blank l) ≡ l
-  filled-take high blank l h = take-take (length l) high (l ++ replicate high blank) h ∙ take-at l (replicate high blank) (length l) refl
-
-  -- the same element by element
+  -- a list with blank elements behind it, element by element
   abbrev pad : ℕ → A → List A → List A
   pad zero blank l = []
   pad (suc n) blank [] = blank ∷ pad n blank []

@@ -24,7 +24,8 @@ use Rattle.segment_record.specs.View.{entryView, blankEntry, endAt, entryAt}
 use Rattle.book.specs.View.{segmentsView, entriesAt, refusedBook, bookHeld, allRecords, Listed}
 use Rattle.segment_record.proofs.Accepted.{SegmentFits}
 use Rattle.book.proofs.Accepted.{records-fit, book-fits}
-use Rattle.book.proofs.Filled.{filled-take, filled-set}
+use Rattle.engine_value.proofs.Filled.{filled-take}
+use Rattle.book.proofs.Filled.{filled-set}
 use Rattle.segment_record.specs.declared.Entry.{Entry}
 use Rattle.book.specs.declared.Book.{Book}
 use Rattle.segment_record.proofs.Reading.{segment-takes}
@@ -96,7 +97,7 @@ entries-length at (g ∷ gs) = ap suc (entries-length (endAt at g) gs)
 held-first : (gs : List BookSegment) (n : ℕ) → length gs ≡ n → n ≤ 40 → take (min n 40) (filled 40 blankEntry (entriesAt 0 gs)) ≡ entriesAt 0 gs
 held-first gs n c h =
     let m : min n 40 ≡ length (entriesAt 0 gs) = omega (arith, c, h, entries-length 0 gs) in
-    ap (λ (k : ℕ). take k (filled 40 blankEntry (entriesAt 0 gs))) m ∙ filled-take 40 blankEntry (entriesAt 0 gs) (omega (arith, c, h, entries-length 0 gs))
+    ap (λ (k : ℕ). take k (filled 40 blankEntry (entriesAt 0 gs))) m ∙ filled-take blankEntry 40 (entriesAt 0 gs) (omega (arith, c, h, entries-length 0 gs))
 
 -- the entries stand for the records
 records-seen : (k : ℕ) (s : List ℕ) (at : ℕ) (gs : List BookSegment) (r : List ℕ) → records k (drop at s) ≡ good gs r

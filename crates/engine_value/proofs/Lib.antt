@@ -1,1 +1,2 @@
 pub mod Anchors
+pub mod Filled

@@ -4,8 +4,8 @@ use mathlib.Core.Path.{_≡_, refl, sym, ap, _∙_, subst}
 use mathlib.Core.List.{List, [], _∷_, _++_, append-assoc, append-nil}
 use native.Mathlib.Omega.{arith}
 use native.Mathlib.Numerals.{add-one}
-use lib.ListN.{length, getD, take, drop, set, replicate, length-set, length-take, length-append, length-replicate, replicate-append-replicate, List·getD-eq-default, List·getD-append}
-use lib.Seq.{take-suc-set, set-at, take-at, take-take, length-take-le, getD-append-add}
+use lib.ListN.{length, getD, take, drop, set, replicate, length-set, length-append, length-replicate, replicate-append-replicate, List·getD-eq-default, List·getD-append}
+use lib.Seq.{take-suc-set, set-at, take-at, length-take-le, getD-append-add}
 use lib.Dec.{ltb}
 use borrow.Author.Tests.{ltb-true, ltb-false}
 use mathlib.Core.Bool.{Bool, true, false}
@@ -22,13 +22,6 @@ pub record Filling {A : Type 0} (blank : A) (high i : ℕ) (xs : List A) : Type 
   pub rest : xs ≡ take i xs ++ replicate (high - i) blank
 
 module _ {A : Type 0} (blank : A) (high : ℕ) where
-  pub filled-length : (l : List A) → length (filled high blank l) ≡ high
-  filled-length l = simp (length-take, length-append, length-replicate) (omega arith)
-
-  -- a list that fits stands there whole
-  pub filled-take : (l : List A) → length l ≤ high → take (length l) (filled high blank l) ≡ l
-  filled-take l h = take-take (length l) high (l ++ replicate high blank) h ∙ take-at l (replicate high blank) (length l) refl
-
   filled-split : (l : List A) → length l ≤ high → l ++ replicate (high - length l) blank ≡ filled high blank l
   filled-split l h =
       let q : high ≡ high - length l + length l = omega arith in

@@ -16,7 +16,7 @@ use Rattle.wire.specs.Judged.Judged.{refuse, accept}
 use Rattle.wire.specs.View.{verdictView}
 use Rattle.wire.specs.declared.Verdict.{Verdict}
 use Rattle.journey.specs.Journey.{JourneyValue, nameRecord, pointRecord, headRecord, journeyRecord, journeyValue}
-use Rattle.journey.proofs.Filling.{filled-length, filled-take}
+use Rattle.engine_value.proofs.Filled.{filled-length, filled-take}
 use Rattle.journey.proofs.Accepted.{journey-fits}
 use Rattle.journey.specs.View.{valueView, refusedJourney, journeyHeld}
 use Rattle.journey.specs.Journey.{blankName, blankJourneyPoint}

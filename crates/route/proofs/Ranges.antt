@@ -20,7 +20,8 @@ use Rattle.segment_record.specs.Record.{BookPoint, BookSegment}
 use Rattle.book.specs.Book.{isSome}
 use Rattle.book.specs.Table.{bookOf}
 use Rattle.journey.specs.Journey.{blankName, JourneyValue, journeyValue}
-use Rattle.journey.proofs.Filling.{filled-length, filled-at}
+use Rattle.engine_value.proofs.Filled.{filled-length}
+use Rattle.journey.proofs.Filling.{filled-at}
 use Rattle.journey.proofs.Accepted.{NameFits, JourneyPointFits, HeadFits, JourneyFits, journey-fits}
 use Rattle.journey.specs.declared.Name.{Name}
 use Rattle.journey.specs.declared.JourneyPoint.{JourneyPoint}

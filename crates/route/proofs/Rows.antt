@@ -24,7 +24,7 @@ use Rattle.book.specs.View.{segmentsView}
 use Rattle.book.proofs.Whole.{bookView}
 use Rattle.book.specs.declared.Book.{Book}
 use Rattle.journey.specs.Journey.{JourneyValue, journeyRecord, journeyValue}
-use Rattle.journey.proofs.Filling.{filled-take}
+use Rattle.engine_value.proofs.Filled.{filled-take}
 use Rattle.journey.specs.View.{valueView}
 use Rattle.journey.proofs.Rows.{journeyView}
 use Rattle.journey.specs.declared.Journey.{Journey}

@@ -10,7 +10,7 @@ use Rattle.segment_record.specs.Record.{BookSegment}
 use Rattle.segment_record.specs.View.{blankEntry}
 use Rattle.segment_record.proofs.Positions.{SegmentTold, segment-bad, segment-told}
 use Rattle.book.specs.View.{entriesAt}
-use Rattle.book.proofs.Filled.{filled-length}
+use Rattle.engine_value.proofs.Filled.{filled-length}
 use Rattle.book.proofs.Whole.{ReadTo, closer, read-start, read-step, read-bad, read-end}
 use borrow.Author.Needs.{needs}
 use Rattle.book.proofs.read_records.Statement.{statement}
@@ -52,7 +52,7 @@ loop-again c =
     let w = c .before .before .before .before .before .before .loop in
     let v = c .before .before .e .given .0 in
     let h = near (c .before) in
-    let kept : c .if1 .first ≡ set (w .first) (w .n) (v .0) = ⊎-elim (λ x. x .1) (λ x. x .1 ∙ sym (set-out (w .first) (w .n) (v .0) (omega (arith, ap length (w .inv .2 .listed .array), filled-length 40 blankEntry (entriesAt 0 (w .inv .1)), x .0 .left)))) (c .if1 .came) in
+    let kept : c .if1 .first ≡ set (w .first) (w .n) (v .0) = ⊎-elim (λ x. x .1) (λ x. x .1 ∙ sym (set-out (w .first) (w .n) (v .0) (omega (arith, ap length (w .inv .2 .listed .array), filled-length blankEntry 40 (entriesAt 0 (w .inv .1)), x .0 .left)))) (c .if1 .came) in
     (omega arith, _, read-step _ (w .at) (w .n) (w .first) (c .if1 .first) (w .inv .1) (v .0) (v .1 .0) (w .inv .2) (one-read (c .before)) kept)
 
 returns-2 : tie.Need-returns-2 Inv-loop μ-loop
