@@ -2,3 +2,4 @@
 pub mod Calls
 pub mod Lines
 pub mod View
+pub mod Anchors
