@@ -56,7 +56,7 @@ use Rattle.call.specs.Call.{Outcome, stepOf}
 use Rattle.call.specs.View.{answerView as judgedView}
 use Rattle.engine.specs.View.{call, Steps}
 use Rattle.host.specs.View.{answerView}
-use Rattle.host.proofs.Store.{store-in-raw}
+use Rattle.host.proofs.After.{field-of, Spell, stores, spells}
 use Rattle.engine_value.proofs.Engine as T
 use Rattle.engine_value.proofs.Engine.Laws as T′
 use Rattle.engine.proofs.Stepped as S
@@ -102,10 +102,6 @@ outcome h ss = stepOf h (call (ss .0 .now) (ss .1 .0 .now) (ss .1 .1 .0 .now) (s
 abbrev Said : Engine → Rest → Stepped → List ℕ → Type 0
 Said h ss r zs = Steps h (outcome h ss) r zs
 
--- what `plain` says of an answer
-abbrev spelled : Ans → Answer
-spelled a = answerView (judgedView a)
-
 -- the engine h with the points and the segments of g
 abbrev mixed : Engine → Engine → Engine
 mixed h g = record { points = g .points; skips = h .skips; segments = g .segments; load = h .load; train = h .train; progress = h .progress; inputs = h .inputs; control = h .control }
@@ -150,12 +146,9 @@ typeAt (local τ h ∷ ls) (suc k) = typeAt ls k
 abbrev ty : ℕ → Ty
 ty k = typeAt lines.locals k
 
--- the contracts that the proof cites
+-- the contract that the proof cites, beside that of `plain`
 abbrev Step : {M : Type 1} (𝓤 : URA M) (H : Heap 𝓤) (A : Atoms 𝓤) (at-mem : Memory → SProp 𝓤) (run : Routine → Fun 𝓤) → Contract 𝓤
 Step 𝓤 H A at-mem run = tripleOf 𝓤 H A step.signature (step.spec 𝓤 H A at-mem run)
-
-abbrev Spell : {M : Type 1} (𝓤 : URA M) (H : Heap 𝓤) (A : Atoms 𝓤) (at-mem : Memory → SProp 𝓤) (run : Routine → Fun 𝓤) → Contract 𝓤
-Spell 𝓤 H A at-mem run = tripleOf 𝓤 H A spell.signature (spell.spec 𝓤 H A at-mem run)
 
 module _ {M : Type 1} (𝓤 : URA M) (H : Heap 𝓤) (A : Atoms 𝓤) (W : Given 𝓤 H A) (at-mem : Memory → SProp 𝓤) (run : Routine → Fun 𝓤) (κ : Lft) (κs : Lfts 4) (bounds : AllOutlive 5 (f.signature .outlives) (κ, κs)) (q : Share) (qs : Shares 4) (b o : ℕ) (γ : GName) (h : Engine) (ss : Rest) where
   abbrev x : RefT Engine × Rest
@@ -177,18 +170,12 @@ module _ {M : Type 1} (𝓤 : URA M) (H : Heap 𝓤) (A : Atoms 𝓤) (W : Given
   abbrev Post : Val → SProp 𝓤
   Post = walkOf 𝓤 H A f.ended stayed (f.clauses 𝓤 H A at-mem run) .post (((κ, κs), (q, qs), bounds, x, at), tt)
 
-  -- what the callees' triples bind outside, and that the caller has what they ask
+  -- what the callee's triple binds outside, and that the caller has what it asks
   abbrev to-step : Step 𝓤 H A at-mem run .Ghost
   to-step = ((κs, qs, tt, (h, ss), (mach h ∷ [], machs)), tt)
 
   goes-step : Is T.the-row h (mach h ∷ []) → ent 𝓤 (sep 𝓤 Toks (sem 𝓤 H A Tail)) (Step 𝓤 H A at-mem run .pre to-step)
   goes-step is = qed W (raw Toks ∷ ‵ Tail ∷ []) ∵ move ! (1 ∷ []) $ owned ! T.the-row (Is T.the-row) (LL.makes T.the-type T′.the-plain 𝓤 H A) h (mach h ∷ []) is $ fjoin ! $ move ! (1 ∷ 0 ∷ []) $ join ! $ nothing ! $ move ! (1 ∷ 0 ∷ []) $ done !
-
-  abbrev to-spell : Ans → Spell 𝓤 H A at-mem run .Ghost
-  to-spell a = ((tt, tt, tt, (a, tt), (machV a ∷ [], tt)), tt)
-
-  goes-spell : (a : Ans) → Is D.the-row a (machV a ∷ []) → ent 𝓤 (emp 𝓤) (Spell 𝓤 H A at-mem run .pre (to-spell a))
-  goes-spell a is = qed W [] ∵ nothing ! $ owned ! D.the-row (Is D.the-row) (EL.makes D.the-type D′.the-plain 𝓤 H A) a (machV a ∷ []) is $ fjoin ! $ nothing ! $ join ! $ nothing ! $ move ! (1 ∷ 0 ∷ []) $ done !
 
   exits : (g : Engine) (n : Answer) (w : Val) (zs : List ℕ) → (n ≡ answerView (outcome h ss .answer)) × (g ≡ outcome h ss .engine) × (zs ≡ outcome h ss .memory) → length zs ≡ length (ss .1 .1 .1 .0 .now)
       → ent 𝓤 (⋆ 𝓤 H A (‵ (fobs γ (T.the-row .coded .code g)) ∷ ‵ (fbor κ (Body (mem T.the-row) b o γ)) ∷ ‵ (flft κ q) ∷ raw Toks ∷ ‵ (finally u8 (ss .1 .1 .1 .0 .name) zs) ∷ ‵ (N.the-row .own n (w ∷ [])) ∷ [])) (Post w)
@@ -208,67 +195,23 @@ module _ {M : Type 1} (𝓤 : URA M) (H : Heap 𝓤) (A : Atoms 𝓤) (W : Given
       abbrev Locals : Val → Val → Val → List (Item 𝓤)
       Locals s y v = ‵ (fat fullShare (ty 10) a₁₀ 0 y) ∷ ‵ (fdies (ty 10) a₁₀) ∷ ‵ (fat fullShare (ty 9) a₉ 0 (val (ss .1 .1 .1 .0))) ∷ ‵ (fdies (ty 9) a₉) ∷ ‵ (fat fullShare (ty 8) a₈ 0 (vptr (ss .1 .1 .1 .0 .ptr .0) (ss .1 .1 .1 .0 .ptr .1))) ∷ ‵ (fdies (ty 8) a₈) ∷ ‵ (fat fullShare (ty 7) a₇ 0 v) ∷ ‵ (fdies (ty 7) a₇) ∷ ‵ (fat fullShare (ty 6) a₆ 0 s) ∷ ‵ (fdies (ty 6) a₆) ∷ ‵ (fat fullShare (ty 5) a₅ 0 (val (ss .1 .1 .1 .0))) ∷ ‵ (fdies (ty 5) a₅) ∷ ‵ (fat fullShare (ty 4) a₄ 0 (val (ss .1 .1 .0))) ∷ ‵ (fdies (ty 4) a₄) ∷ ‵ (fat fullShare (ty 3) a₃ 0 (val (ss .1 .0))) ∷ ‵ (fdies (ty 3) a₃) ∷ ‵ (fat fullShare (ty 2) a₂ 0 (val (ss .0))) ∷ ‵ (fdies (ty 2) a₂) ∷ ‵ (fat fullShare (ty 1) a₁ 0 (vptr b o)) ∷ ‵ (fdies (ty 1) a₁) ∷ ‵ (froom (ty 0) a₀ 0) ∷ ‵ (fdies (ty 0) a₀) ∷ []
 
-      -- what the walk has once the borrow is closed
-      abbrev Closed : Engine → Ans → Val → Val → Val → List ℕ → List (Item 𝓤)
-      Closed g a u y v zs = ‵ (fobs γ (T.the-row .coded .code g)) ∷ ‵ (fbor κ (Body (mem T.the-row) b o γ)) ∷ ‵ (flft κ q) ∷ raw Toks ∷ ‵ (finally u8 (ss .1 .1 .1 .0 .name) zs) ∷ Locals (vstruct (vcons u (vcons (machV a) (vcons y vnil)))) y v
-
-      -- the answer is spelled
-      spells : (g : Engine) (a : Ans) (u y v : Val) (zs : List ℕ) → Is D.the-row a (machV a ∷ []) → (spelled a ≡ answerView (outcome h ss .answer)) × (g ≡ outcome h ss .engine) × (zs ≡ outcome h ss .memory) → length zs ≡ length (ss .1 .1 .1 .0 .now) → Sq W (Closed g a u y v zs) (runs C Λ En lines.t-13 (atRet En Post))
-      spells g a u y v zs is-a st l =
-          use0 W (raw (Spell 𝓤 H A at-mem run .pre (to-spell a))) (goes-spell a is-a) $
-          calls-at ! fm (Spell 𝓤 H A at-mem run) known-spell (to-spell a) (and-then ! (load ! (from ! (fld ! refl (stop !))) (look-in ! 14 (sub ! 1 refl (whole !)))) (no-more !)) (λ w.
-          use1 W (later (any (λ (n : Answer). (‵ ftrue ⊛ ‵ (N.the-row .own n (w ∷ []))) ⊛ raw (ensured 𝓤 H A spell.ended (spell.clauses 𝓤 H A at-mem run) tt (a, tt) tt n)))) (id⊢ 𝓤 _) $ await ! tt $ pick ! (λ n.
-          split ! $ move ! (1 ∷ []) $ use1 W (any (λ (us : Unit {0} × Unit {0}). ‵ (lasts spell.ended tt (a, tt) us) ⊛ raw (fact 𝓤 (n ≡ spelled a)))) (id⊢ 𝓤 _) $ pick ! (λ us.
-          split ! $ drop ! $ heard ! (n ≡ spelled a) (λ e. split ! $ drop ! $ peeks ! N.the-row (Is N.the-row) (shows 𝓤 H A N.the-row) n (w ∷ []) (λ is.
-          -- [the answer; obs; the borrow; e's token; the other tokens; last list; _10; …; … ; _0; …]
-          land ! (from ! (stop !)) (init ! 26 refl (LL.lawful N.the-type N′.the-laws 𝓤 H A W .typed n _ is .0)) $
-          returns ! (look ! 26 refl) $ forget ! 6 refl $ forget ! 8 refl $ forget ! 10 refl $ forget ! 12 refl $ forget ! 14 refl $ forget ! 16 refl $ forget ! 18 refl $ forget ! 20 refl $ forget ! 22 refl $ forget ! 24 refl $ forget ! 26 refl $
-          move ! (26 ∷ 27 ∷ []) $ free1 ! $ move ! (24 ∷ 25 ∷ []) $ free1 ! $ move ! (22 ∷ 23 ∷ []) $ free1 ! $ move ! (20 ∷ 21 ∷ []) $ free1 ! $ move ! (18 ∷ 19 ∷ []) $ free1 ! $ move ! (16 ∷ 17 ∷ []) $ free1 ! $ move ! (14 ∷ 15 ∷ []) $ free1 ! $ move ! (12 ∷ 13 ∷ []) $ free1 ! $ move ! (10 ∷ 11 ∷ []) $ free1 ! $ move ! (8 ∷ 9 ∷ []) $ free1 ! $ move ! (6 ∷ 7 ∷ []) $ free1 ! $ free0 ! $
-          keep ! (1 ∷ 2 ∷ 3 ∷ 4 ∷ 5 ∷ 0 ∷ []) $ by ! (exits g n w zs (e ∙ st .0, st .1, st .2) l))))))
-
-      -- while fields are stored: what lies behind the borrow, of the fields cs, and the result in `_6`, of the engine's fields ds
-      abbrev Storing : Vals → Vals → Val → Val → Val → List ℕ → List (Item 𝓤)
-      Storing cs ds a y v zs = raw Toks ∷ ‵ (finally u8 (ss .1 .1 .1 .0 .name) zs) ∷ ‵ (cellAt fullShare (T.the-row .mir) (vstruct cs ∷ []) b o) ∷ ‵ (fobor κ q (Body (mem T.the-row) b o γ)) ∷ ‵ (fobs γ (T.the-row .coded .code h)) ∷ ‵ (fauth γ (T.the-row .coded .code h)) ∷ Locals (vstruct (vcons (vstruct ds) (vcons a (vcons y vnil)))) y v
-
-      -- field k of the result's engine is stored behind the borrow
-      module _ (k : ℕ) {τ : Ty} {d : ℕ} (e : fieldOf (ty 7) k ≡ some (τ, d)) (e′ : fieldOf (rawTy (ty 7)) k ≡ some (rawTy τ, d)) {cs ds : Vals} {a y v : Val} {zs : List ℕ} (wt : Holds (hasTy τ (getV ds k)) × WT (getV ds k)) where
-        source : Rv (Go {0}) W (Storing cs ds a y v zs) En (rvOpd (copy (place 6 (field 0 ∷ field k ∷ [])))) (getV ds k)
-        source = of-opd ! (load ! (from ! (fld ! refl (fld ! e (stop !)))) (look-in ! 14 (sub ! k e (sub ! 0 refl (whole !)))))
-
-        target : Finds (Go {0}) W (Storing cs ds a y v zs) En (place 1 (deref (ty 7) ∷ field k ∷ [])) (τ, b, o + d)
-        target = from ! (hop ! (look ! 24 refl) (fld ! e (stop !)))
-
-        fills : Writes (Go {0}) W (Storing cs ds a y v zs) τ b (o + d) (getV ds k) (Storing (setV cs k (getV ds k)) ds a y v zs)
-        fills = store-in-raw ! 2 (sub ! k e′ (whole !)) wt
-
-        puts : {q′ : Post′ 𝓤 H} {rest : Code} → Step′ (Go {0}) W (Storing (setV cs k (getV ds k)) ds a y v zs) (runs C Λ En rest q′) (Storing cs ds a y v zs) (runs C Λ En (seq (assign (place 1 (deref (ty 7) ∷ field k ∷ [])) (rvOpd (copy (place 6 (field 0 ∷ field k ∷ []))))) rest) q′)
-        puts = assigns ! source target fills
-
-        puts-last : {q′ : Post′ 𝓤 H} → Step′ (Go {0}) W (Storing (setV cs k (getV ds k)) ds a y v zs) (prop (post 𝓤 H q′ next)) (Storing cs ds a y v zs) (runs C Λ En (assign (place 1 (deref (ty 7) ∷ field k ∷ [])) (rvOpd (copy (place 6 (field 0 ∷ field k ∷ []))))) q′)
-        puts-last = assigns-last ! source target fills
-
-      -- the other groups are stored, and the borrow is closed
-      joins : (r : Stepped) (zs : List ℕ) (w : Val) → Said h ss r zs → length zs ≡ length (ss .1 .1 .1 .0 .now) → Is S.the-row r (w ∷ [])
-          → Sq W (Storing (fieldsOf (mixed h (r .engine))) (fieldsOf (r .engine)) (machV (r .answer)) (vbool (r .rewritten)) (mach h) zs) (runs C Λ En lines.t-7 (atRet En Post))
-      joins r zs w st l got =
-          puts 1 refl refl (T′.the-laws .1 .0 .lawful 𝓤 H A W .typed (T.the-type .to (r .engine) .1 .0) _ (are-fields r got .1 .0) .0) $
-          puts 3 refl refl (T′.the-laws .1 .1 .1 .0 .lawful 𝓤 H A W .typed (T.the-type .to (r .engine) .1 .1 .1 .0) _ (are-fields r got .1 .1 .1 .0) .0) $
-          puts 4 refl refl (T′.the-laws .1 .1 .1 .1 .0 .lawful 𝓤 H A W .typed (T.the-type .to (r .engine) .1 .1 .1 .1 .0) _ (are-fields r got .1 .1 .1 .1 .0) .0) $
-          puts 5 refl refl (T′.the-laws .1 .1 .1 .1 .1 .0 .lawful 𝓤 H A W .typed (T.the-type .to (r .engine) .1 .1 .1 .1 .1 .0) _ (are-fields r got .1 .1 .1 .1 .1 .0) .0) $
-          puts 6 refl refl (T′.the-laws .1 .1 .1 .1 .1 .1 .0 .lawful 𝓤 H A W .typed (T.the-type .to (r .engine) .1 .1 .1 .1 .1 .1 .0) _ (are-fields r got .1 .1 .1 .1 .1 .1 .0) .0) $
-          puts 7 refl refl (T′.the-laws .1 .1 .1 .1 .1 .1 .1 .0 .lawful 𝓤 H A W .typed (T.the-type .to (r .engine) .1 .1 .1 .1 .1 .1 .1 .0) _ (are-fields r got .1 .1 .1 .1 .1 .1 .1 .0) .0) $
-          move ! (2 ∷ 3 ∷ 4 ∷ 5 ∷ []) $ owned ! T.the-row (Is T.the-row) (LL.makes T.the-type T′.the-plain 𝓤 H A) (r .engine) _ (is-engine r got) $ move ! (1 ∷ 0 ∷ []) $ closes ! tt T.the-row (r .engine) (mach (r .engine) ∷ []) b o $
-          -- [obs; the borrow; e's token; the other tokens; last list; _10; …; … ; _0; …]
-          spells (r .engine) (r .answer) (mach (r .engine)) (vbool (r .rewritten)) (mach h) zs (is-answer r got) (ap answerView (st .answer), st .engine, st .output) l
-
-      -- points and segments are stored, or lie there
-      branched : (r : Stepped) (zs : List ℕ) (w : Val) → Said h ss r zs → length zs ≡ length (ss .1 .1 .1 .0 .now) → Is S.the-row r (w ∷ [])
-          → Sq W (Storing (fieldsOf h) (fieldsOf (r .engine)) (machV (r .answer)) (vbool (r .rewritten)) (mach h) zs) (runs C Λ En lines.t-6 (atRet En Post))
-      branched r zs w st l got =
-          first ! $ branches ! (load ! (from ! (stop !)) (look ! 6 refl))
-          (λ _. puts 0 refl refl (T′.the-laws .0 .lawful 𝓤 H A W .typed (T.the-type .to (r .engine) .0) _ (are-fields r got .0) .0) $ puts-last 2 refl refl (T′.the-laws .1 .1 .0 .lawful 𝓤 H A W .typed (T.the-type .to (r .engine) .1 .1 .0) _ (are-fields r got .1 .1 .0) .0) $ exec ! C Λ En lines.t-7 (atRet En Post) $ joins r zs w st l got)
-          (λ off. skips ! $ exec ! C Λ En lines.t-7 (atRet En Post) $
-          rewrite ! 2 (λ (g : Engine). ‵ (cellAt fullShare (T.the-row .mir) (mach g ∷ []) b o)) (stays h ss r zs st (not-set (r .rewritten) off)) refl $ joins r zs w st l got)
+      -- points and segments are stored or lie there, the other groups are stored, the borrow is closed and the answer is spelled
+      stored : (r : Stepped) (zs : List ℕ) (w : Val) → Said h ss r zs → length zs ≡ length (ss .1 .1 .1 .0 .now) → Is S.the-row r (w ∷ [])
+          → Sq W (raw Toks ∷ ‵ (finally u8 (ss .1 .1 .1 .0 .name) zs) ∷ ‵ (cellAt fullShare (T.the-row .mir) (mach h ∷ []) b o) ∷ ‵ (fobor κ q (Body (mem T.the-row) b o γ)) ∷ ‵ (fobs γ (T.the-row .coded .code h)) ∷ ‵ (fauth γ (T.the-row .coded .code h)) ∷ Locals (vstruct (vcons (mach (r .engine)) (vcons (machV (r .answer)) (vcons (vbool (r .rewritten)) vnil)))) (vbool (r .rewritten)) (mach h)) (runs C Λ En lines.t-6 (atRet En Post))
+      stored r zs w st l got =
+          move ! (2 ∷ 14 ∷ 24 ∷ 6 ∷ []) $ stores _ ! 𝓤 H A W C Λ Post _ _ _ _ _ _ _ _ _ _ _ _ _ a₀ a₁ a₂ a₃ a₄ a₅ a₆ a₇ a₈ a₉ a₁₀ refl (λ off. ap fieldsOf (stays h ss r zs st (not-set (r .rewritten) off)))
+          (field-of refl refl (T′.the-laws .0 .lawful 𝓤 H A W .typed (T.the-type .to (r .engine) .0) _ (are-fields r got .0) .0))
+          (field-of refl refl (T′.the-laws .1 .1 .0 .lawful 𝓤 H A W .typed (T.the-type .to (r .engine) .1 .1 .0) _ (are-fields r got .1 .1 .0) .0))
+          (field-of refl refl (T′.the-laws .1 .0 .lawful 𝓤 H A W .typed (T.the-type .to (r .engine) .1 .0) _ (are-fields r got .1 .0) .0))
+          (field-of refl refl (T′.the-laws .1 .1 .1 .0 .lawful 𝓤 H A W .typed (T.the-type .to (r .engine) .1 .1 .1 .0) _ (are-fields r got .1 .1 .1 .0) .0))
+          (field-of refl refl (T′.the-laws .1 .1 .1 .1 .0 .lawful 𝓤 H A W .typed (T.the-type .to (r .engine) .1 .1 .1 .1 .0) _ (are-fields r got .1 .1 .1 .1 .0) .0))
+          (field-of refl refl (T′.the-laws .1 .1 .1 .1 .1 .0 .lawful 𝓤 H A W .typed (T.the-type .to (r .engine) .1 .1 .1 .1 .1 .0) _ (are-fields r got .1 .1 .1 .1 .1 .0) .0))
+          (field-of refl refl (T′.the-laws .1 .1 .1 .1 .1 .1 .0 .lawful 𝓤 H A W .typed (T.the-type .to (r .engine) .1 .1 .1 .1 .1 .1 .0) _ (are-fields r got .1 .1 .1 .1 .1 .1 .0) .0))
+          (field-of refl refl (T′.the-laws .1 .1 .1 .1 .1 .1 .1 .0 .lawful 𝓤 H A W .typed (T.the-type .to (r .engine) .1 .1 .1 .1 .1 .1 .1 .0) _ (are-fields r got .1 .1 .1 .1 .1 .1 .1 .0) .0)) $
+          -- [the cell; _6; _1; _10; the other tokens; last list; the open borrow; obs; auth; the rest of the locals]
+          move ! (0 ∷ 6 ∷ 7 ∷ 8 ∷ 4 ∷ 5 ∷ []) $ owned ! T.the-row (Is T.the-row) (LL.makes T.the-type T′.the-plain 𝓤 H A) (r .engine) _ (is-engine r got) $ move ! (1 ∷ 0 ∷ []) $ closes ! tt T.the-row (r .engine) (mach (r .engine) ∷ []) b o $
+          -- [obs; the borrow; e's token; the other tokens; last list; the locals]
+          spells _ ! 𝓤 H A W C Λ Post _ _ _ _ _ _ _ _ _ _ _ _ _ a₀ a₁ a₂ a₃ a₄ a₅ a₆ a₇ a₈ a₉ a₁₀ at-mem run fm known-spell _ _ _ _ _ (r .answer) refl (is-answer r got) (λ n u is. LL.lawful N.the-type N′.the-laws 𝓤 H A W .typed n _ is .0) (λ n u e. exits (r .engine) n u zs (e ∙ ap answerView (st .answer), st .engine, st .output) l)
 
     walk : Is (ShrSlice (named 1) (κs .0) u8) (ss .0) (machs .0) → Is (ShrSlice (named 2) (κs .1 .0) u8) (ss .1 .0) (machs .1 .0) → Is (ShrSlice (named 3) (κs .1 .1 .0) u8) (ss .1 .1 .0) (machs .1 .1 .0) → Is (MutSlice (named 4) (κs .1 .1 .1 .0) u8) (ss .1 .1 .1 .0) (machs .1 .1 .1 .0) → ent 𝓤 (onEntry 𝓤 H A f.signature (κ, κs) (q, qs) x at) (WpFn 𝓤 H C Λ code.function (vptr b o ∷ val (ss .0) ∷ val (ss .1 .0) ∷ val (ss .1 .1 .0) ∷ val (ss .1 .1 .1 .0) ∷ []) Post)
     walk p₁ p₂ p₃ p₄ =
@@ -297,7 +240,7 @@ module _ {M : Type 1} (𝓤 : URA M) (H : Heap 𝓤) (A : Atoms 𝓤) (W : Given
         land ! (from ! (stop !)) (init ! 14 refl (LL.lawful S.the-type S′.the-laws 𝓤 H A W .typed r _ got .0)) $
         rewrite ! 14 (λ (u : Val). ‵ (fat fullShare S′.mir a₆ 0 u)) (ap only (LL.tells S.the-type S′.the-laws r _ got)) refl $
         assigns ! (of-opd ! (load ! (from ! (fld ! refl (stop !))) (look-in ! 14 (sub ! 2 refl (whole !))))) (from ! (stop !)) (init ! 6 refl (tt, tt)) $
-        branched a₀ a₁ a₂ a₃ a₄ a₅ a₆ a₇ a₈ a₉ a₁₀ r (zs .1 .1 .1 .1 .0) w st l got)))))))))))))))))))
+        stored a₀ a₁ a₂ a₃ a₄ a₅ a₆ a₇ a₈ a₉ a₁₀ r (zs .1 .1 .1 .1 .0) w st l got)))))))))))))))))))
 
 module _ {M : Type 1} (𝓤 : URA M) (H : Heap 𝓤) (A : Atoms 𝓤) (W : Given 𝓤 H A) (at-mem : Memory → SProp 𝓤) (run : Routine → Fun 𝓤) where
   walks : (C : Calls 𝓤 H) (Λ : Loops 𝓤 H) → FmC 𝓤 H (W .laws) C → Triple 𝓤 (C #step) (Step 𝓤 H A at-mem run) → Triple 𝓤 (C #spell) (Spell 𝓤 H A at-mem run) → Walks 𝓤 H A f.ended stayed (WpFn 𝓤 H C Λ code.function) (f.clauses 𝓤 H A at-mem run)
