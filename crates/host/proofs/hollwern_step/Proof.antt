@@ -22,7 +22,7 @@ use ghost.Atoms.{Atoms, sem}
 use contract.Monad.{Fun, fact}
 use contract.Lifetimes.{Lfts, Shares, AllOutlive, toks}
 use contract.Running.{givenOf, tables, tablesOf}
-use types.Kit.{Given, Item, Go, Sq, Step as Step′, Post as Post′, post, prop, runs, atRet, ‵, raw, _⊛_, ⋆, some as any, later, _$_, _∵_, !, qed, by, move, keep, drop, use0, use1, use2, split, join, pick, rewrite, fsplit, fsplit3, fjoin, fjoin3, feqL, feqI, suffices, frame, await, done}
+use types.Kit.{Given, Item, Go, Goal, Soaks, Sq, Step as Step′, runs, atRet, ‵, raw, _⊛_, ⋆, some as any, later, _$_, _∵_, !, qed, by, move, keep, drop, use0, use1, use2, split, join, pick, rewrite, fsplit, fsplit3, fjoin, fjoin3, feqL, feqI, suffices, frame, await, done}
 use types.Run.{Rv, Finds, Writes, look, look-raw, init, forget, stop, hop, fld, from, load, addr, of-opd, and-then, no-more, assigns, assigns-last, first, branches, skips, exec, land, returns, enter, alloc1, alloc0, params1, pass1, pass0, free1, free0}
 use types.Part.{agg, whole, sub, look-in}
 use types.SemTy.{Body}
@@ -56,7 +56,7 @@ use Rattle.call.specs.Call.{Outcome, stepOf}
 use Rattle.call.specs.View.{answerView as judgedView}
 use Rattle.engine.specs.View.{call, Steps}
 use Rattle.host.specs.View.{answerView}
-use Rattle.host.proofs.After.{field-of, Spell, stores, spells}
+use Rattle.host.proofs.After.{field-of, enters, Spell, finish}
 use Rattle.engine_value.proofs.Engine as T
 use Rattle.engine_value.proofs.Engine.Laws as T′
 use Rattle.engine.proofs.Stepped as S
@@ -195,11 +195,21 @@ module _ {M : Type 1} (𝓤 : URA M) (H : Heap 𝓤) (A : Atoms 𝓤) (W : Given
       abbrev Locals : Val → Val → Val → List (Item 𝓤)
       Locals s y v = ‵ (fat fullShare (ty 10) a₁₀ 0 y) ∷ ‵ (fdies (ty 10) a₁₀) ∷ ‵ (fat fullShare (ty 9) a₉ 0 (val (ss .1 .1 .1 .0))) ∷ ‵ (fdies (ty 9) a₉) ∷ ‵ (fat fullShare (ty 8) a₈ 0 (vptr (ss .1 .1 .1 .0 .ptr .0) (ss .1 .1 .1 .0 .ptr .1))) ∷ ‵ (fdies (ty 8) a₈) ∷ ‵ (fat fullShare (ty 7) a₇ 0 v) ∷ ‵ (fdies (ty 7) a₇) ∷ ‵ (fat fullShare (ty 6) a₆ 0 s) ∷ ‵ (fdies (ty 6) a₆) ∷ ‵ (fat fullShare (ty 5) a₅ 0 (val (ss .1 .1 .1 .0))) ∷ ‵ (fdies (ty 5) a₅) ∷ ‵ (fat fullShare (ty 4) a₄ 0 (val (ss .1 .1 .0))) ∷ ‵ (fdies (ty 4) a₄) ∷ ‵ (fat fullShare (ty 3) a₃ 0 (val (ss .1 .0))) ∷ ‵ (fdies (ty 3) a₃) ∷ ‵ (fat fullShare (ty 2) a₂ 0 (val (ss .0))) ∷ ‵ (fdies (ty 2) a₂) ∷ ‵ (fat fullShare (ty 1) a₁ 0 (vptr b o)) ∷ ‵ (fdies (ty 1) a₁) ∷ ‵ (froom (ty 0) a₀ 0) ∷ ‵ (fdies (ty 0) a₀) ∷ []
 
+      -- the borrow is closed at the result's engine
+      shut : (r : Stepped) (w : Val) → Is S.the-row r (w ∷ []) → (Γ : List (Item 𝓤)) (G : Goal 𝓤 H) → Soaks G
+          → Step′ (Go {0}) W (‵ (fobs γ (T.the-row .coded .code (r .engine))) ∷ ‵ (fbor κ (Body (mem T.the-row) b o γ)) ∷ ‵ (flft κ q) ∷ Γ) G (‵ (cellAt fullShare (T.the-row .mir) (mach (r .engine) ∷ []) b o) ∷ ‵ (fobor κ q (Body (mem T.the-row) b o γ)) ∷ ‵ (fobs γ (T.the-row .coded .code h)) ∷ ‵ (fauth γ (T.the-row .coded .code h)) ∷ Γ) G
+      shut r w got Γ G soaks = record { go = λ s. owned ! T.the-row (Is T.the-row) (LL.makes T.the-type T′.the-plain 𝓤 H A) (r .engine) _ (is-engine r got) $ move ! (1 ∷ 0 ∷ []) $ closes ! soaks T.the-row (r .engine) (mach (r .engine) ∷ []) b o $ s }
+
       -- points and segments are stored or lie there, the other groups are stored, the borrow is closed and the answer is spelled
       stored : (r : Stepped) (zs : List ℕ) (w : Val) → Said h ss r zs → length zs ≡ length (ss .1 .1 .1 .0 .now) → Is S.the-row r (w ∷ [])
           → Sq W (raw Toks ∷ ‵ (finally u8 (ss .1 .1 .1 .0 .name) zs) ∷ ‵ (cellAt fullShare (T.the-row .mir) (mach h ∷ []) b o) ∷ ‵ (fobor κ q (Body (mem T.the-row) b o γ)) ∷ ‵ (fobs γ (T.the-row .coded .code h)) ∷ ‵ (fauth γ (T.the-row .coded .code h)) ∷ Locals (vstruct (vcons (mach (r .engine)) (vcons (machV (r .answer)) (vcons (vbool (r .rewritten)) vnil)))) (vbool (r .rewritten)) (mach h)) (runs C Λ En lines.t-6 (atRet En Post))
       stored r zs w st l got =
-          move ! (2 ∷ 14 ∷ 24 ∷ 6 ∷ []) $ stores _ ! 𝓤 H A W C Λ Post _ _ _ _ _ _ _ _ _ _ _ _ _ a₀ a₁ a₂ a₃ a₄ a₅ a₆ a₇ a₈ a₉ a₁₀ refl (λ off. ap fieldsOf (stays h ss r zs st (not-set (r .rewritten) off)))
+          finish _ ! 𝓤 H A W C Λ Post _ _ _ _ _ _ _ _ _ _ _ _ _ a₀ a₁ a₂ a₃ a₄ a₅ a₆ a₇ a₈ a₉ a₁₀ at-mem run fm known-spell _ _ b o (machV (r .answer)) (r .rewritten)
+          (getV (fieldsOf h) 0) (getV (fieldsOf h) 1) (getV (fieldsOf h) 2) (getV (fieldsOf h) 3) (getV (fieldsOf h) 4) (getV (fieldsOf h) 5) (getV (fieldsOf h) 6) (getV (fieldsOf h) 7)
+          (getV (fieldsOf (r .engine)) 0) (getV (fieldsOf (r .engine)) 1) (getV (fieldsOf (r .engine)) 2) (getV (fieldsOf (r .engine)) 3) (getV (fieldsOf (r .engine)) 4) (getV (fieldsOf (r .engine)) 5) (getV (fieldsOf (r .engine)) 6) (getV (fieldsOf (r .engine)) 7)
+          (val (ss .0)) (val (ss .1 .0)) (val (ss .1 .1 .0)) (val (ss .1 .1 .1 .0)) (mach h) (vptr (ss .1 .1 .1 .0 .ptr .0) (ss .1 .1 .1 .0 .ptr .1)) (val (ss .1 .1 .1 .0))
+          (raw Toks) (‵ (finally u8 (ss .1 .1 .1 .0 .name) zs)) (‵ (fobor κ q (Body (mem T.the-row) b o γ))) (‵ (fobs γ (T.the-row .coded .code h))) (‵ (fauth γ (T.the-row .coded .code h)))
+          (‵ (fobs γ (T.the-row .coded .code (r .engine)))) (‵ (fbor κ (Body (mem T.the-row) b o γ))) (‵ (flft κ q)) (r .answer) refl refl (λ off. ap fieldsOf (stays h ss r zs st (not-set (r .rewritten) off)))
           (field-of refl refl (T′.the-laws .0 .lawful 𝓤 H A W .typed (T.the-type .to (r .engine) .0) _ (are-fields r got .0) .0))
           (field-of refl refl (T′.the-laws .1 .1 .0 .lawful 𝓤 H A W .typed (T.the-type .to (r .engine) .1 .1 .0) _ (are-fields r got .1 .1 .0) .0))
           (field-of refl refl (T′.the-laws .1 .0 .lawful 𝓤 H A W .typed (T.the-type .to (r .engine) .1 .0) _ (are-fields r got .1 .0) .0))
@@ -207,11 +217,8 @@ module _ {M : Type 1} (𝓤 : URA M) (H : Heap 𝓤) (A : Atoms 𝓤) (W : Given
           (field-of refl refl (T′.the-laws .1 .1 .1 .1 .0 .lawful 𝓤 H A W .typed (T.the-type .to (r .engine) .1 .1 .1 .1 .0) _ (are-fields r got .1 .1 .1 .1 .0) .0))
           (field-of refl refl (T′.the-laws .1 .1 .1 .1 .1 .0 .lawful 𝓤 H A W .typed (T.the-type .to (r .engine) .1 .1 .1 .1 .1 .0) _ (are-fields r got .1 .1 .1 .1 .1 .0) .0))
           (field-of refl refl (T′.the-laws .1 .1 .1 .1 .1 .1 .0 .lawful 𝓤 H A W .typed (T.the-type .to (r .engine) .1 .1 .1 .1 .1 .1 .0) _ (are-fields r got .1 .1 .1 .1 .1 .1 .0) .0))
-          (field-of refl refl (T′.the-laws .1 .1 .1 .1 .1 .1 .1 .0 .lawful 𝓤 H A W .typed (T.the-type .to (r .engine) .1 .1 .1 .1 .1 .1 .1 .0) _ (are-fields r got .1 .1 .1 .1 .1 .1 .1 .0) .0)) $
-          -- [the cell; _6; _1; _10; the other tokens; last list; the open borrow; obs; auth; the rest of the locals]
-          move ! (0 ∷ 6 ∷ 7 ∷ 8 ∷ 4 ∷ 5 ∷ []) $ owned ! T.the-row (Is T.the-row) (LL.makes T.the-type T′.the-plain 𝓤 H A) (r .engine) _ (is-engine r got) $ move ! (1 ∷ 0 ∷ []) $ closes ! tt T.the-row (r .engine) (mach (r .engine) ∷ []) b o $
-          -- [obs; the borrow; e's token; the other tokens; last list; the locals]
-          spells _ ! 𝓤 H A W C Λ Post _ _ _ _ _ _ _ _ _ _ _ _ _ a₀ a₁ a₂ a₃ a₄ a₅ a₆ a₇ a₈ a₉ a₁₀ at-mem run fm known-spell _ _ _ _ _ (r .answer) refl (is-answer r got) (λ n u is. LL.lawful N.the-type N′.the-laws 𝓤 H A W .typed n _ is .0) (λ n u e. exits (r .engine) n u zs (e ∙ ap answerView (st .answer), st .engine, st .output) l)
+          (field-of refl refl (T′.the-laws .1 .1 .1 .1 .1 .1 .1 .0 .lawful 𝓤 H A W .typed (T.the-type .to (r .engine) .1 .1 .1 .1 .1 .1 .1 .0) _ (are-fields r got .1 .1 .1 .1 .1 .1 .1 .0) .0))
+          (shut r w got) (is-answer r got) (λ n u is. LL.lawful N.the-type N′.the-laws 𝓤 H A W .typed n _ is .0) (λ n u e. exits (r .engine) n u zs (e ∙ ap answerView (st .answer), st .engine, st .output) l)
 
     walk : Is (ShrSlice (named 1) (κs .0) u8) (ss .0) (machs .0) → Is (ShrSlice (named 2) (κs .1 .0) u8) (ss .1 .0) (machs .1 .0) → Is (ShrSlice (named 3) (κs .1 .1 .0) u8) (ss .1 .1 .0) (machs .1 .1 .0) → Is (MutSlice (named 4) (κs .1 .1 .1 .0) u8) (ss .1 .1 .1 .0) (machs .1 .1 .1 .0) → ent 𝓤 (onEntry 𝓤 H A f.signature (κ, κs) (q, qs) x at) (WpFn 𝓤 H C Λ code.function (vptr b o ∷ val (ss .0) ∷ val (ss .1 .0) ∷ val (ss .1 .1 .0) ∷ val (ss .1 .1 .1 .0) ∷ []) Post)
     walk p₁ p₂ p₃ p₄ =
@@ -219,12 +226,9 @@ module _ {M : Type 1} (𝓤 : URA M) (H : Heap 𝓤) (A : Atoms 𝓤) (W : Given
         split ! $ move ! (2 ∷ []) $ fsplit ! $ fsplit3 ! $ drop ! $ move ! (0 ∷ 1 ∷ 3 ∷ 4 ∷ 2 ∷ []) $
         -- [obs; the borrow; e's token; the other tokens; the rest]
         enter ! C Λ code.function (vptr b o ∷ val (ss .0) ∷ val (ss .1 .0) ∷ val (ss .1 .1 .0) ∷ val (ss .1 .1 .1 .0) ∷ []) _ $
-        alloc1 ! (λ a₀. alloc1 ! (λ a₁. alloc1 ! (λ a₂. alloc1 ! (λ a₃. alloc1 ! (λ a₄. alloc1 ! (λ a₅. alloc1 ! (λ a₆. alloc1 ! (λ a₇. alloc1 ! (λ a₈. alloc1 ! (λ a₉. alloc1 ! (λ a₁₀. alloc0 ! $ params1 ! $ pass1 ! (init ! 18 refl (tt, tt)) $
-        pass1 ! (init ! 16 refl (shr-slice-lawful 𝓤 H A W (named 1) (κs .0) u8 .typed (ss .0) _ p₁ .0)) $
-        pass1 ! (init ! 14 refl (shr-slice-lawful 𝓤 H A W (named 2) (κs .1 .0) u8 .typed (ss .1 .0) _ p₂ .0)) $
-        pass1 ! (init ! 12 refl (shr-slice-lawful 𝓤 H A W (named 3) (κs .1 .1 .0) u8 .typed (ss .1 .1 .0) _ p₃ .0)) $
-        pass1 ! (init ! 10 refl (mut-slice-lawful 𝓤 H A W (named 4) (κs .1 .1 .1 .0) u8 .typed (ss .1 .1 .1 .0) _ p₄ .0)) $
-        pass0 ! $ move ! (22 ∷ 23 ∷ 24 ∷ []) $ opens ! tt T.the-row {h = h} b o (λ vs. spelt ! T.the-row (Is T.the-row) (shows 𝓤 H A T.the-row) (LL.vals T.the-type T′.the-laws) (LL.tells T.the-type T′.the-laws) fullShare h vs b o $
+        enters ! (tt, tt) (shr-slice-lawful 𝓤 H A W (named 1) (κs .0) u8 .typed (ss .0) _ p₁ .0) (shr-slice-lawful 𝓤 H A W (named 2) (κs .1 .0) u8 .typed (ss .1 .0) _ p₂ .0)
+        (shr-slice-lawful 𝓤 H A W (named 3) (κs .1 .1 .0) u8 .typed (ss .1 .1 .0) _ p₃ .0) (mut-slice-lawful 𝓤 H A W (named 4) (κs .1 .1 .1 .0) u8 .typed (ss .1 .1 .1 .0) _ p₄ .0) (λ a₀ a₁ a₂ a₃ a₄ a₅ a₆ a₇ a₈ a₉ a₁₀.
+        move ! (22 ∷ 23 ∷ 24 ∷ []) $ opens ! tt T.the-row {h = h} b o (λ vs. spelt ! T.the-row (Is T.the-row) (shows 𝓤 H A T.the-row) (LL.vals T.the-type T′.the-laws) (LL.tells T.the-type T′.the-laws) fullShare h vs b o $
         move ! (1 ∷ []) $ peeks ! T.the-row (Is T.the-row) (shows 𝓤 H A T.the-row) h (mach h ∷ []) (λ is. drop ! $
         -- [the cell; the open borrow; obs; auth; _10; …; … ; _0; …; the other tokens; the rest]
         assigns ! (of-opd ! (load ! (from ! (hop ! (look ! 22 refl) (stop !))) (look-raw ! 0 refl))) (from ! (stop !)) (init ! 10 refl (LL.lawful T.the-type T′.the-laws 𝓤 H A W .typed h _ is .0)) $
@@ -240,7 +244,7 @@ module _ {M : Type 1} (𝓤 : URA M) (H : Heap 𝓤) (A : Atoms 𝓤) (W : Given
         land ! (from ! (stop !)) (init ! 14 refl (LL.lawful S.the-type S′.the-laws 𝓤 H A W .typed r _ got .0)) $
         rewrite ! 14 (λ (u : Val). ‵ (fat fullShare S′.mir a₆ 0 u)) (ap only (LL.tells S.the-type S′.the-laws r _ got)) refl $
         assigns ! (of-opd ! (load ! (from ! (fld ! refl (stop !))) (look-in ! 14 (sub ! 2 refl (whole !))))) (from ! (stop !)) (init ! 6 refl (tt, tt)) $
-        stored a₀ a₁ a₂ a₃ a₄ a₅ a₆ a₇ a₈ a₉ a₁₀ r (zs .1 .1 .1 .1 .0) w st l got)))))))))))))))))))
+        stored a₀ a₁ a₂ a₃ a₄ a₅ a₆ a₇ a₈ a₉ a₁₀ r (zs .1 .1 .1 .1 .0) w st l got)))))))))
 
 module _ {M : Type 1} (𝓤 : URA M) (H : Heap 𝓤) (A : Atoms 𝓤) (W : Given 𝓤 H A) (at-mem : Memory → SProp 𝓤) (run : Routine → Fun 𝓤) where
   walks : (C : Calls 𝓤 H) (Λ : Loops 𝓤 H) → FmC 𝓤 H (W .laws) C → Triple 𝓤 (C #step) (Step 𝓤 H A at-mem run) → Triple 𝓤 (C #spell) (Spell 𝓤 H A at-mem run) → Walks 𝓤 H A f.ended stayed (WpFn 𝓤 H C Λ code.function) (f.clauses 𝓤 H A at-mem run)
