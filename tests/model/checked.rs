@@ -1,21 +1,25 @@
 //! The model with every check around each call: refusals change nothing, memory behind the packets is kept, too short
-//! memory is 16, the packets read back, and the literal rules agree.
+//! memory is 16, the packets read back, the literal rules agree, and what was told since the load tells where each point
+//! stands.
 
 use crate::calls::{Call, MEMORY};
 use crate::engine::{Answer, Engine};
+use crate::events::read_event;
 use crate::packets::{split_packets, Content, Packet};
 use crate::rules::Rules;
+use crate::told::Told;
 
 pub struct Checked {
     pub engine: Engine,
     pub out: [u8; MEMORY],
     rules: Rules,
+    told: Told,
     calls: usize,
 }
 
 impl Checked {
     pub fn new() -> Checked {
-        Checked { engine: Engine::fresh(), out: [0; MEMORY], rules: Rules::new(), calls: 0 }
+        Checked { engine: Engine::fresh(), out: [0; MEMORY], rules: Rules::new(), told: Told::default(), calls: 0 }
     }
 
     pub fn call(&mut self, call: &Call) -> Result<Result<Answer, u8>, String> {
@@ -32,11 +36,14 @@ impl Checked {
                 }
                 self.rules.accept(call);
                 self.check_packets(bytes)?;
+                let event = read_event(&call.event).map_err(|_| "an event that is not read was accepted")?;
+                self.told.accept(event, &split_packets(&self.out[..bytes]), &self.engine);
                 let step = |engine: &mut Engine, out: &mut [u8]| engine.call(call, out);
                 check_short_memory(before.clone(), step, &self.out[..bytes], |engine| *engine == before)?;
             }
         }
         self.rules.check(&self.engine)?;
+        self.told.check(&self.engine)?;
         Ok(answer)
     }
 

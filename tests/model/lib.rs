@@ -9,5 +9,6 @@ mod numbers;
 pub mod packets;
 pub mod route;
 mod rules;
+mod told;
 pub mod values;
 pub mod words;
