@@ -44,8 +44,8 @@ pub record Anchors : Type 0 where
       ) ≡ refuse 7 ∷ refuse 7 ∷ refuse 7 ∷ refuse 7 ∷ refuse 7 ∷ []
   -- "8 a segment .. twice": side by side, apart; NID_SP or NID_C alone may stand twice
   pub segment-twice : map sizeOf (
-      (segment 17 5 ++ segment 17 5) ∷ (segment 17 5 ++ segment 18 5 ++ segment 17 5) ∷ (segment 17 5 ++ segment 18 5 ++ segment 17 6) ∷ []
-      ) ≡ refuse 8 ∷ refuse 8 ∷ accept 3 ∷ []
+      (segment 17 5 ++ segment 17 5) ∷ (segment 17 5 ++ segment 18 5 ++ segment 17 5) ∷ (segment 17 5 ++ segment 18 6 ++ segment 18 5 ++ segment 17 6) ∷ []
+      ) ≡ refuse 8 ∷ refuse 8 ∷ accept 4 ∷ []
   -- "8 .. or, in one record, an NID_TP twice"
   pub point-twice : map sizeOf (
       having 17 5 (1 ∷ 1 ∷ []) ∷ (segment 18 5 ++ having 17 5 (1 ∷ 2 ∷ 1 ∷ [])) ∷ (having 17 5 (1 ∷ 2 ∷ []) ++ having 18 5 (2 ∷ 1 ∷ [])) ∷ []

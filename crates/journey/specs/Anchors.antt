@@ -69,12 +69,14 @@ pub record Anchors : Type 0 where
       ∷ (0x80 ∷ 0x00 ∷ 0x00 ∷ 0x00 ∷ 0x00 ∷ 0x00 ∷ 0x00 ∷ []) ∷ (0x00 ∷ 0x00 ∷ 0x00 ∷ 0x00 ∷ 0x00 ∷ 0x00 ∷ []) ∷ []
       ) ≡ true ∷ true ∷ false ∷ false ∷ []
   -- "NID_ATOTS (2, 0-16,383; ..)": 16,384 is not written; any NID_OPERATIONAL is
-  pub atots-over : headRecord ((0x1E ∷ stamp) ++ (0x40 ∷ 0x00 ∷ [])) ≡ bad
+  pub atots-range : map (λ l. taken (headRecord ((0x1E ∷ stamp) ++ l))) ((0x00 ∷ 0x00 ∷ []) ∷ (0x40 ∷ 0x00 ∷ []) ∷ []) ≡ true ∷ false ∷ []
   pub operational-last : headRecord (0x1B ∷ 0xFF ∷ 0xFF ∷ 0xFF ∷ 0xFF ∷ stamp) ≡ good (stamped 4294967295 16384) []
   -- "each NID_C, NID_SP as above"
   pub names : map nameRecord (
-      n500 ∷ (nLast ++ (0xAA ∷ [])) ∷ (0x04 ∷ 0x00 ∷ 0x00 ∷ 0x00 ∷ 0x00 ∷ 0x00 ∷ []) ∷ (0x00 ∷ 0x11 ∷ 0x00 ∷ 0x00 ∷ 0x00 ∷ []) ∷ []
-      ) ≡ good name500 [] ∷ good (record { nidc = 1023; nidsp = 4294967295 }) (0xAA ∷ []) ∷ bad ∷ bad ∷ []
+      (0x00 ∷ 0x00 ∷ 0x00 ∷ 0x00 ∷ 0x00 ∷ 0x00 ∷ []) ∷ n500 ∷ (nLast ++ (0xAA ∷ []))
+      ∷ (0x04 ∷ 0x00 ∷ 0x00 ∷ 0x00 ∷ 0x00 ∷ 0x00 ∷ []) ∷ (0x00 ∷ 0x11 ∷ 0x00 ∷ 0x00 ∷ 0x00 ∷ []) ∷ []
+      ) ≡ good (record { nidc = 0; nidsp = 0 }) [] ∷ good name500 [] ∷ good (record { nidc = 1023; nidsp = 4294967295 }) (0xAA ∷ [])
+      ∷ bad ∷ bad ∷ []
   -- "A point's map: 0 NID_TP (4, ..); 1 segment index (1, from 0); 2 alignment (1: 0 front, 1 middle, 2 rear; absent means 0);
   -- 3 stopping data (1, 0-127; absent means 0); 4 it is a stop; 5 trackside skips it; 6 End of Journey. Bits 4-6 carry no field"
   pub point-all : pointRecord (p7001 0x7F (0x02 ∷ 0x7F ∷ 0xAA ∷ [])) ≡ good (point7001 2 127 true true true) (0xAA ∷ [])

@@ -44,10 +44,10 @@ pub record Anchors : Type 0 where
   -- "10 segment twice": NID_C and NID_SP together
   pub segment-twice : map (twice sameName) (
       (name 17 500 ∷ name 17 500 ∷ []) ∷ (name 17 500 ∷ name 18 500 ∷ name 17 500 ∷ [])
-      ∷ (name 17 500 ∷ name 18 500 ∷ name 17 501 ∷ name 18 501 ∷ []) ∷ []
+      ∷ (name 17 500 ∷ name 18 501 ∷ name 18 500 ∷ name 17 501 ∷ []) ∷ []
       ) ≡ true ∷ true ∷ false ∷ []
   -- "11 index beyond": from 0, so that of two segments 0 and 1 have one
-  pub index-beyond : map (λ is. indexBeyond (over is)) ((0 ∷ 1 ∷ 1 ∷ []) ∷ (0 ∷ 2 ∷ []) ∷ (255 ∷ 1 ∷ []) ∷ []) ≡ false ∷ true ∷ true ∷ []
+  pub index-beyond : map (λ is. indexBeyond (over is)) ((0 ∷ 1 ∷ 1 ∷ []) ∷ (0 ∷ 1 ∷ 2 ∷ []) ∷ (255 ∷ 1 ∷ []) ∷ []) ≡ false ∷ true ∷ true ∷ []
   -- "11 .. NID_TP twice": in the whole journey
   pub nidtp-twice : map (λ ps. twice eqb (nidtps ps)) (named 1 2 3 ∷ named 1 1 2 ∷ named 1 2 1 ∷ named 2 1 1 ∷ []) ≡ false ∷ true ∷ true ∷ true ∷ []
   -- "11 .. not just one End of Journey"

@@ -52,7 +52,7 @@ writing = record {
 
 pieces : Pieces
 unfolding cut cutPackets
-pieces = record { sizes = refl; none = refl; three = refl; cut-short = refl; unknown = refl }
+pieces = record { sizes = refl; fronts = refl; none = refl; three = refl; cut-short = refl; unknown = refl }
 
 pub anchors : Anchors
 anchors = record { inBytes = in-bytes; ranges = ranges; lengths = lengths; writing = writing; pieces = pieces }

@@ -6,7 +6,7 @@ use lib.ListN.{length, take}
 use Rattle.wire.specs.Judged.{Judged}
 use Rattle.wire.specs.Judged.Judged.{refuse, accept}
 use Rattle.packets.specs.Layouts.{contentAt, unknownNidc}
-use Rattle.packets.specs.Packets.{packetBytes, joined, sizeOf, packetOf, writtenCount, writtenMemory, sizeAt, cutPackets}
+use Rattle.packets.specs.Packets.{packetBytes, joined, sizeOf, packetOf, writtenCount, writtenMemory, sizeAt, frontSize, cutPackets}
 use Rattle.packets.specs.declared.Header.{Header}
 use Rattle.packets.specs.declared.Packet.{Packet}
 
@@ -203,6 +203,8 @@ pub record Writing : Type 0 where
 pub record Pieces : Type 0 where
   -- the bytes of a packet by its number
   pub sizes : map (λ n. sizeAt (n ∷ [])) (62 ∷ 65 ∷ 68 ∷ 0 ∷ 61 ∷ 255 ∷ []) ≡ 25 ∷ 29 ∷ 19 ∷ 0 ∷ 0 ∷ 0 ∷ []
+  -- of the piece in front: cut short, a packet and a byte, no such number
+  pub fronts : map frontSize ((0x3E ∷ 0x44 ∷ []) ∷ (powerOnBytes ++ (0x3E ∷ [])) ∷ (0x00 ∷ powerOnBytes) ∷ []) ≡ 2 ∷ 19 ∷ 20 ∷ []
   pub none : cutPackets [] ≡ []
   pub three : cutPackets (jpReceivedBytes ++ (stoppedBytes ++ powerOnBytes)) ≡ jpReceivedBytes ∷ stoppedBytes ∷ powerOnBytes ∷ []
   -- cut short, and where no packet has the number

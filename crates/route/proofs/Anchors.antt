@@ -20,6 +20,7 @@ anchors = record {
   starts-kept = refl;
   point-places = refl;
   load = refl;
+  group = refl;
   fine = refl;
   row-10 = refl;
   row-11 = refl;

@@ -17,7 +17,7 @@ use Rattle.journey.specs.declared.JourneyPoint.{JourneyPoint}
 use Rattle.journey.specs.declared.Head.{Head}
 use Rattle.route.specs.Placing.{placedAt, startAt, segmentsOf, pointsOf}
 use Rattle.route.specs.Table.{checked, journeyOf}
-use Rattle.route.specs.Route.{loadOf}
+use Rattle.route.specs.Route.{loadGroup, loadOf}
 
 -- ---- the book
 
@@ -92,7 +92,8 @@ stretch g = (g .start, g .length)
 abbrev pub spot : Point → ℕ × ℕ × ℕ
 spot p = (p .place, p .reach, p .nidc)
 
--- all four segments: a middle stop with stopping data, a rear stop with trackside skip and End of Journey, a passing point, a stop
+-- all four segments: a middle stop with stopping data, a rear stop with trackside skip and End of Journey, a passing point,
+-- a stop with trackside skip
 abbrev pub journeyBytes : List ℕ
 journeyBytes =
     0x1F ∷ 0x00 ∷ 0x00 ∷ 0x04 ∷ 0xD2 ∷ 0x01 ∷ 0x02 ∷ 0x00 ∷ 0x00 ∷ 0x00 ∷ 0x03 ∷ 0x04 ∷ 0x00 ∷ 0x05
@@ -101,7 +102,7 @@ journeyBytes =
     ∷ 0x04 ∷ 0x1F ∷ 0x00 ∷ 0x00 ∷ 0x00 ∷ 0x01 ∷ 0x00 ∷ 0x01 ∷ 0x05
     ∷ 0x77 ∷ 0x00 ∷ 0x00 ∷ 0x00 ∷ 0x02 ∷ 0x01 ∷ 0x02
     ∷ 0x03 ∷ 0x00 ∷ 0x00 ∷ 0x00 ∷ 0x03 ∷ 0x02
-    ∷ 0x13 ∷ 0x00 ∷ 0x00 ∷ 0x00 ∷ 0x04 ∷ 0x03
+    ∷ 0x33 ∷ 0x00 ∷ 0x00 ∷ 0x00 ∷ 0x04 ∷ 0x03
     ∷ []
 
 -- what it gives
@@ -110,7 +111,7 @@ placed =
     record { nidtp = 1; place = 400; reach = 150; nidc = 17; alignment = 1; stopping = 5; stop = true; trackside = false; placed = true; spare = 0 }
     ∷ record { nidtp = 2; place = 1500; reach = 10; nidc = 18; alignment = 2; stopping = 0; stop = true; trackside = true; placed = true; spare = 0 }
     ∷ record { nidtp = 3; place = 0; reach = 0; nidc = 17; alignment = 0; stopping = 0; stop = false; trackside = false; placed = false; spare = 0 }
-    ∷ record { nidtp = 4; place = 0; reach = 0; nidc = 17; alignment = 0; stopping = 0; stop = true; trackside = false; placed = false; spare = 0 }
+    ∷ record { nidtp = 4; place = 0; reach = 0; nidc = 17; alignment = 0; stopping = 0; stop = true; trackside = true; placed = false; spare = 0 }
     ∷ []
 
 -- the array of a segment's zones
@@ -150,6 +151,9 @@ pub record Anchors : Type 0 where
     };
     head = head;
   })
+  -- its numbers: three points over two segments, the third of them the End of Journey
+  pub group : loadGroup (record { head = head; names = a ∷ b ∷ []; points = point 1 0 ∷ point 6 0 ∷ last 2 1 ∷ [] })
+      ≡ record { operational = 1234; valid = true; ending = 2; «point_count» = 3; «segment_count» = 2 }
   -- no row refuses: all placed, a point on a segment that is not in the book, two points on one segment, and places counted from the journey's start
   pub fine : map judged (
       (a ∷ b ∷ d ∷ [], point 1 0 ∷ point 2 1 ∷ last 4 2 ∷ []) ∷ (a ∷ b ∷ c ∷ d ∷ [], point 1 0 ∷ last 2 1 ∷ point 3 2 ∷ point 4 3 ∷ [])
