@@ -46,6 +46,7 @@ anchors = record {
   passes-first = refl;
   passes-many = refl;
   passes-all = refl;
+  passes-last = refl;
   passes-passing = refl;
   unplaced-stays = refl;
   reaches-R = refl;

@@ -136,6 +136,7 @@ pub record Anchors : Type 0 where
   pub passes-first : map (λ o. reported crowded (one o 9) (targeted 0)) (40500 ∷ 40501 ∷ []) ≡ targeted 0 ∷ targeted 2 ∷ []
   pub passes-many : map (λ o. reported journey (two o 9) (targeted 0)) (10301 ∷ 10302 ∷ 50000 ∷ []) ≡ targeted 2 ∷ targeted 3 ∷ targeted 4 ∷ []
   pub passes-all : map (λ n. reported (journeyTo n) (two 50000 9) (targeted 1)) (4 ∷ 3 ∷ 1 ∷ []) ≡ targeted 4 ∷ targeted 3 ∷ targeted 1 ∷ []
+  pub passes-last : reported (journeyTo 3) (two 40150 0) (targeted 1) ≡ targeted 3
   pub passes-passing : reported journey (one 90150 0) (targeted 1) ∷ reported journey (one 90151 0) (targeted 1) ∷ [] ≡ targeted 1 ∷ targeted 2 ∷ []
   -- "While the position is known and the targeted point placed"
   pub unplaced-stays : reported journey (two 50000 0) (targeted 4) ∷ reported journey (nowhere 0) (targeted 1) ∷ [] ≡ targeted 4 ∷ targeted 1 ∷ []
