@@ -9,6 +9,9 @@ unfolding computed standingsIn
 anchors = record {
   brought = refl;
   nothing-brought = refl;
+  points-kept = refl;
+  press-kept = refl;
+  press-loaded = refl;
   ignored = refl;
   power-off = refl;
   report = refl;

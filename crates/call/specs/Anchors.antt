@@ -93,6 +93,10 @@ unloaded = engine noRoute noSkips (train 15000 7 400) (progress 0 false) (inputs
 abbrev pub engaged : Engine
 engaged = engine journey skips (train 29999 7 400) (progress 2 false) (inputs 1 0 31) (control 5 false true)
 
+-- in RE with a press pending, standing at 7001, which is reached
+abbrev pub waiting : Engine
+waiting = engine journey skips (train 10000 0 400) (progress 0 true) (inputs 0 0 31) (control 4 true true)
+
 -- ---- another journey, by the train's rear: with a train of 4 m at 150 m, d of its points is 136 m, 126 m, 151 cm, 150 cm, -354 m
 
 abbrev pub another : Route
@@ -176,6 +180,12 @@ pub record Anchors : Type 0 where
       ≡ accept (values (train 15000 7 400) (inputs 0 2 20)) ∷ accept (values (train 15000 7 400) (inputs 1 1 20))
       ∷ accept (values (train 15000 7 400) (inputs 1 2 31)) ∷ accept (values (train 15000 7 9) (inputs 1 2 20)) ∷ []
   pub nothing-brought : map (does held) (PowerOn ∷ Configured ∷ Fault ∷ Press ∷ []) ≡ replicate 4 (accept (values (train 15000 7 400) (inputs 1 2 20)))
+  -- no event but a position report, a load and power off moves the points; no event but the rows of the states uses the press up
+  pub points-kept : map (λ (v : Event). does waiting v >>= (λ (f : Effect). accept (f .progress)))
+      (Fault ∷ Reports 0 ∷ Mode 1 ∷ Lever 1 ∷ Press ∷ Length 9 ∷ Skip 7005 ∷ Revoke 7004 ∷ []) ≡ replicate 8 (accept (progress 0 true))
+  pub press-kept : map (λ (v : Event). does waiting v >>= (λ (f : Effect). accept (f .control)))
+      (Mode 1 ∷ PositionReport (at 5 6) ∷ Length 9 ∷ Skip 7005 ∷ Revoke 7004 ∷ []) ≡ replicate 5 (accept (control 4 true true))
+  pub press-loaded : loadedIn waiting (carried Load) loading .control ≡ control 4 true true
   -- "Other kinds ignore the lent profiles."
   pub ignored : map (λ (v : Event). refusal (does held v))
       (PowerOn ∷ Configured ∷ PowerOff ∷ Fault ∷ Reports 0 ∷ Mode 0 ∷ Lever 0 ∷ Press ∷ PositionReport (at 5 6) ∷ Length 9 ∷ Load ∷ Skip 7005 ∷ Revoke 7004 ∷ [])

@@ -72,8 +72,8 @@ pub record Anchors : Type 0 where
   pub received-none : received route (at 17 500 39900) none ≡ []
   -- "Written when state or conditions changed, or speed rose from 0 while not EG afterwards"
   pub unchanged : statusDue (shown 3 511 0) (shown 3 511 0) ≡ false
-  pub other-state : statusDue (shown 3 511 7) (shown 5 511 7) ≡ true
-  pub other-conditions : statusDue (shown 5 511 7) (shown 5 510 7) ≡ true
+  pub other-state : map (λ (s : ℕ). statusDue (shown 3 511 7) (shown s 511 7)) (2 ∷ 3 ∷ 5 ∷ []) ≡ true ∷ false ∷ true ∷ []
+  pub other-conditions : map (λ (n : ℕ). statusDue (shown 5 510 7) (shown 5 n 7)) (509 ∷ 510 ∷ 511 ∷ []) ≡ true ∷ false ∷ true ∷ []
   pub speed-after : map (λ (s : ℕ). statusDue (shown s 511 0) (shown s 511 1)) (0 ∷ 1 ∷ 2 ∷ 3 ∷ 4 ∷ 5 ∷ 6 ∷ 7 ∷ [])
       ≡ true ∷ true ∷ true ∷ true ∷ true ∷ false ∷ true ∷ true ∷ []
   pub speed-rose : map (λ (n : ℕ). statusDue (shown 3 511 n) (shown 3 511 2)) (0 ∷ 1 ∷ 2 ∷ 3 ∷ []) ≡ true ∷ false ∷ false ∷ false ∷ []

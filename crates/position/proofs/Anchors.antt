@@ -12,6 +12,7 @@ anchors = record {
   no-segment = refl;
   zones = refl;
   other-zones = refl;
+  unplaced-zones = refl;
   defined = refl;
   first-front = refl;
   second-front = refl;

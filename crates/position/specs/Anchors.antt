@@ -49,6 +49,8 @@ pub record Anchors : Type 0 where
   pub zones : map (λ o. segmentNamed journey (at 17 500 o 0) .inside) (19999 ∷ 20000 ∷ 30000 ∷ 30001 ∷ 65000 ∷ [])
       ≡ false ∷ true ∷ true ∷ false ∷ false ∷ []
   pub other-zones : map (λ o. segmentNamed journey (at 33 500 o 0) .inside) (100 ∷ 101 ∷ 44999 ∷ 45000 ∷ []) ≡ true ∷ false ∷ false ∷ true ∷ []
+  -- "a zone of a journey segment in the book": it need not be placed
+  pub unplaced-zones : map (λ o. segmentNamed journey (at 33 502 o 0) .inside) (9 ∷ 10 ∷ 20 ∷ 21 ∷ []) ≡ false ∷ true ∷ true ∷ false ∷ []
   -- "16,777,215 undefined"
   pub defined : map (λ o. offsetDefined (at 17 500 o 0)) (0 ∷ 16777214 ∷ 16777215 ∷ []) ≡ true ∷ true ∷ false ∷ []
   -- "The position is known if the offset is defined, its segment placed and the offset within its length", "counted from the journey's start"

@@ -18,6 +18,7 @@ anchors = record {
   by-driving = refl;
   by-hindered = refl;
   by-reached = refl;
+  press-reached = refl;
   row-CO = refl;
   row-RE = refl;
   row-AD = refl;

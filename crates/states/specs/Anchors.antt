@@ -109,6 +109,8 @@ pub record Anchors : Type 0 where
       ≡ still NP ∷ still CO ∷ still NA ∷ still NA ∷ still NA ∷ still DE ∷ still DE ∷ still FA ∷ []
   pub by-reached : map (λ s. byState s false true driving) states
       ≡ still NP ∷ still CO ∷ still AV ∷ still AV ∷ still AV ∷ still AV ∷ still DE ∷ still FA ∷ []
+  pub press-reached : map (λ s. byState s true true waiting) states
+      ≡ still NP ∷ still CO ∷ still RE ∷ still RE ∷ pressed RE ∷ still RE ∷ still RE ∷ still FA ∷ []
   -- "power on gives CO; CO waits for configured, then U; fault gives FA until power off"
   pub row-CO : map (λ r. byRow (still CO) r false hindered) rows ≡ still CO ∷ still NA ∷ still NP ∷ still FA ∷ still CO ∷ still CO ∷ []
   pub row-RE : map (λ r. byRow (still RE) r false waiting) rows ≡ still CO ∷ still RE ∷ still NP ∷ still FA ∷ pressed RE ∷ still RE ∷ []

@@ -7,7 +7,8 @@ use mathlib.Core.List.{List, [], _∷_, map}
 use mathlib.Core.Bool.{Bool, true, false}
 use lib.IntN.{pos, negℤ}
 use lib.Dec.{eqb}
-use Rattle.engine_value.specs.Engine.{undefined, progress}
+use Rattle.engine_value.specs.Engine.{Route, undefined, progress}
+use Rattle.engine_value.specs.declared.Point.{Point}
 use Rattle.engine_value.specs.declared.Progress.{Progress}
 use Rattle.engine_value.specs.declared.Position.{Position}
 use Rattle.position.specs.Position.{point}
@@ -45,6 +46,25 @@ longer n r = record { position = r .position; length = n; skips = r .skips }
 
 abbrev skipping : Report → Report
 skipping r = record { position = r .position; length = r .length; skips = λ k. eqb k 0 }
+
+-- ---- two stops, at 40,000 with R 500 and at 40,100 with R 0: the second may have d > margin where the first has not
+
+abbrev near : ℕ → ℕ → Point
+near place reach = record {
+  nidtp = place;
+  place = place;
+  reach = reach;
+  nidc = 17;
+  alignment = 0;
+  stopping = 0;
+  stop = true;
+  trackside = false;
+  placed = true;
+  spare = 0;
+}
+
+abbrev crowded : Route
+crowded = record { load = journeyTo 2 .load; points = near 40000 500 ∷ near 40100 0 ∷ []; segments = journey .segments }
 
 -- ---- progress: n points are passed, and the next is targeted or reached
 
@@ -101,6 +121,7 @@ pub record Anchors : Type 0 where
   pub skips-of-engine : map (reportFrom (engineAt (at 17 500 0 0) 0 false) (at 33 500 7 8) .skips) (0 ∷ 3 ∷ 64 ∷ []) ≡ false ∷ true ∷ false ∷ []
   -- "the first point that is unplaced or has d ≤ margin is targeted, earlier ones passed"
   pub load-R : map (λ o. target journey (at 17 500 o 0) 301) (40000 ∷ 40150 ∷ 40151 ∷ []) ≡ 0 ∷ 0 ∷ 1 ∷ []
+  pub load-first : map (λ o. target crowded (at 17 500 o 0) 301) (40500 ∷ 40501 ∷ []) ≡ 0 ∷ 2 ∷ []
   pub load-middle : map (λ o. target journey (at 17 500 o 9) 301) (90150 ∷ 90151 ∷ []) ≡ 1 ∷ 2 ∷ []
   pub load-rear : map (λ o. target journey (at 33 500 o 9) 301) (10301 ∷ 10302 ∷ 40250 ∷ 40251 ∷ []) ≡ 2 ∷ 3 ∷ 3 ∷ 4 ∷ []
   pub load-length : map (target journey (at 17 500 90100 0)) (0 ∷ 199 ∷ 200 ∷ []) ≡ 2 ∷ 2 ∷ 1 ∷ []
@@ -112,8 +133,10 @@ pub record Anchors : Type 0 where
   pub load-behind : map (putBehind journey (two 50000 0)) (0 ∷ 1 ∷ 2 ∷ 3 ∷ 4 ∷ []) ≡ true ∷ true ∷ true ∷ true ∷ false ∷ []
   -- (b) "d > margin, it is passed and the next looked at", as many as there are; "the targeted point placed"
   pub passes-R : map (λ o. reported journey (one o 9) (targeted 0)) (40150 ∷ 40151 ∷ []) ≡ targeted 0 ∷ targeted 1 ∷ []
+  pub passes-first : map (λ o. reported crowded (one o 9) (targeted 0)) (40500 ∷ 40501 ∷ []) ≡ targeted 0 ∷ targeted 2 ∷ []
   pub passes-many : map (λ o. reported journey (two o 9) (targeted 0)) (10301 ∷ 10302 ∷ 50000 ∷ []) ≡ targeted 2 ∷ targeted 3 ∷ targeted 4 ∷ []
   pub passes-all : map (λ n. reported (journeyTo n) (two 50000 9) (targeted 1)) (4 ∷ 3 ∷ 1 ∷ []) ≡ targeted 4 ∷ targeted 3 ∷ targeted 1 ∷ []
+  pub passes-last : reported (journeyTo 3) (two 40150 0) (targeted 1) ≡ targeted 3
   pub passes-passing : reported journey (one 90150 0) (targeted 1) ∷ reported journey (one 90151 0) (targeted 1) ∷ [] ≡ targeted 1 ∷ targeted 2 ∷ []
   -- "While the position is known and the targeted point placed"
   pub unplaced-stays : reported journey (two 50000 0) (targeted 4) ∷ reported journey (nowhere 0) (targeted 1) ∷ [] ≡ targeted 4 ∷ targeted 1 ∷ []
@@ -140,6 +163,7 @@ pub record Anchors : Type 0 where
   pub reports-in-turn : run journey (targeted 0) (two 10302 1 ∷ two 40150 0 ∷ []) ≡ stopped 3
   -- "status (0 passed, 1 stopped, 2 departed, 5 driver skip, 6 skip revoked)"
   pub statuses : statusPassed ∷ statusStopped ∷ statusDeparted ∷ statusSkipped ∷ statusRevoked ∷ [] ≡ 0 ∷ 1 ∷ 2 ∷ 5 ∷ 6 ∷ []
+  pub change-of : change 3 1 (stopped 2) ≡ record { index = 3; status = 1; after = stopped 2 }
   -- "the 62s as they arise", with the progress "after that change". "A departure writes status 2 and no 0"
   pub changes-departing : reportChanges journey (two 40150 1) (stopped 0)
       ≡ change 0 2 (targeted 1) ∷ change 1 0 (targeted 2) ∷ change 2 0 (targeted 3) ∷ []
@@ -159,10 +183,12 @@ pub record Anchors : Type 0 where
   pub rule-none : stand 0 [] ≡ Targeted ∷ Unused ∷ Unused ∷ Unused ∷ Unused ∷ []
   pub rule-unsettled : stand 0 (one 39849 0 ∷ one 40150 5 ∷ []) ≡ Targeted ∷ Unused ∷ Unused ∷ Unused ∷ Unused ∷ []
   pub rule-reached : stand 0 (one 39849 0 ∷ one 39850 0 ∷ []) ≡ Reached ∷ Unused ∷ Unused ∷ Unused ∷ Unused ∷ []
+  pub rule-first : map (standingByReports crowded 0 (one 40500 9 ∷ [])) (0 ∷ 1 ∷ []) ≡ Targeted ∷ Unused ∷ []
   -- "departs, thus passes, at the first later position report with speed above 0": not before, wherever the train stands
   pub rule-stays : stand 0 (one 39850 0 ∷ two 50000 0 ∷ []) ≡ Reached ∷ Unused ∷ Unused ∷ Unused ∷ Unused ∷ []
   pub rule-departs : stand 0 (one 39850 0 ∷ nowhere 1 ∷ []) ≡ Passed ∷ Targeted ∷ Unused ∷ Unused ∷ Unused ∷ []
-  -- "from the passing moment of the point before, that very report included"
+  -- "from the passing moment of the point before, that very report included": not from one before it, though 7002 had d > margin there
+  pub rule-from : stand 0 (one 39850 0 ∷ two 50000 0 ∷ one 40000 1 ∷ []) ≡ Passed ∷ Targeted ∷ Unused ∷ Unused ∷ Unused ∷ []
   pub rule-restarts : stand 0 (one 39850 0 ∷ two 10302 1 ∷ []) ≡ Passed ∷ Passed ∷ Passed ∷ Targeted ∷ Unused ∷ []
   pub rule-passes-on : stand 0 (two 40150 0 ∷ []) ≡ Passed ∷ Passed ∷ Passed ∷ Reached ∷ Unused ∷ []
   pub rule-later : stand 0 (two 10302 1 ∷ one 40000 0 ∷ []) ≡ Passed ∷ Passed ∷ Passed ∷ Targeted ∷ Unused ∷ []
