@@ -6,6 +6,7 @@ pub anchors : Anchors
 anchors = record {
   segment-twice = refl;
   index-beyond = refl;
+  beyond-one = refl;
   nidtp-twice = refl;
   how-many-ends = refl;
   index-falls = refl;

@@ -19,11 +19,11 @@ name c sp = record { nidc = c; nidsp = sp }
 abbrev pub point : ℕ → ℕ → Bool → JourneyPoint
 point t i end = record { nidtp = t; index = i; alignment = 1; stopping = 2; stop = true; trackside = true; end = end }
 
--- a journey over two segments with points of these indices
-abbrev pub over : List ℕ → JourneyValue
-over is = record {
+-- a journey over these segments with points of these indices
+abbrev pub over : List Name → List ℕ → JourneyValue
+over ns is = record {
   head = record { operational = noOperational; date = 0; seconds = 0; counter = 0; atots = noAtots };
-  names = name 17 500 ∷ name 18 500 ∷ [];
+  names = ns;
   points = map (λ i. point 7001 i false) is;
 }
 
@@ -47,14 +47,16 @@ pub record Anchors : Type 0 where
       ∷ (name 17 500 ∷ name 18 501 ∷ name 18 500 ∷ name 17 501 ∷ []) ∷ []
       ) ≡ true ∷ true ∷ false ∷ []
   -- "11 index beyond": from 0, so that of two segments 0 and 1 have one
-  pub index-beyond : map (λ is. indexBeyond (over is)) ((0 ∷ 1 ∷ 1 ∷ []) ∷ (0 ∷ 1 ∷ 2 ∷ []) ∷ (255 ∷ 1 ∷ []) ∷ []) ≡ false ∷ true ∷ true ∷ []
+  pub index-beyond : map (λ is. indexBeyond (over (name 17 500 ∷ name 18 500 ∷ []) is)) ((0 ∷ 1 ∷ 1 ∷ []) ∷ (0 ∷ 1 ∷ 2 ∷ []) ∷ (255 ∷ 1 ∷ []) ∷ [])
+      ≡ false ∷ true ∷ true ∷ []
+  pub beyond-one : map (λ is. indexBeyond (over (name 17 500 ∷ []) is)) ((0 ∷ 0 ∷ []) ∷ (0 ∷ 1 ∷ []) ∷ []) ≡ false ∷ true ∷ []
   -- "11 .. NID_TP twice": in the whole journey
   pub nidtp-twice : map (λ ps. twice eqb (nidtps ps)) (named 1 2 3 ∷ named 1 1 2 ∷ named 1 2 1 ∷ named 2 1 1 ∷ []) ≡ false ∷ true ∷ true ∷ true ∷ []
   -- "11 .. not just one End of Journey"
   pub how-many-ends : map ends (ending false false false ∷ ending false true false ∷ ending true false true ∷ ending true true true ∷ [])
       ≡ 0 ∷ 1 ∷ 2 ∷ 3 ∷ []
   -- "12 index falls": the same one again does not
-  pub index-falls : map (λ is. falls (indices (over is .points))) ((0 ∷ 0 ∷ 1 ∷ 1 ∷ []) ∷ (1 ∷ 0 ∷ []) ∷ (0 ∷ 1 ∷ 0 ∷ []) ∷ (0 ∷ 3 ∷ 2 ∷ 3 ∷ []) ∷ [])
+  pub index-falls : map (λ is. falls (indices (over [] is .points))) ((0 ∷ 0 ∷ 1 ∷ 1 ∷ []) ∷ (1 ∷ 0 ∷ []) ∷ (0 ∷ 1 ∷ 0 ∷ []) ∷ (0 ∷ 3 ∷ 2 ∷ 3 ∷ []) ∷ [])
       ≡ false ∷ true ∷ true ∷ true ∷ []
   -- "12 .. or placed points do not strictly rise": equal places do not rise; a point that is not placed has none
   pub places-rise : map (λ ps. strictlyRises (places ps)) (
