@@ -101,7 +101,7 @@ pub struct PacketFields {
     pub conditions: u16,
 }
 
-extern "C" {
+unsafe extern "C" {
     fn hollwern_fresh(e: *mut Engine);
     fn hollwern_step(
         e: *mut Engine,

@@ -6,10 +6,22 @@ use crate::packets::{Content, Header, Packet};
 use crate::values::{read_book, Journey, JourneyPoint, Record};
 
 pub const STATES: [&str; 8] = ["NP", "CO", "NA", "AV", "RE", "EG", "DE", "FA"];
+/// The states in words.
+pub const STATE_NAMES: [&str; 8] = [
+    "no power",
+    "configuration",
+    "not available",
+    "available",
+    "ready",
+    "engaged",
+    "disengaging",
+    "failure",
+];
 pub const MODES: [&str; 2] = ["other", "AD"];
 pub const LEVERS: [&str; 3] = ["neutral", "traction", "brake"];
 pub const ALIGNMENTS: [&str; 3] = ["front", "middle", "rear"];
-const STATUSES: [&str; 9] = [
+/// Status of a timing point in packet 62.
+pub const STATUSES: [&str; 9] = [
     "passed",
     "stopped",
     "departed",
@@ -20,7 +32,7 @@ const STATUSES: [&str; 9] = [
     "status 7",
     "status 8",
 ];
-const CONDITIONS: [&str; 9] = [
+pub const CONDITIONS: [&str; 9] = [
     "ETCS conditions",
     "no emergency brake",
     "End of Journey not reached",

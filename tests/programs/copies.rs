@@ -23,22 +23,22 @@ const OF_LOAD: [&str; 6] = ["effects::load", "segment_record::", "book::", "jour
 static COPIED: AtomicUsize = AtomicUsize::new(0);
 
 /// `tests/build` makes the code call these instead of memcpy, memmove and memset.
-#[no_mangle]
+#[unsafe(no_mangle)]
 unsafe extern "C" fn counted_memcpy(to: *mut u8, from: *const u8, n: usize) -> *mut u8 {
-    counted_memmove(to, from, n)
+    unsafe { counted_memmove(to, from, n) }
 }
 
-#[no_mangle]
+#[unsafe(no_mangle)]
 unsafe extern "C" fn counted_memmove(to: *mut u8, from: *const u8, n: usize) -> *mut u8 {
     COPIED.fetch_add(n, Relaxed);
-    std::ptr::copy(from, to, n);
+    unsafe { std::ptr::copy(from, to, n) };
     to
 }
 
-#[no_mangle]
+#[unsafe(no_mangle)]
 unsafe extern "C" fn counted_memset(to: *mut u8, byte: i32, n: usize) -> *mut u8 {
     COPIED.fetch_add(n, Relaxed);
-    std::ptr::write_bytes(to, byte as u8, n);
+    unsafe { std::ptr::write_bytes(to, byte as u8, n) };
     to
 }
 

@@ -4,7 +4,7 @@ use crate::hollwern::{self, Shown};
 use model::calls::Call;
 use model::engine::{Answer, Engine};
 
-extern "C" {
+unsafe extern "C" {
     fn hollwern_fresh(e: *mut hollwern::Engine);
 }
 

@@ -31,6 +31,8 @@ pub struct Step {
     pub line: usize,
     pub text: String,
     pub call: Call,
+    /// The names of the journey and of the book that a load brings.
+    pub loads: Option<(String, String)>,
 }
 
 #[derive(Default)]
@@ -136,9 +138,12 @@ impl Scenario {
             "through" => self.read_through(&mut words)?,
             "stop" | "passing" => self.read_journey_point(word == "stop", &mut words)?,
             _ => {
-                let call = self.read_event(word, &mut words)?;
+                let (call, loads) = match word {
+                    "load" => self.read_load(&mut words)?,
+                    _ => (self.read_event(word, &mut words)?, None),
+                };
                 let text = text.split('#').next().unwrap_or("").trim().to_string();
-                self.steps.push(Step { line, text, call });
+                self.steps.push(Step { line, text, call, loads });
             }
         }
         words.end()
@@ -247,7 +252,6 @@ impl Scenario {
             "engage" => Call::press(),
             "position" => self.read_position(words)?,
             "length" => Call::length(words.number("length")?),
-            "load" => self.read_load(words)?,
             "skip" => Call::skip(self.point_number(words)?),
             "revoke" => Call::revoke(self.point_number(words)?),
             "bytes" => {
@@ -268,11 +272,13 @@ impl Scenario {
         Ok(Call::position(segment.nidc, segment.nidsp, offset, words.value("speed")?))
     }
 
-    fn read_load(&self, words: &mut Words) -> Result<Call, String> {
-        let journey = find("journey", &self.journeys, words.next("the journey")?)?;
-        let book = find("book", &self.books, words.next("the book")?)?;
-        let records: Vec<Record> = book.iter().map(|name| self.segments[name].clone()).collect();
-        Ok(Call::load(journey.write(), write_book(&records)))
+    /// The call, and the names of the journey and of the book that it brings.
+    fn read_load(&self, words: &mut Words) -> Result<(Call, Option<(String, String)>), String> {
+        let (journey, book) = (words.next("the journey")?, words.next("the book")?);
+        let records = find("book", &self.books, book)?.iter().map(|name| self.segments[name].clone());
+        let records: Vec<Record> = records.collect();
+        let call = Call::load(find("journey", &self.journeys, journey)?.write(), write_book(&records));
+        Ok((call, Some((journey.into(), book.into()))))
     }
 }
 
