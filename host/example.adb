@@ -1,19 +1,21 @@
---  A small host in Ada: powers on, drives the journey of document 01's trials, and prints each answer and each packet as it is read.
+--  A small host in Ada: powers on, drives the journey of document 01's trials, and prints each answer and each packet
+--  as it is read.
+with Ada.Command_Line;
 with Ada.Text_IO; use Ada.Text_IO;
-with Hollwern;
+with Hollwern; use Hollwern;
 with Interfaces; use Interfaces;
 with Interfaces.C; use Interfaces.C;
 
 procedure Example is
-   type Bytes is array (size_t range <>) of Unsigned_8;
    --  Segment 17/500, 100,000 long; stop 7001 at 40,000 with R 150; 7002 at 90,000, End of Journey.
-   Journey : constant Bytes :=
-     (16#1A#, 0, 0, 0, 0, 0, 0, 0, 1, 0, 17, 0, 0, 16#01#, 16#F4#, 2, 16#13#, 0, 0, 16#1B#, 16#59#, 0, 16#43#, 0, 0, 16#1B#, 16#5A#, 0);
-   Book : constant Bytes :=
+   Journey : constant Byte_Array :=
+     (16#1A#, 0, 0, 0, 0, 0, 0, 0, 1, 0, 17, 0, 0, 16#01#, 16#F4#, 2,
+      16#13#, 0, 0, 16#1B#, 16#59#, 0, 16#43#, 0, 0, 16#1B#, 16#5A#, 0);
+   Book : constant Byte_Array :=
      (16#0F#, 0, 17, 0, 0, 16#01#, 16#F4#, 0, 16#01#, 16#86#, 16#A0#, 2,
       0, 0, 16#1B#, 16#59#, 0, 0, 16#9C#, 16#40#, 0, 150, 0, 0, 16#1B#, 16#5A#, 0, 16#01#, 16#5F#, 16#90#, 0, 0);
-   E : Hollwern.Engine;
-   Output : Bytes (0 .. 4_095) := (others => 0);
+   E : Engine;
+   Output : Byte_Array (0 .. Bytes_Most - 1) := (others => 0);
 
    function "&" (Text : String; N : size_t) return String is (Text & N'Image (2 .. N'Image'Last));
    function "&" (Text : String; N : Unsigned_32) return String is (Text & size_t (N));
@@ -23,20 +25,21 @@ procedure Example is
    function Hex (N : Unsigned_32; Width : Natural) return String is
      (if Width = 0 then "" else Hex (N / 16, Width - 1) & Symbols (Natural (N mod 16) + 1));
 
-   procedure Show_Packet (Packet : Bytes) is
-      P : constant Hollwern.Packet_Fields := Hollwern.Read (Packet'Address, Packet'Length);
-      H : Hollwern.Packet_Header renames P.Header;
+   procedure Show_Packet (Packet : Byte_Array) is
+      P : constant Packet_Fields := Read (Packet);
+      H : Header renames P.Header;
    begin
       if not P.Accepted then
          Put_Line ("R " & P.Number);
          return;
       end if;
-      Put ("" & P.Kind & " at " & H.Nidc & "/" & H.Nidsp & " " & H.Offset & " speed " & H.Speed & " operational " & Hex (H.Operational, 8));
+      Put ("" & P.Kind & " at " & H.Nidc & "/" & H.Nidsp & " " & H.Offset & " speed " & H.Speed
+           & " operational " & Hex (H.Operational, 8));
       case P.Kind is
-         when 62 =>
+         when Packet_Timing_Point =>
             Put_Line (": point " & P.Nidc & "/" & P.Nidtp & " qeoj " & P.Q_Eoj_Reached & " alignment " & P.Alignment
                       & " status " & P.Status & " stopping " & P.Stopping);
-         when 65 =>
+         when Packet_Jp_Received =>
             Put_Line (": nidc " & P.Nidc & " atots " & P.Atots & " date " & P.Date & " seconds " & P.Seconds
                       & " counter " & P.Counter & " status " & P.Status);
          when others =>
@@ -44,9 +47,8 @@ procedure Example is
       end case;
    end Show_Packet;
 
-   procedure Call (Event : Bytes) is
-      A : constant Hollwern.Answer := Hollwern.Step
-        (E, Event'Address, Event'Length, Journey'Address, Journey'Length, Book'Address, Book'Length, Output'Address, Output'Length);
+   procedure Call (Event : Byte_Array) is
+      A : constant Answer := Step (E, Event, Journey, Book, Output);
       First, Next : size_t := 0;
    begin
       if not A.Accepted then
@@ -55,7 +57,7 @@ procedure Example is
       end if;
       Put_Line ("A " & A.State & " " & Unsigned_8 (C_bool'Pos (A.Request)) & " " & A.Bytes);
       while First < A.Bytes loop
-         Next := First + (case Output (First) is when 62 => 25, when 65 => 29, when others => 19);
+         Next := First + Front_Size (Output (First .. A.Bytes - 1));
          for Byte of Output (First .. Next - 1) loop
             Put (Hex (Unsigned_32 (Byte), 2));
          end loop;
@@ -68,35 +70,53 @@ procedure Example is
    procedure Position (Offset : Unsigned_32; Speed : Unsigned_8) is
       function Byte (N : Unsigned_32) return Unsigned_8 is (Unsigned_8 (N mod 256));
    begin
-      Call ((9, 0, 17, 0, 0, 16#01#, 16#F4#, 0, Byte (Offset / 65_536), Byte (Offset / 256), Byte (Offset), 0, Speed));
+      Call ((Kind_Position_Report, 0, 17, 0, 0, 16#01#, 16#F4#, 0, Byte (Offset / 65_536), Byte (Offset / 256),
+             Byte (Offset), 0, Speed));
    end Position;
 
    procedure Show is
-      S : constant Hollwern.Shown := Hollwern.Show (E);
+      S : constant Shown := Show (E);
    begin
-      Put ("state " & S.State & " request " & Unsigned_8 (C_bool'Pos (S.Request)) & " conditions " & Hex (Unsigned_32 (S.Conditions), 3)
-           & " points");
+      Put ("state " & S.State & " request " & Unsigned_8 (C_bool'Pos (S.Request))
+           & " conditions " & Hex (Unsigned_32 (S.Conditions), 3) & " points");
       for K in 0 .. Natural (S.Point_Count) - 1 loop
          Put (" " & S.Standings (K));
       end loop;
       New_Line;
    end Show;
+
+   --  A packet 68 whose other bytes are 0, then what the reader refuses, and how each is cut.
+   procedure Show_Damaged_Packets is
+      Packet : Byte_Array := (0 => Packet_Ato_Status, 1 .. 19 => 0);
+   begin
+      Show_Packet (Packet (0 .. 18));
+      Show_Packet (Packet (0 .. 17));     --  a byte short: 17
+      Put_Line ("front " & Front_Size (Packet) & " " & Front_Size (Packet (0 .. 18))
+                & " " & Front_Size (Packet (0 .. 17)) & " " & Front_Size (Packet (1 .. 0)));
+      Packet (18) := 8;
+      Show_Packet (Packet (0 .. 18));     --  state 8: 19
+      Packet (0) := 63;
+      Show_Packet (Packet (0 .. 18));     --  another number: 18
+      Put_Line ("front " & Front_Size (Packet));
+   end Show_Damaged_Packets;
 begin
-   Hollwern.Fresh (E);
-   Call ((1 => 1));           --  power on
-   Call ((1 => 1));           --  once more: refused
-   Call ((1 => 11));          --  load
+   if Linked_Version /= Version then
+      Put_Line (Standard_Error, "example: hollwern.ads and libhollwern.a are of different versions");
+      Ada.Command_Line.Set_Exit_Status (Ada.Command_Line.Failure);
+      return;
+   end if;
+   Fresh (E);
+   Call ((1 => Kind_Power_On));
+   Call ((1 => Kind_Power_On));           --  once more: refused
+   Call ((1 => Kind_Load));
    Position (20_000, 0);
-   Call ((5, 31));            --  all reports
-   Call ((1 => 2));           --  configured: P8
+   Call ((Kind_Reports, 31));
+   Call ((1 => Kind_Configured));         --  P8
    Show;
-   Position (39_900, 0);      --  P7: the stop is reached
+   Position (39_900, 0);                  --  P7: the stop is reached
    Show;
-   Position (39_900, 50);     --  departed
-   Position (90_001, 50);     --  P6: 7002 is passed
+   Position (39_900, 50);                 --  departed
+   Position (90_001, 50);                 --  P6: 7002 is passed
    Show;
-   Show_Packet ((0 => 68, 1 .. 18 => 0));
-   Show_Packet ((0 => 68, 1 .. 17 => 0));              --  a byte short: 17
-   Show_Packet ((0 => 63, 1 .. 18 => 0));              --  another number: 18
-   Show_Packet ((0 => 68, 1 .. 17 => 0, 18 => 8));     --  state 8: 19
+   Show_Damaged_Packets;
 end Example;

@@ -1,138 +1,226 @@
---  The calls of hollwern.h for a host in Ada, with the same layouts. A count stands behind each pointer.
+--  The calls of hollwern.h for a host in Ada. What each promises, and what it asks of the host, stands there. An engine
+--  is all zero as declared; the arrays of bytes give the pointers. For x86-64 Linux only.
 with Interfaces; use Interfaces;
 with Interfaces.C; use Interfaces.C;
-with System; use System;
+private with System;
 
 package Hollwern is
-   --  An engine's layouts; a host need not look inside. Equal calls on equal engines leave equal bytes: there is no padding.
-   type Zone is record
-      Start, Last : Unsigned_32 := 0;
-   end record with Convention => C, Size => 8 * 8;
-   type Zone_Array is array (0 .. 3) of Zone with Convention => C;
+   --  The version of these declarations; Linked_Version tells that of the archive. They must be equal.
+   Version_Major : constant := 1;
+   Version_Minor : constant := 0;
+   Version_Patch : constant := 0;
+   Version : constant := Version_Major * 65_536 + Version_Minor * 256 + Version_Patch;
 
-   type Segment is record
-      Nidsp, Start, Length, Zone_Count : Unsigned_32 := 0;
-      Zones : Zone_Array;
-      Nidc : Unsigned_16 := 0;
-      Booked, Placed : C_bool := False;
-   end record with Convention => C, Size => 8 * 52;
-   type Segment_Array is array (0 .. 39) of Segment with Convention => C;
+   --  Bytes of an engine.
+   Engine_Size : constant := 3_456;
+   --  The most bytes that an event writes.
+   Bytes_Most : constant := 1_669;
+   --  The most points of a journey.
+   Points_Most : constant := 64;
+   --  Bytes of stack that a load takes.
+   Stack_Load : constant := 31_744;
+   --  Bytes of stack that any other call takes.
+   Stack_Other : constant := 10_240;
 
-   type Point is record
-      Nidtp, Place, Reach : Unsigned_32 := 0;
-      Nidc : Unsigned_16 := 0;
-      Alignment, Stopping : Unsigned_8 := 0;
-      Stop, Trackside, Placed : C_bool := False;
-      Spare : Unsigned_8 := 0;
-   end record with Convention => C, Size => 8 * 20;
-   type Point_Array is array (0 .. 63) of Point with Convention => C;
-   type Skip_Array is array (0 .. 63) of C_bool with Convention => C;
+   --  Event kinds: the first byte of an event.
+   Kind_Power_On : constant := 1;
+   Kind_Configured : constant := 2;
+   Kind_Power_Off : constant := 3;
+   Kind_Fault : constant := 4;
+   Kind_Reports : constant := 5;
+   Kind_Mode : constant := 6;
+   Kind_Lever : constant := 7;
+   Kind_Press : constant := 8;
+   Kind_Position_Report : constant := 9;
+   Kind_Length : constant := 10;
+   Kind_Load : constant := 11;
+   Kind_Skip : constant := 12;
+   Kind_Revoke : constant := 13;
 
-   type Load is record
-      Operational : Unsigned_32 := 0;
-      Valid : C_bool := False;
-      Ending, Point_Count, Segment_Count : Unsigned_8 := 0;
-   end record with Convention => C, Size => 8 * 8;
-   type Position is record
-      Nidsp, Offset : Unsigned_32 := 0;
-      Nidc, Speed : Unsigned_16 := 0;
-   end record with Convention => C, Size => 8 * 12;
-   type Train is record
-      Position : Hollwern.Position;
-      Length : Unsigned_32 := 0;
-   end record with Convention => C, Size => 8 * 16;
-   type Progress is record
-      Next : Unsigned_8 := 0;
-      Reached : C_bool := False;
-   end record with Convention => C, Size => 8 * 2;
-   type Inputs is record
-      Mode, Lever, Reports : Unsigned_8 := 0;
-   end record with Convention => C, Size => 8 * 3;
-   type Control is record
-      State : Unsigned_8 := 0;
-      Press, Request : C_bool := False;
-   end record with Convention => C, Size => 8 * 3;
+   --  Kind 5: bits of the reports.
+   Report_Etcs : constant := 1;
+   Report_No_Emergency_Brake : constant := 2;
+   Report_No_Inconsistency : constant := 4;
+   Report_Data_Valid : constant := 8;
+   Report_Train : constant := 16;
 
-   type Engine is record
-      Points : Point_Array;
-      Skips : Skip_Array := (others => False);
-      Segments : Segment_Array;
-      Load : Hollwern.Load;
-      Train : Hollwern.Train;
-      Progress : Hollwern.Progress;
-      Inputs : Hollwern.Inputs;
-      Control : Hollwern.Control;
-   end record with Convention => C, Size => 8 * 3_456;
+   --  Kind 6: ETCS mode. Kind 7: lever.
+   Mode_Other : constant := 0;
+   Mode_AD : constant := 1;
+   Lever_Neutral : constant := 0;
+   Lever_Traction : constant := 1;
+   Lever_Brake : constant := 2;
 
-   for Engine use record
-      Points at 0 range 0 .. 8 * 1_280 - 1;
-      Skips at 1_280 range 0 .. 8 * 64 - 1;
-      Segments at 1_344 range 0 .. 8 * 2_080 - 1;
-      Load at 3_424 range 0 .. 8 * 8 - 1;
-      Train at 3_432 range 0 .. 8 * 16 - 1;
-      Progress at 3_448 range 0 .. 8 * 2 - 1;
-      Inputs at 3_450 range 0 .. 8 * 3 - 1;
-      Control at 3_453 range 0 .. 8 * 3 - 1;
-   end record;
+   --  Kind 9 and headers: the offset that means undefined.
+   Offset_Undefined : constant := 16_777_215;
+   --  NID_OPERATIONAL where there is no journey or it has none.
+   No_Operational : constant := 4_294_967_295;
+   --  NID_C in the content of packet 65 where the position is not known.
+   Unknown_Nidc : constant := 1_024;
+   --  NID_ATOTS where the journey has none.
+   No_Atots : constant := 16_384;
 
-   --  Each size is the sum of the fields'.
-   pragma Compile_Time_Error (Zone'Size /= 2 * Unsigned_32'Size, "padding");
-   pragma Compile_Time_Error
-     (Segment'Size /= 4 * Unsigned_32'Size + 4 * Zone'Size + Unsigned_16'Size + 2 * C_bool'Object_Size, "padding");
-   pragma Compile_Time_Error
-     (Point'Size /= 3 * Unsigned_32'Size + Unsigned_16'Size + 3 * Unsigned_8'Size + 3 * C_bool'Object_Size, "padding");
-   pragma Compile_Time_Error (Load'Size /= Unsigned_32'Size + C_bool'Object_Size + 3 * Unsigned_8'Size, "padding");
-   pragma Compile_Time_Error (Position'Size /= 2 * Unsigned_32'Size + 2 * Unsigned_16'Size, "padding");
-   pragma Compile_Time_Error (Train'Size /= Position'Size + Unsigned_32'Size, "padding");
-   pragma Compile_Time_Error (Progress'Size /= Unsigned_8'Size + C_bool'Object_Size, "padding");
-   pragma Compile_Time_Error (Inputs'Size /= 3 * Unsigned_8'Size, "padding");
-   pragma Compile_Time_Error (Control'Size /= Unsigned_8'Size + 2 * C_bool'Object_Size, "padding");
-   pragma Compile_Time_Error
-     (Engine'Size /= 64 * Point'Size + 64 * C_bool'Object_Size + 40 * Segment'Size + Load'Size + Train'Size + Progress'Size
-      + Inputs'Size + Control'Size, "padding");
+   --  A journey's points and packet 62: what of the train counts at the point.
+   Alignment_Front : constant := 0;
+   Alignment_Middle : constant := 1;
+   Alignment_Rear : constant := 2;
 
+   --  States: no power, configuration, not available, available, ready, engaged, disengaging, failure.
+   State_NP : constant := 0;
+   State_CO : constant := 1;
+   State_NA : constant := 2;
+   State_AV : constant := 3;
+   State_RE : constant := 4;
+   State_EG : constant := 5;
+   State_DE : constant := 6;
+   State_FA : constant := 7;
+
+   --  Bits of the conditions.
+   Condition_Etcs : constant := 1;
+   Condition_No_Emergency_Brake : constant := 2;
+   Condition_End_Ahead : constant := 4;
+   Condition_Last_Ahead : constant := 8;
+   Condition_Profiles : constant := 16;
+   Condition_No_Inconsistency : constant := 32;
+   Condition_Located : constant := 64;
+   Condition_Outside : constant := 128;
+   Condition_Data_Valid : constant := 256;
+   All_Conditions : constant := 511;
+
+   --  Where a point of the journey stands.
+   Standing_Unused : constant := 0;
+   Standing_Targeted : constant := 1;
+   Standing_Reached : constant := 2;
+   Standing_Passed : constant := 3;
+
+   --  Packets: the first byte of each.
+   Packet_Timing_Point : constant := 62;
+   Packet_Jp_Received : constant := 65;
+   Packet_Ato_Status : constant := 68;
+
+   --  Status in packet 62.
+   Status_Passed : constant := 0;
+   Status_Stopped : constant := 1;
+   Status_Departed : constant := 2;
+   Status_Skipped : constant := 5;
+   Status_Revoked : constant := 6;
+
+   --  Why a call was refused; hollwern.h has each in words.
+   Refused_Event_Form : constant := 1;
+   Refused_Event_Range : constant := 2;
+   Refused_No_Power : constant := 3;
+   Refused_Powered : constant := 4;
+   Refused_Fault : constant := 5;
+   Refused_State : constant := 6;
+   Refused_Book_Form : constant := 7;
+   Refused_Book_Twice : constant := 8;
+   Refused_Journey_Form : constant := 9;
+   Refused_Segment_Twice : constant := 10;
+   Refused_Points : constant := 11;
+   Refused_Order : constant := 12;
+   Refused_Beyond : constant := 13;
+   Refused_No_Stop : constant := 14;
+   Refused_Skip : constant := 15;
+   Refused_Output : constant := 16;
+   Refused_Packet_Length : constant := 17;
+   Refused_Packet_Number : constant := 18;
+   Refused_Packet_Range : constant := 19;
+
+   type Byte_Array is array (size_t range <>) of Unsigned_8;
+
+   --  An engine: all zero until it is made fresh. Equal calls on equal engines leave equal ones.
+   type Engine is private;
+
+   --  Where accepted: Number 0, state, request (whether AD is requested) and bytes written. Where refused: Number, all
+   --  else 0.
    type Answer is record
       Accepted : C_bool;
-      Number, State : Unsigned_8;
+      Number : Unsigned_8;
+      State : Unsigned_8;
       Request : C_bool;
       Bytes : size_t;
    end record with Convention => C_Pass_By_Copy, Object_Size => 8 * 16;
 
-   type Standing_Codes is array (0 .. 63) of Unsigned_8;
+   --  What an engine shows. Standings goes by the order of the journey in force; from Point_Count on it is 0.
+   type Standing_Array is array (0 .. Points_Most - 1) of Unsigned_8;
    type Shown is record
       State : Unsigned_8;
       Request : C_bool;
       Conditions : Unsigned_16;
       Point_Count : Unsigned_8;
-      Standings : Standing_Codes;
+      Standings : Standing_Array;
    end record with Convention => C_Pass_By_Copy, Object_Size => 8 * 70;
 
-   type Packet_Header is record
+   --  Header of a packet: NID_C, NID_SP, offset in cm, speed in cm/s, NID_OPERATIONAL.
+   type Header is record
       Nidc : Unsigned_16;
-      Nidsp, Offset : Unsigned_32;
+      Nidsp : Unsigned_32;
+      Offset : Unsigned_32;
       Speed : Unsigned_16;
       Operational : Unsigned_32;
    end record with Convention => C_Pass_By_Copy, Object_Size => 8 * 20;
 
+   --  Where accepted: Number 0, Kind the packet's number, Size its bytes, the header and the fields that the kind has.
+   --  Where refused: Number. All else is 0.
    type Packet_Fields is record
       Accepted : C_bool;
-      Number, Kind : Unsigned_8;
+      Number : Unsigned_8;
+      Kind : Unsigned_8;
       Size : size_t;
-      Header : Packet_Header;
+      Header : Hollwern.Header;
       Nidc : Unsigned_16;
       Nidtp : Unsigned_32;
-      Q_Eoj_Reached, Alignment, Status, Stopping : Unsigned_8;
-      Atots, Date : Unsigned_16;
+      Q_Eoj_Reached : Unsigned_8;
+      Alignment : Unsigned_8;
+      Status : Unsigned_8;
+      Stopping : Unsigned_8;
+      Atots : Unsigned_16;
+      Date : Unsigned_16;
       Seconds : Unsigned_32;
-      Counter, State : Unsigned_8;
+      Counter : Unsigned_8;
+      State : Unsigned_8;
       Conditions : Unsigned_16;
    end record with Convention => C_Pass_By_Copy, Object_Size => 8 * 64;
 
+   --  The version of the archive, to be compared with Version.
+   function Linked_Version return Unsigned_32
+      with Import, Convention => C, External_Name => "hollwern_version";
+
+   --  Makes the engine fresh. To be called once before the first event.
    procedure Fresh (E : in out Engine) with Import, Convention => C, External_Name => "hollwern_fresh";
-   function Step
+
+   --  Takes one event. Accepted, its packets stand at the front of Output; refused, nothing is changed.
+   function Step (E : in out Engine; Event, Journey, Book : Byte_Array; Output : in out Byte_Array) return Answer;
+
+   function Show (E : Engine) return Shown with Import, Convention => C, External_Name => "hollwern_show";
+
+   --  The bytes of the packet in front: all where no packet has that number or fewer are left than it takes.
+   function Front_Size (Bytes : Byte_Array) return size_t;
+
+   --  Reads one packet, exactly.
+   function Read (Bytes : Byte_Array) return Packet_Fields;
+
+private
+   use System;
+   pragma Compile_Time_Error (Address'Size /= 64 or size_t'Size /= 64, "hollwern.ads: for x86-64 Linux only");
+
+   type Word_Array is array (0 .. Engine_Size / 4 - 1) of Unsigned_32;
+   type Engine is record
+      Opaque : Word_Array := (others => 0);
+   end record with Convention => C, Size => 8 * Engine_Size, Alignment => 4;
+
+   function C_Step
      (E : in out Engine; Event : Address; Event_N : size_t; Journey : Address; Journey_N : size_t;
       Book : Address; Book_N : size_t; Output : Address; Output_N : size_t) return Answer
       with Import, Convention => C, External_Name => "hollwern_step";
-   function Show (E : Engine) return Shown with Import, Convention => C, External_Name => "hollwern_show";
-   function Read (Bytes : Address; N : size_t) return Packet_Fields with Import, Convention => C, External_Name => "hollwern_read";
+   function C_Front_Size (Bytes : Address; N : size_t) return size_t
+      with Import, Convention => C, External_Name => "hollwern_front_size";
+   function C_Read (Bytes : Address; N : size_t) return Packet_Fields
+      with Import, Convention => C, External_Name => "hollwern_read";
+
+   function Step (E : in out Engine; Event, Journey, Book : Byte_Array; Output : in out Byte_Array) return Answer is
+     (C_Step (E, Event'Address, Event'Length, Journey'Address, Journey'Length, Book'Address, Book'Length,
+              Output'Address, Output'Length));
+   function Front_Size (Bytes : Byte_Array) return size_t is (C_Front_Size (Bytes'Address, Bytes'Length));
+   function Read (Bytes : Byte_Array) return Packet_Fields is (C_Read (Bytes'Address, Bytes'Length));
 end Hollwern;

@@ -1,53 +1,142 @@
-//! The calls of hollwern.h for a host in Rust. The borrows give what the header asks: valid memory that nobody else touches.
+//! The calls of hollwern.h for a host in Rust, edition 2021 or 2024, with or without std. What each promises stands
+//! there; what it asks of the host's memory, the borrows give. For x86-64 Linux only.
+#![allow(dead_code)]
 
-/// The layouts of an engine, as in `crates/engine_value`; a host need not look inside. Each is declared with its size, which is the sum
-/// of its fields': there is no padding.
-#[allow(dead_code)]
-pub mod layout {
-    use std::mem::{offset_of, size_of};
+#[cfg(not(all(target_arch = "x86_64", target_os = "linux", target_pointer_width = "64")))]
+compile_error!("hollwern.rs: libhollwern.a is for x86-64 Linux only");
 
-    macro_rules! layout {
-        ($name:ident, $size:literal, $($field:ident: $type:ty),+) => {
-            #[repr(C)]
-            pub struct $name { $(pub $field: $type),+ }
-            const _: () = assert!(size_of::<$name>() == $size && $size == 0 $(+ size_of::<$type>())+);
-        };
-    }
+/// The version of these declarations; `version` tells that of the archive. They must be equal.
+pub const VERSION_MAJOR: u32 = 1;
+pub const VERSION_MINOR: u32 = 0;
+pub const VERSION_PATCH: u32 = 0;
+pub const VERSION: u32 = VERSION_MAJOR * 65_536 + VERSION_MINOR * 256 + VERSION_PATCH;
 
-    layout!(Zone, 8, start: u32, end: u32);
-    layout!(
-        Segment, 52, nidsp: u32, start: u32, length: u32, zone_count: u32, zones: [Zone; 4], nidc: u16, booked: bool, placed: bool
-    );
-    layout!(
-        Point, 20, nidtp: u32, place: u32, reach: u32, nidc: u16, alignment: u8, stopping: u8, stop: bool, trackside: bool,
-        placed: bool, spare: u8
-    );
-    layout!(Load, 8, operational: u32, valid: bool, ending: u8, point_count: u8, segment_count: u8);
-    layout!(Position, 12, nidsp: u32, offset: u32, nidc: u16, speed: u16);
-    layout!(Train, 16, position: Position, length: u32);
-    layout!(Progress, 2, next: u8, reached: bool);
-    layout!(Inputs, 3, mode: u8, lever: u8, reports: u8);
-    layout!(Control, 3, state: u8, press: bool, request: bool);
-    layout!(
-        Engine, 3456, points: [Point; 64], skips: [bool; 64], segments: [Segment; 40], load: Load, train: Train, progress: Progress,
-        inputs: Inputs, control: Control
-    );
-    const _: () = assert!(offset_of!(Engine, skips) == 1280 && offset_of!(Engine, segments) == 1344);
-    const _: () = assert!(offset_of!(Engine, load) == 3424 && offset_of!(Engine, train) == 3432);
-    const _: () = assert!(offset_of!(Engine, progress) == 3448 && offset_of!(Engine, inputs) == 3450);
-    const _: () = assert!(offset_of!(Engine, control) == 3453);
+/// Bytes of an engine.
+pub const ENGINE_SIZE: usize = 3_456;
+/// The most bytes that an event writes.
+pub const BYTES_MOST: usize = 1_669;
+/// The most points of a journey.
+pub const POINTS_MOST: usize = 64;
+/// Bytes of stack that a load takes.
+pub const STACK_LOAD: usize = 31_744;
+/// Bytes of stack that any other call takes.
+pub const STACK_OTHER: usize = 10_240;
+
+// Event kinds: the first byte of an event.
+pub const KIND_POWER_ON: u8 = 1;
+pub const KIND_CONFIGURED: u8 = 2;
+pub const KIND_POWER_OFF: u8 = 3;
+pub const KIND_FAULT: u8 = 4;
+pub const KIND_REPORTS: u8 = 5;
+pub const KIND_MODE: u8 = 6;
+pub const KIND_LEVER: u8 = 7;
+pub const KIND_PRESS: u8 = 8;
+pub const KIND_POSITION_REPORT: u8 = 9;
+pub const KIND_LENGTH: u8 = 10;
+pub const KIND_LOAD: u8 = 11;
+pub const KIND_SKIP: u8 = 12;
+pub const KIND_REVOKE: u8 = 13;
+
+// Kind 5: bits of the reports.
+pub const REPORT_ETCS: u8 = 1;
+pub const REPORT_NO_EMERGENCY_BRAKE: u8 = 2;
+pub const REPORT_NO_INCONSISTENCY: u8 = 4;
+pub const REPORT_DATA_VALID: u8 = 8;
+pub const REPORT_TRAIN: u8 = 16;
+
+// Kind 6: ETCS mode. Kind 7: lever.
+pub const MODE_OTHER: u8 = 0;
+pub const MODE_AD: u8 = 1;
+pub const LEVER_NEUTRAL: u8 = 0;
+pub const LEVER_TRACTION: u8 = 1;
+pub const LEVER_BRAKE: u8 = 2;
+
+/// Kind 9 and headers: the offset that means undefined.
+pub const OFFSET_UNDEFINED: u32 = 16_777_215;
+/// NID_OPERATIONAL where there is no journey or it has none.
+pub const NO_OPERATIONAL: u32 = 4_294_967_295;
+/// NID_C in the content of packet 65 where the position is not known.
+pub const UNKNOWN_NIDC: u16 = 1_024;
+/// NID_ATOTS where the journey has none.
+pub const NO_ATOTS: u16 = 16_384;
+
+// A journey's points and packet 62: what of the train counts at the point.
+pub const ALIGNMENT_FRONT: u8 = 0;
+pub const ALIGNMENT_MIDDLE: u8 = 1;
+pub const ALIGNMENT_REAR: u8 = 2;
+
+// States: no power, configuration, not available, available, ready, engaged, disengaging, failure.
+pub const STATE_NP: u8 = 0;
+pub const STATE_CO: u8 = 1;
+pub const STATE_NA: u8 = 2;
+pub const STATE_AV: u8 = 3;
+pub const STATE_RE: u8 = 4;
+pub const STATE_EG: u8 = 5;
+pub const STATE_DE: u8 = 6;
+pub const STATE_FA: u8 = 7;
+
+// Bits of the conditions.
+pub const CONDITION_ETCS: u16 = 1;
+pub const CONDITION_NO_EMERGENCY_BRAKE: u16 = 2;
+pub const CONDITION_END_AHEAD: u16 = 4;
+pub const CONDITION_LAST_AHEAD: u16 = 8;
+pub const CONDITION_PROFILES: u16 = 16;
+pub const CONDITION_NO_INCONSISTENCY: u16 = 32;
+pub const CONDITION_LOCATED: u16 = 64;
+pub const CONDITION_OUTSIDE: u16 = 128;
+pub const CONDITION_DATA_VALID: u16 = 256;
+pub const ALL_CONDITIONS: u16 = 511;
+
+// Where a point of the journey stands.
+pub const STANDING_UNUSED: u8 = 0;
+pub const STANDING_TARGETED: u8 = 1;
+pub const STANDING_REACHED: u8 = 2;
+pub const STANDING_PASSED: u8 = 3;
+
+// Packets: the first byte of each.
+pub const PACKET_TIMING_POINT: u8 = 62;
+pub const PACKET_JP_RECEIVED: u8 = 65;
+pub const PACKET_ATO_STATUS: u8 = 68;
+
+// Status in packet 62.
+pub const STATUS_PASSED: u8 = 0;
+pub const STATUS_STOPPED: u8 = 1;
+pub const STATUS_DEPARTED: u8 = 2;
+pub const STATUS_SKIPPED: u8 = 5;
+pub const STATUS_REVOKED: u8 = 6;
+
+// Why a call was refused; hollwern.h has each in words.
+pub const REFUSED_EVENT_FORM: u8 = 1;
+pub const REFUSED_EVENT_RANGE: u8 = 2;
+pub const REFUSED_NO_POWER: u8 = 3;
+pub const REFUSED_POWERED: u8 = 4;
+pub const REFUSED_FAULT: u8 = 5;
+pub const REFUSED_STATE: u8 = 6;
+pub const REFUSED_BOOK_FORM: u8 = 7;
+pub const REFUSED_BOOK_TWICE: u8 = 8;
+pub const REFUSED_JOURNEY_FORM: u8 = 9;
+pub const REFUSED_SEGMENT_TWICE: u8 = 10;
+pub const REFUSED_POINTS: u8 = 11;
+pub const REFUSED_ORDER: u8 = 12;
+pub const REFUSED_BEYOND: u8 = 13;
+pub const REFUSED_NO_STOP: u8 = 14;
+pub const REFUSED_SKIP: u8 = 15;
+pub const REFUSED_OUTPUT: u8 = 16;
+pub const REFUSED_PACKET_LENGTH: u8 = 17;
+pub const REFUSED_PACKET_NUMBER: u8 = 18;
+pub const REFUSED_PACKET_RANGE: u8 = 19;
+
+/// An engine. Equal calls on equal engines leave equal ones.
+#[repr(C)]
+#[derive(Clone, PartialEq, Eq)]
+pub struct Engine {
+    opaque: [u32; ENGINE_SIZE / 4],
 }
 
-/// The engine's size in bytes.
-pub const SIZE: usize = std::mem::size_of::<layout::Engine>();
-
-/// `Engine` of hollwern.h, by its bytes. Equal calls on equal engines leave equal ones.
-#[repr(C, align(4))]
-#[derive(Clone, PartialEq, Eq)]
-pub struct Engine([u8; SIZE]);
-const _: () = assert!(std::mem::align_of::<Engine>() == std::mem::align_of::<layout::Engine>());
-
+/// Where accepted: `number` 0, state, request (whether AD is requested) and bytes written. Where refused: `number`, all
+/// else 0.
 #[repr(C)]
+#[derive(Clone, Copy, PartialEq, Eq, Debug)]
 pub struct Answer {
     pub accepted: bool,
     pub number: u8,
@@ -56,8 +145,7 @@ pub struct Answer {
     pub bytes: usize,
 }
 
-/// What an engine shows: the state by its code, whether AD is requested, the conditions with condition 0 as the least significant
-/// bit, and where each point of the journey in force stands: 0 not used, 1 targeted, 2 reached, 3 passed.
+/// What an engine shows. `standings` goes by the order of the journey in force; from `point_count` on it is 0.
 #[repr(C)]
 #[derive(Clone, Copy, PartialEq, Eq, Debug)]
 pub struct Shown {
@@ -65,9 +153,10 @@ pub struct Shown {
     pub request: bool,
     pub conditions: u16,
     pub point_count: u8,
-    pub standings: [u8; 64],
+    pub standings: [u8; POINTS_MOST],
 }
 
+/// Header of a packet: NID_C, NID_SP, offset in cm, speed in cm/s, NID_OPERATIONAL.
 #[repr(C)]
 #[derive(Clone, Copy, PartialEq, Eq, Debug, Default)]
 pub struct Header {
@@ -78,7 +167,8 @@ pub struct Header {
     pub operational: u32,
 }
 
-/// Where accepted: `kind` (62, 65, 68), `size` in bytes, and the fields that the kind has. Where refused: the number. All else is 0.
+/// Where accepted: `number` 0, `kind` the packet's number, `size` its bytes, the header and the fields that the kind
+/// has. Where refused: `number`. All else is 0.
 #[repr(C)]
 #[derive(Clone, Copy, PartialEq, Eq, Debug, Default)]
 pub struct PacketFields {
@@ -102,6 +192,7 @@ pub struct PacketFields {
 }
 
 unsafe extern "C" {
+    fn hollwern_version() -> u32;
     fn hollwern_fresh(e: *mut Engine);
     fn hollwern_step(
         e: *mut Engine,
@@ -115,24 +206,54 @@ unsafe extern "C" {
         out_n: usize,
     ) -> Answer;
     fn hollwern_show(e: *const Engine) -> Shown;
+    fn hollwern_front_size(bytes: *const u8, n: usize) -> usize;
     fn hollwern_read(bytes: *const u8, n: usize) -> PacketFields;
 }
 
-/// One packet, exactly.
+/// The version of the archive, to be compared with `VERSION`.
+pub fn version() -> u32 {
+    unsafe { hollwern_version() }
+}
+
+/// Reads one packet, exactly.
 pub fn read(bytes: &[u8]) -> PacketFields {
     unsafe { hollwern_read(bytes.as_ptr(), bytes.len()) }
 }
 
+/// The bytes of the packet in front: all where no packet has that number or fewer are left than it takes.
+pub fn front_size(bytes: &[u8]) -> usize {
+    unsafe { hollwern_front_size(bytes.as_ptr(), bytes.len()) }
+}
+
+/// What an accepted call wrote, packet by packet.
+pub fn packets(written: &[u8]) -> impl Iterator<Item = &[u8]> {
+    let mut rest = written;
+    core::iter::from_fn(move || {
+        let (packet, behind) = rest.split_at(front_size(rest));
+        rest = behind;
+        (!packet.is_empty()).then_some(packet)
+    })
+}
+
 impl Engine {
     pub fn fresh() -> Engine {
-        let mut e = Engine([0; SIZE]);
-        unsafe { hollwern_fresh(&mut e) };
+        let mut e = Engine { opaque: [0; ENGINE_SIZE / 4] };
+        e.make_fresh();
         e
     }
 
+    /// Fresh again, where it is kept.
+    pub fn make_fresh(&mut self) {
+        unsafe { hollwern_fresh(self) }
+    }
+
+    /// Takes one event. Accepted, its packets stand at the front of `out`; refused, nothing is changed.
     pub fn step(&mut self, event: &[u8], journey: &[u8], book: &[u8], out: &mut [u8]) -> Answer {
-        let (lent, n) = (out.as_mut_ptr(), out.len());
-        unsafe { hollwern_step(self, event.as_ptr(), event.len(), journey.as_ptr(), journey.len(), book.as_ptr(), book.len(), lent, n) }
+        let (event, event_n) = (event.as_ptr(), event.len());
+        let (journey, journey_n) = (journey.as_ptr(), journey.len());
+        let (book, book_n) = (book.as_ptr(), book.len());
+        let (out, out_n) = (out.as_mut_ptr(), out.len());
+        unsafe { hollwern_step(self, event, event_n, journey, journey_n, book, book_n, out, out_n) }
     }
 
     pub fn show(&self) -> Shown {

@@ -1,10 +1,12 @@
 //! `copies ARCHIVE`: the bytes that each kind of event copies through the C interface, by count: those that the code of
 //! libhost.a hands to memcpy, memmove and memset. And its stack, as a painted stack shows it and as the frames of the
-//! functions in ARCHIVE add up. The lines above their bounds are named at the end, and it fails.
+//! functions in ARCHIVE add up, over all calls that it exports; hollwern.h, hollwern.rs and hollwern.ads must have the
+//! figures that these give. The lines above their bounds and the wrong figures are named at the end, and it fails.
 
+use counted::declarations::Declared;
 use counted::engine::Proved;
 use counted::frames::{Chain, Frames};
-use counted::hollwern::SIZE;
+use counted::hollwern::ENGINE_SIZE;
 use counted::measure::stack_of;
 use counted::pair::{Memory, Pair};
 use counted::stack::Stack;
@@ -13,8 +15,9 @@ use inputs::rows::{rows, Row};
 use model::calls::{Call, MEMORY};
 use std::sync::atomic::{AtomicUsize, Ordering::Relaxed};
 
-const LOAD_STACK: usize = 32 * 1024;
-const OTHER_STACK: usize = 11 * 1024;
+const DECLARATIONS: [&str; 3] = ["host/hollwern.h", "host/hollwern.rs", "host/hollwern.ads"];
+/// The figures are rounded up to a multiple of this.
+const STACK_UNIT: usize = 1024;
 /// More than this program's own frames and memcpy take of a painted stack.
 const CALLER: usize = 512;
 /// The functions that a load alone calls, by the beginning of their names.
@@ -79,57 +82,108 @@ fn deepest_in_lists() -> [usize; 2] {
     deepest
 }
 
-/// The lines that are above a bound.
-#[derive(Default)]
-struct Over(Vec<String>);
+/// Bytes of stack of a load and of any other call.
+struct Stacks {
+    load: usize,
+    other: usize,
+}
 
-impl Over {
+impl Stacks {
+    /// As a file declares them; 0 for one that it does not declare.
+    fn declared(path: &str) -> Stacks {
+        let constants = Declared::read(path).constants;
+        let [load, other] = ["STACK_LOAD", "STACK_OTHER"].map(|name| constants.get(name).map_or(0, |&size| size as usize));
+        Stacks { load, other }
+    }
+}
+
+/// The deepest chain of all calls, and of all but a load.
+struct Deepest {
+    load: Chain,
+    other: Chain,
+}
+
+impl Deepest {
+    fn of(frames: &Frames) -> Deepest {
+        let calls: Vec<&str> = frames.names().filter(|name| name.starts_with("hollwern_")).collect();
+        let declared = Declared::read(DECLARATIONS[0]).calls;
+        assert!(calls.iter().copied().eq(declared.keys()), "the header declares other calls than {calls:?}");
+        let of_load = |name: &&str| OF_LOAD.iter().any(|start| name.starts_with(start));
+        let left_out: Vec<&str> = frames.names().filter(of_load).collect();
+        println!("exported: {}; a load's own functions: {}", calls.join(", "), left_out.join(", "));
+        let deepest = |left_out: &[&str]| {
+            let chains = calls.iter().map(|call| frames.deepest(call, left_out));
+            chains.max_by_key(|chain| chain.bytes).expect("no call is exported")
+        };
+        Deepest { load: deepest(&[]), other: deepest(&left_out) }
+    }
+
+    /// What the declarations must say.
+    fn stacks(&self) -> Stacks {
+        let [load, other] = [&self.load, &self.other].map(|chain| chain.bytes.next_multiple_of(STACK_UNIT));
+        Stacks { load, other }
+    }
+}
+
+/// What is above a bound, or declared wrong.
+#[derive(Default)]
+struct Wrong(Vec<String>);
+
+impl Wrong {
     fn print(&mut self, name: &str, copied: &str, stack: usize, most: usize, above: bool) {
-        let above = above || stack > most;
         println!("{name:36} {copied:22} {stack:>8} {most:>6} {}", if above { "over" } else { "" });
         if above {
             self.0.push(name.into());
         }
     }
 
-    fn print_row(&mut self, row: &Row) {
+    /// A painted stack has the share of this program as well.
+    fn print_painted(&mut self, name: &str, copied: &str, stack: usize, most: usize, above: bool) {
+        self.print(name, copied, stack, most, above || stack > most + CALLER);
+    }
+
+    fn print_row(&mut self, row: &Row, stacks: &Stacks) {
         let (copied, stack) = cost(row);
-        let engines = copied as f64 / SIZE as f64;
+        let engines = copied as f64 / ENGINE_SIZE as f64;
         let most = row.most.map_or("-".into(), |most| most.to_string());
-        let stack_most = if row.call.lends_profiles() { LOAD_STACK } else { OTHER_STACK };
-        let above = row.most.is_some_and(|most| copied > most * SIZE);
-        self.print(row.name, &format!("{copied:>7} {engines:>8.2} {most:>5}"), stack, stack_most, above);
+        let stack_most = if row.call.lends_profiles() { stacks.load } else { stacks.other };
+        let above = row.most.is_some_and(|most| copied > most * ENGINE_SIZE);
+        self.print_painted(row.name, &format!("{copied:>7} {engines:>8.2} {most:>5}"), stack, stack_most, above);
     }
 
     /// A painted stack deeper than the frames and the share of the caller: they were not all read.
     fn print_frames(&mut self, name: &str, chain: &Chain, painted: usize, most: usize) {
-        self.print(name, "", chain.bytes, most, painted > chain.bytes + CALLER);
+        self.print(name, "", chain.bytes, most, chain.bytes > most || painted > chain.bytes + CALLER);
         println!("    {}", chain.functions.join(", "));
+    }
+
+    fn check_declared(&mut self, path: &str, stacks: &Stacks) {
+        let Stacks { load, other } = Stacks::declared(path);
+        println!("declared in {path:19} a load {load}, any other call {other}");
+        if (load, other) != (stacks.load, stacks.other) {
+            let by_frames = format!("the frames make {} and {}", stacks.load, stacks.other);
+            self.0.push(format!("stack in {path}: {load} and {other}, {by_frames}"));
+        }
     }
 }
 
 fn main() {
     let archive = std::env::args().nth(1).expect("copies ARCHIVE");
-    let frames = Frames::of(&archive);
-    let of_load = |name: &&str| OF_LOAD.iter().any(|start| name.starts_with(start));
-    let left_out: Vec<&str> = frames.names().filter(of_load).collect();
+    let deepest = Deepest::of(&Frames::of(&archive));
+    let stacks = deepest.stacks();
 
-    let mut over = Over::default();
-    println!("engine: {SIZE} bytes\n{:36}  copied  engines  most    stack   most", "");
-    rows().iter().for_each(|row| over.print_row(row));
+    let mut wrong = Wrong::default();
+    println!("engine: {ENGINE_SIZE} bytes\n{:36}  copied  engines  most    stack   most", "");
+    rows().iter().for_each(|row| wrong.print_row(row, &stacks));
     assert!(COPIED.load(Relaxed) > 0, "nothing was counted");
     let [load, other] = deepest_in_lists();
-    over.print("200 random lists, loads", "", load, LOAD_STACK, false);
-    over.print("200 random lists, other events", "", other, OTHER_STACK, false);
-    over.print_frames("frames, any event", &frames.deepest("hollwern_step", &[]), load, LOAD_STACK);
-    if left_out.is_empty() {
-        println!("    a load has no function of its own: other events have the same frames");
-    } else {
-        over.print_frames("frames, without a load's", &frames.deepest("hollwern_step", &left_out), other, OTHER_STACK);
-        println!("    a load's: {}", left_out.join(", "));
-    }
-    if !over.0.is_empty() {
-        println!("{} above their bounds: {}", over.0.len(), over.0.join("; "));
+    wrong.print_painted("200 random lists, loads", "", load, stacks.load, false);
+    wrong.print_painted("200 random lists, other events", "", other, stacks.other, false);
+    wrong.print_frames("frames, any call", &deepest.load, load, stacks.load);
+    wrong.print_frames("frames, any call but a load", &deepest.other, other, stacks.other);
+    DECLARATIONS.iter().for_each(|path| wrong.check_declared(path, &stacks));
+    if !wrong.0.is_empty() {
+        println!("{} over or wrong: {}", wrong.0.len(), wrong.0.join("; "));
         std::process::exit(1);
     }
 }

@@ -4,10 +4,6 @@ use crate::hollwern::{self, Shown};
 use model::calls::Call;
 use model::engine::{Answer, Engine};
 
-unsafe extern "C" {
-    fn hollwern_fresh(e: *mut hollwern::Engine);
-}
-
 /// An engine that only the calls of the C interface look into.
 #[derive(Clone)]
 pub struct Proved(hollwern::Engine);
@@ -17,13 +13,13 @@ impl Proved {
         Proved(hollwern::Engine::fresh())
     }
 
-    /// Fresh again, in its place, whatever it was.
+    /// Fresh again, in its place.
     pub fn make_fresh(&mut self) {
-        unsafe { hollwern_fresh(&mut self.0) }
+        self.0.make_fresh();
     }
 
     /// Every byte that it takes.
-    pub fn bytes(&self) -> &[u8; hollwern::SIZE] {
+    pub fn bytes(&self) -> &[u8; hollwern::ENGINE_SIZE] {
         unsafe { &*(&raw const self.0).cast() }
     }
 

@@ -1,5 +1,5 @@
-//! Stack by the frames of an archive's functions, as objdump lists them (x86-64). What it cannot read ends the program: a
-//! frame whose size is not a number there, a call by an address, a call of what is not in the archive.
+//! Stack by the frames of an archive's functions, as objdump lists them (x86-64). What it cannot read ends the program:
+//! a frame whose size is not a number there, a call by an address, a call of what is not in the archive.
 
 use std::collections::{BTreeMap, BTreeSet};
 use std::process::Command;

@@ -1,5 +1,6 @@
 //! The proved engine through its C interface, as `rt staticlib host` builds it, beside the model.
 
+pub mod declarations;
 pub mod engine;
 pub mod frames;
 #[path = "../../host/hollwern.rs"]
