@@ -8,7 +8,7 @@ use model::calls::{Call, MEMORY};
 use model::engine::{Answer, Engine};
 use model::packets::{split_packets, Packet};
 use proved::engine::Proved;
-use proved::hollwern::{read, SIZE};
+use proved::hollwern::{read, ENGINE_SIZE};
 use proved::measure::{stack_of, Timer};
 use proved::pair::{Memory, Pair};
 use std::hint::black_box;
@@ -122,7 +122,7 @@ impl Bench {
 fn main() {
     let bench = Bench::new();
     println!(
-        "engine: {SIZE} bytes; its copy by memcpy: {:.0} ns; the model's engine: {} bytes",
+        "engine: {ENGINE_SIZE} bytes; its copy by memcpy: {:.0} ns; the model's engine: {} bytes",
         bench.copy,
         size_of::<Engine>()
     );
