@@ -92,8 +92,8 @@ impl Stacks {
     /// As a file declares them; 0 for one that it does not declare.
     fn declared(path: &str) -> Stacks {
         let constants = Declared::read(path).constants;
-        let [load, other] = ["STACK_LOAD", "STACK_OTHER"].map(|name| constants.get(name).map_or(0, |&size| size as usize));
-        Stacks { load, other }
+        let size = |name: &str| constants.get(name).map_or(0, |&size| size as usize);
+        Stacks { load: size("STACK_LOAD"), other: size("STACK_OTHER") }
     }
 }
 
