@@ -2,6 +2,7 @@
 //! the proved code; an engine takes the bytes that they say, none of them padding. Every difference is named, and it
 //! fails.
 
+use proved::declarations::layout::Layout;
 use proved::declarations::Declared;
 use std::collections::{BTreeMap, BTreeSet};
 use std::fmt::Debug;
@@ -75,9 +76,10 @@ impl Differences {
     fn check_engine(&mut self, header: &Declared) {
         let (path, proved) = read_crate("engine_value");
         let (engine, lent) = (proved.layout("Engine"), header.layout("Engine"));
-        self.compare(&path, "the engine's size", Some(lent.size), Some(engine.size));
-        self.compare(&path, "the engine's alignment", Some(lent.alignment), Some(engine.alignment));
-        self.compare(&path, "padding in an engine", Some(0), Some(engine.padding));
+        let size_and_alignment = |layout: &Layout| (layout.size, layout.alignment);
+        let [of_engine, of_lent] = [&engine, &lent].map(|layout| layout.as_ref().map(size_and_alignment));
+        self.compare(&path, "an engine's size and alignment", of_lent, of_engine);
+        self.compare(&path, "padding in an engine", Some(0), engine.map(|layout| layout.padding));
     }
 
     fn check_bytes_most(&mut self, header: &Declared) {

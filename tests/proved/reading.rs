@@ -1,7 +1,7 @@
-//! The proved packet reader beside the model's: every string of bytes must be read or refused alike.
+//! The proved packet reader beside the model's: every string of bytes must be read or refused, and cut, alike.
 
-use crate::hollwern::{read, Header, PacketFields};
-use model::packets::{self, split_packets, Content, Packet};
+use crate::hollwern::{front_size, packets as cut, read, Header, PacketFields};
+use model::packets::{self, split_packets, Content, Packet, SIZE_62, SIZE_65, SIZE_68};
 
 /// How many strings were read, and how many refused by 17, 18 and 19.
 pub type Readings = [u64; 4];
@@ -26,6 +26,17 @@ fn expected(bytes: &[u8]) -> PacketFields {
     }
 }
 
+/// The bytes of the packet in front, by the model's sizes.
+fn expected_front(bytes: &[u8]) -> usize {
+    let size = match bytes.first() {
+        Some(62) => SIZE_62,
+        Some(65) => SIZE_65,
+        Some(68) => SIZE_68,
+        _ => bytes.len(),
+    };
+    size.min(bytes.len())
+}
+
 /// The packet cut to every length and whole, longer by a byte, and with each of its bytes raised by `step`.
 /// Each string takes just its bytes, so that a memory checker sees its ends.
 fn strings(packet: &[u8], step: u8) -> Vec<Box<[u8]>> {
@@ -41,7 +52,11 @@ fn strings(packet: &[u8], step: u8) -> Vec<Box<[u8]>> {
 
 /// The packets that a call wrote and the strings made of each. An error says what differs.
 pub fn try_packets(written: &[u8], step: u8, readings: &mut Readings) -> Result<(), String> {
-    for packet in split_packets(written) {
+    let packets = split_packets(written);
+    if !cut(written).eq(packets.iter().copied()) {
+        return Err(format!("written packets are cut otherwise: {written:02X?}"));
+    }
+    for packet in packets {
         if !read(packet).accepted {
             return Err(format!("a written packet is not read: {packet:02X?}"));
         }
@@ -49,6 +64,10 @@ pub fn try_packets(written: &[u8], step: u8, readings: &mut Readings) -> Result<
             let (expected, found) = (expected(&bytes), read(&bytes));
             if found != expected {
                 return Err(format!("{bytes:02X?}: the model reads {expected:?}, the proved reader {found:?}"));
+            }
+            let (expected, found_front) = (expected_front(&bytes), front_size(&bytes));
+            if found_front != expected {
+                return Err(format!("{bytes:02X?}: a packet of {expected} bytes in front, not {found_front}"));
             }
             readings[usize::from(found.number.saturating_sub(16))] += 1;
         }

@@ -10,31 +10,32 @@ pub struct Layout {
 }
 
 impl Declared {
-    /// The layout of a struct.
-    pub fn layout(&self, name: &str) -> Layout {
-        let fields = self.structs.get(name).unwrap_or_else(|| panic!("no struct {name}"));
+    /// The layout of a struct; `None` where a type of it is not declared.
+    pub fn layout(&self, name: &str) -> Option<Layout> {
         let start = Layout { size: 0, alignment: 1, padding: 0 };
-        let behind = fields.iter().map(|field| self.field_layout(field)).fold(start, |before, field| {
+        let behind = self.structs.get(name)?.iter().try_fold(start, |before, field| {
+            let field = self.field_layout(field)?;
             let gap = before.size.next_multiple_of(field.alignment) - before.size;
-            Layout {
+            Some(Layout {
                 size: before.size + gap + field.size,
                 alignment: before.alignment.max(field.alignment),
                 padding: before.padding + gap + field.padding,
-            }
-        });
+            })
+        })?;
         let end = behind.size.next_multiple_of(behind.alignment) - behind.size;
-        Layout { size: behind.size + end, padding: behind.padding + end, ..behind }
+        Some(Layout { size: behind.size + end, padding: behind.padding + end, ..behind })
     }
 
-    fn field_layout(&self, field: &Field) -> Layout {
-        let count = field.count.unwrap_or(1);
+    fn field_layout(&self, field: &Field) -> Option<Layout> {
+        let scalar = |size| Layout { size, alignment: size, padding: 0 };
         let one = match field.typed.as_str() {
-            "bool" | "u8" => Layout { size: 1, alignment: 1, padding: 0 },
-            "u16" => Layout { size: 2, alignment: 2, padding: 0 },
-            "u32" => Layout { size: 4, alignment: 4, padding: 0 },
-            "usize" => Layout { size: 8, alignment: 8, padding: 0 },
-            name => self.layout(name),
+            "bool" | "u8" => scalar(1),
+            "u16" => scalar(2),
+            "u32" => scalar(4),
+            "usize" => scalar(8),
+            name => self.layout(name)?,
         };
-        Layout { size: count * one.size, padding: count * one.padding, ..one }
+        let count = field.count.unwrap_or(1);
+        Some(Layout { size: count * one.size, padding: count * one.padding, ..one })
     }
 }
