@@ -1,2 +1,3 @@
--- Answers as plain structs.
+-- Answers as plain structs; the version.
 pub mod View
+pub mod Version

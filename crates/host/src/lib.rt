@@ -8,9 +8,17 @@ ghost use Rattle.engine_value.specs.Engine.{fresh};
 ghost use Rattle.call.specs.Call.{stepOf};
 ghost use Rattle.call.specs.View.{shownView, answerView as call·answerView};
 ghost use Rattle.engine.specs.View.{call};
-ghost use Rattle.packets.specs.Packets.{packetOf};
+ghost use Rattle.packets.specs.Packets.{packetOf, frontSize};
 ghost use Rattle.packet_fields.specs.View.{fieldsView};
 ghost use Rattle.host.specs.View.{answerView};
+ghost use Rattle.host.specs.Version.{version};
+
+// The version of this interface, a byte each for the three numbers.
+const MAJOR: u32 = 1;
+
+const MINOR: u32 = 0;
+
+const PATCH: u32 = 0;
 
 // State, request and bytes written, where accepted; else the number of the row that refuses. The fields of the other case are 0.
 #[repr(C)]
@@ -97,4 +105,21 @@ pub extern "C" fn hollwern_read(bytes: &[u8]) -> PacketFields
     ensures { λ r. ⌜ r ≡ fieldsView (packetOf (now (bytes .entry))) ⌝ }
 {
     packet_fields::read_fields(bytes)
+}
+
+// The bytes of the packet in front. So cut, from the first packet on, what an accepted call wrote falls into its packets: `cutPackets`, and
+// `packets` of the theorem over every list.
+#[no_mangle]
+pub extern "C" fn hollwern_front_size(bytes: &[u8]) -> usize
+    ensures { λ r. ⌜ r ≡ frontSize (now (bytes .entry)) ⌝ }
+{
+    packets::front_size(bytes)
+}
+
+// The version that the library was built as.
+#[no_mangle]
+pub extern "C" fn hollwern_version() -> u32
+    ensures { λ r. ⌜ r ≡ version ⌝ }
+{
+    MAJOR * 65536 + MINOR * 256 + PATCH
 }

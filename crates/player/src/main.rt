@@ -1,12 +1,12 @@
-// The player: reads events from standard input, hands each to the engine, and writes the lines of its answer.
-ghost use Prim.Native.Nat.{_+_, _≤_};
+// The player: reads events from standard input, hands each to the engine, and writes the lines of its answer. Where reading or writing fails
+// it says so on standard error and ends; the language has no exit status to give.
+ghost use Prim.Native.Nat.{_+_, _-_, _≤_};
 ghost use mathlib.Core.Path.{_≡_};
 ghost use lib.ListN.{length, take, drop};
 ghost use Rattle.player_text.specs.Lines.{mostLines};
 ghost use Rattle.player.specs.Played.{left};
 ghost use Rattle.player.specs.Played.{run as Played·run};
 use engine_value::Engine;
-use player_step::Played;
 use player_text::calls;
 use player_text::calls::CallRead;
 use player_text::lines;
@@ -22,48 +22,85 @@ const MEMORY: usize = 4096;
 // The lines of some events.
 const TEXT: usize = 65536;
 
-// The text so far is written out.
-fn flush(text: &[u8], used: usize) {
-    io::write_all(libc::STDOUT_FILENO, parts::front(text, used));
+// How much of the text is used, and whether everything could be written so far.
+struct Text {
+    used: usize,
+    open: bool,
+}
+
+// The engine after some events, the position behind them in the input, and whether everything could be written.
+struct Turn {
+    engine: Engine,
+    at: usize,
+    open: bool,
+}
+
+// The text so far is written out, and it answers whether that went well. After a write that failed nothing more is written: no line stands
+// behind one that is missing.
+fn flush(text: &[u8], t: Text) -> bool {
+    if !t.open {
+        return false;
+    }
+    let open = io::write_all(libc::STDOUT_FILENO, parts::front(text, t.used));
+    if !open {
+        os::fail(b"player: standard output");
+    }
+    open
 }
 
 // The lines of an event fit behind the text, or else it is written out first.
-fn with_room(text: &[u8], used: usize) -> usize
-    ensures { λ r. ⌜ (mostLines ≤ length (now (text .entry)) → r + mostLines ≤ length (now (text .entry))) ⌝ }
+fn with_room(text: &[u8], t: Text) -> Text
+    ensures { λ r. ⌜ (mostLines ≤ length (now (text .entry)) → r .used + mostLines ≤ length (now (text .entry))) ⌝ }
 {
-    if used < text.len() {
-        if lines::MOST_LINES <= text.len() - used {
-            return used;
+    if t.used < text.len() {
+        if lines::MOST_LINES <= text.len() - t.used {
+            return t;
         }
     }
-    flush(text, used);
-    0
+    let open = flush(text, t);
+    Text {
+        used: 0,
+        open: open,
+    }
 }
 
 // Plays each event in s that is not cut short: the engine after them, and the position behind them.
-fn play_whole(e: Engine, s: &[u8], memory: &mut [u8], text: &mut [u8]) -> Played
+fn play_whole(e: Engine, s: &[u8], memory: &mut [u8], text: &mut [u8]) -> Turn
     ensures { λ r. ⌜ left (r .engine) (now (memory .exit)) (drop (r .at) (now (s .entry))) ≡ Played·run (length (now (s .entry))) e (now (memory .entry)) (now (s .entry)) ⌝ }
 {
     let mut after = e;
     let mut at = 0;
-    let mut used = 0;
+    let mut t = Text {
+        used: 0,
+        open: true,
+    };
     loop {
         let CallRead::Whole(c) = calls::call_at(s, at) else {
-            flush(text, used);
-            return Played {
+            let open = flush(text, t);
+            return Turn {
                 engine: after,
                 at: at,
+                open: open,
             };
         };
-        let room = with_room(text, used);
-        let p = player_step::play(after, s, c, memory, text, room);
+        let room = with_room(text, t);
+        let p = player_step::play(after, s, c, memory, text, room.used);
         after = p.engine;
-        used = p.at;
+        t = Text {
+            used: p.at,
+            open: room.open,
+        };
         at = c.next;
     }
 }
 
-// Reads on behind the bytes that are kept, and answers how many there are then.
+fn tell_failed_read(got: isize) {
+    if got < 0 {
+        os::fail(b"player: standard input");
+    }
+}
+
+// Reads on behind the bytes that are kept, and answers how many there are then. A read that fails ends the input.
 fn read_more(input: &mut [u8], kept: usize) -> usize
     ensures { λ _. ⌜ take kept (now (input .exit)) ≡ take kept (now (input .entry)) ⌝ }
 {
@@ -72,7 +109,18 @@ fn read_more(input: &mut [u8], kept: usize) -> usize
     }
     let rest = &mut input[kept..];
     let got = libc::read(libc::STDIN_FILENO, rest);
+    tell_failed_read(got);
     kept + io::count(got, rest)
+}
+
+// One turn fewer; none where a write failed.
+fn turns_left(turns: u64, open: bool) -> u64
+    ensures { λ r. ⌜ r ≤ turns - 1 ⌝ }
+{
+    if turns == 0 {
+        return 0;
+    }
+    if open { turns - 1 } else { 0 }
 }
 
 // Nothing proves that the input ends, so the turns are counted down from a number that no run uses up.
@@ -92,7 +140,7 @@ fn run(input: &mut [u8], memory: &mut [u8], text: &mut [u8]) {
             end: end,
         };
         kept = parts::to_front(input, rest);
-        turns -= 1;
+        turns = turns_left(turns, p.open);
     }
 }
 

@@ -10,12 +10,12 @@ returns c = search needs
 
 returns-2 : tie.Need-returns-2
 returns-2 c =
-    let s = now (c .before .before .before .before .before .before .before .before .before .before .before .args .input) in
-    let k = c .before .before .before .before .before .before .before .before .before .before .before .args .kept in
-    take-at (take k s) _ k (length-take-le k s (c .before .before .before .before .before .before .before .before .before .if1 .left))
+    let s = now (c .before .before .before .before .before .before .before .before .before .before .before .before .args .input) in
+    let k = c .before .before .before .before .before .before .before .before .before .before .before .before .args .kept in
+    take-at (take k s) _ k (length-take-le k s (c .before .before .before .before .before .before .before .before .before .before .if1 .left))
 
 pub read-more-spec : {M : Type 1} → statement M
 read-more-spec =
     tie.close
     (tie.spec returns (search needs) (search needs) (search needs) (search needs) (search needs) (search needs)
-    (search needs) returns-2)
+    (search needs) (search needs) returns-2)
