@@ -8,7 +8,8 @@ use std::collections::{BTreeMap, BTreeSet};
 use std::fmt::Debug;
 
 /// Constants of the header by the beginning of their names, the crate that has them, and how they begin there.
-const CONSTANTS: [(&str, &str, &str); 9] = [
+const CONSTANTS: [(&str, &str, &str); 10] = [
+    ("VERSION_", "host", ""),
     ("KIND_", "event", ""),
     ("STATUS_", "event_packets", ""),
     ("PACKET_", "packets", ""),
