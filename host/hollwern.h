@@ -4,7 +4,7 @@
  *
  * The host keeps an engine in its own memory, hands over each event as bytes and gets the packets for the recorder as
  * bytes. docs/INTERFACE.md has the layouts of events, journeys, books and packets, a worked call, and all application
- * conditions. Each promise below is proved: crates/host/src/lib.rt has it as a contract.
+ * conditions. Each promise of a call is proved: crates/host/src/lib.rt has it as a contract.
  *
  * What the host must keep to:
  * - No pointer is null, also where its count is 0: for nothing to lend, pass any valid pointer, as the event's, and 0.
@@ -148,8 +148,8 @@
 #define HOLLWERN_REFUSED_NO_STOP 14        /* skip or revocation: no stop of that name */
 #define HOLLWERN_REFUSED_SKIP 15           /* point reached or passed; skip given already, or none to revoke */
 #define HOLLWERN_REFUSED_OUTPUT 16         /* `out` shorter than the event's packets */
-#define HOLLWERN_REFUSED_PACKET_LENGTH 17  /* empty, or not the length of 62, 65 or 68 */
-#define HOLLWERN_REFUSED_PACKET_NUMBER 18  /* not 62, 65 or 68 */
+#define HOLLWERN_REFUSED_PACKET_LENGTH 17  /* empty, or 62, 65 or 68 of wrong length */
+#define HOLLWERN_REFUSED_PACKET_NUMBER 18  /* another number than 62, 65 and 68 */
 #define HOLLWERN_REFUSED_PACKET_RANGE 19   /* field of the packet out of its range */
 
 /* An engine. Only the calls below look inside. */
