@@ -1,0 +1,100 @@
+//! What the page lists: states, conditions, reports, standings, numbers, application conditions.
+
+use crate::engines::play;
+use crate::text::{same, wrong, Checked, Page};
+use model::calls::Call;
+use model::values::{write_book, Journey, JourneyPoint, Record, RecordPoint};
+use model::words::{STATES, STATE_NAMES};
+use proved::pair::Pair;
+
+/// The most characters of a line.
+const LINE: usize = 120;
+const STANDINGS: [&str; 4] = ["not used", "targeted", "reached", "passed"];
+/// With no journey.
+const NO_CONDITION: u16 = 0x080;
+
+fn check_states(page: &Page) -> Checked<()> {
+    let rows = page.table("State codes", "Code")?;
+    same(rows[0].line, "states", rows.len(), STATES.len())?;
+    for (k, row) in rows.iter().enumerate() {
+        same(row.line, "code", row.number("Code")?, k as u64)?;
+        same(row.line, "state", row.text("State")?, STATES[k])?;
+        same(row.line, "name", row.text("Name")?, STATE_NAMES[k])?;
+    }
+    Ok(())
+}
+
+/// Each report alone gives just the condition that the page names.
+fn check_reports(page: &Page) -> Checked<()> {
+    let conditions = page.table("The nine conditions", "Condition")?;
+    for (k, row) in conditions.iter().enumerate() {
+        same(row.line, "condition", row.number("Condition")?, k as u64)?;
+        same(row.line, "bit", row.number("Bit of the word")?, 4 + k as u64)?;
+    }
+    same(conditions[0].line, "conditions", conditions.len(), 9)?;
+    for row in page.table("Bits of the reports", "Bit")? {
+        let bit = row.number("Bit")?;
+        let mut pair = Pair::fresh();
+        play(&mut pair, &[Call::power_on(), Call::reports(1 << bit)], row.line)?;
+        let alone = pair.model.now.conditions & !NO_CONDITION;
+        let counts = if alone == 0 { "T".into() } else { format!("condition {}", alone.trailing_zeros()) };
+        same(row.line, "counts as", row.text("Counts as")?, &counts)?;
+        if alone != 0 {
+            let condition = &conditions[alone.trailing_zeros() as usize];
+            same(condition.line, "it is 1 when", condition.text("It is 1 when")?, &format!("report bit {bit}"))?;
+        }
+    }
+    Ok(())
+}
+
+/// A stop at 40,000 with R 150 and a passing point at 90,000: where they stand after one report at speed 0.
+fn check_standings(page: &Page) -> Checked<()> {
+    let stop = JourneyPoint { nidtp: 7001, stop: true, ..JourneyPoint::default() };
+    let passing = JourneyPoint { nidtp: 7002, end: true, ..JourneyPoint::default() };
+    let journey = Journey { segments: vec![(17, 500)], points: vec![stop, passing], ..Journey::default() };
+    let places = [(7001, 40_000, 150), (7002, 90_000, 0)];
+    let points = places.map(|(nidtp, place, reach)| RecordPoint { nidtp, place, reach }).to_vec();
+    let record = Record { nidc: 17, nidsp: 500, length: 100_000, points, ..Record::default() };
+    let load = Call::load(journey.write(), write_book(&[record]));
+    for row in page.table("7. Timing points", "Front at")? {
+        let report = Call::position(17, 500, row.number("Front at")? as u32, 0);
+        let mut pair = Pair::fresh();
+        play(&mut pair, &[Call::power_on(), load.clone(), report], row.line)?;
+        for (column, standing) in ["The stop", "The passing point"].into_iter().zip(pair.model.standings()) {
+            same(row.line, column, row.text(column)?, STANDINGS[standing as usize])?;
+        }
+    }
+    Ok(())
+}
+
+/// Items that begin so count up from 1 without a gap; how many there are.
+fn count_items(page: &Page, heading: &str, begin: &str) -> Checked<usize> {
+    let mut count = 0;
+    let items = page.lines().skip_while(|(_, text)| *text != heading).skip(1);
+    for (line, text) in items.take_while(|(_, text)| !text.starts_with("## ")) {
+        let Some((number, _)) = text.strip_prefix(begin).and_then(|rest| rest.split_once("**")) else { continue };
+        count += 1;
+        same(line, "item", number, &count.to_string())?;
+    }
+    Ok(count)
+}
+
+fn check_lines(page: &Page) -> Checked<()> {
+    match page.lines().find(|(_, text)| text.chars().count() > LINE) {
+        Some((line, _)) => wrong(line, format!("more than {LINE} characters")),
+        None => Ok(()),
+    }
+}
+
+/// How many application conditions there are.
+pub fn check(page: &Page) -> Checked<usize> {
+    check_states(page)?;
+    check_reports(page)?;
+    check_standings(page)?;
+    same(1, "numbers", count_items(page, "## 10. Numbers", "- **")?, 19)?;
+    check_lines(page)?;
+    match count_items(page, "## 12. Application conditions", "- **AC-")? {
+        0 => wrong(1, "no application conditions"),
+        count => Ok(count),
+    }
+}
