@@ -1,7 +1,7 @@
 //! The tables of events: kinds, lengths, states, fields and their ranges.
 
 use crate::engines::{engines, packets_of, refusal};
-use crate::text::{bounds, most, put, same, wrong, Checked, Page, Row};
+use crate::text::{bounds, in_range, most, put, same, wrong, Checked, Page, Row};
 use model::calls::Call;
 use model::words::STATES;
 use proved::pair::Pair;
@@ -73,7 +73,7 @@ impl Kind {
             same(field.line, "offset", field.offset, at)?;
             at += field.width;
         }
-        same(self.line, "bytes with those of the fields", self.size, at)?;
+        same(self.line, "bytes, those of the fields counted", self.size, at)?;
         let mut event = self.event(None);
         event.resize(LONGEST, 0);
         for size in 1..=LONGEST {
@@ -89,9 +89,7 @@ impl Kind {
         for field in &self.fields {
             for (value, inside) in bounds(field.low, field.high, most(field.width)) {
                 let number = refusal(fresh, &Call::of(self.event(Some((field, value)))), field.line)?;
-                if number == 1 || (number == 2) == inside {
-                    return wrong(field.line, format!("the value {value}: number {number}"));
-                }
+                in_range(field.line, value, inside, number == 2)?;
             }
         }
         Ok(())
@@ -132,8 +130,9 @@ fn check_unknown(kinds: &[Kind], fresh: &Pair) -> Checked<()> {
 
 /// A position before the first report, as the packet of power on has it.
 fn check_before(page: &Page) -> Checked<()> {
-    for row in page.table("Fields of events", "Kind")?.iter().filter(|row| row.text("Kind") .is_ok_and(|kind| kind == "9")) {
-        let header = packets_of(&[Call::power_on()], row.line)?[0].header;
+    let rows = page.table("Fields of events", "Kind")?;
+    let header = packets_of(&[Call::power_on()], rows[0].line)?[0].header;
+    for row in rows.iter().filter(|row| row.text("Kind").is_ok_and(|kind| kind == "9")) {
         let found = match row.text("Field")? {
             "NID_C" => header.nidc.into(),
             "NID_SP" => header.nidsp,

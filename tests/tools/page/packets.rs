@@ -1,6 +1,6 @@
 //! The tables of packets: sizes, and each field's bits, range and name in the answer of the reader.
 
-use crate::text::{bounds, same, wrong, Checked, Page, Row};
+use crate::text::{bounds, in_range, same, wrong, Checked, Page, Row};
 use model::packets::Packet;
 use proved::hollwern::{read, PacketFields};
 
@@ -123,9 +123,7 @@ impl Layout<'_> {
             let mut bytes = self.bytes();
             field.put(value, &mut bytes);
             let packet = reading(&bytes, field.line)?;
-            if packet.number != if inside { 0 } else { 19 } {
-                return wrong(field.line, format!("the value {value}: number {}", packet.number));
-            }
+            in_range(field.line, value, inside, packet.number == 19)?;
             if inside {
                 self.check_read(&packet, field, value)?;
             }

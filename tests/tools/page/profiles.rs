@@ -1,7 +1,7 @@
 //! The tables of segment record, journey and point: widths, ranges, maps, and what absent fields mean.
 
 use crate::engines::{packets_of, play, refusal};
-use crate::text::{bounds, most, number_of, put, same, wrong, Checked, Page, Row};
+use crate::text::{bounds, in_range, most, number_of, put, same, wrong, Checked, Page, Row};
 use model::calls::Call;
 use proved::pair::Pair;
 use std::collections::BTreeMap;
@@ -95,10 +95,7 @@ impl<'a> Layout<'a> {
                 let mut values = self.values();
                 values.insert(field.name, value);
                 let bytes = self.write(self.map, &values, tried.inner);
-                if (tried.number(&bytes, field.line)? == self.number) == inside {
-                    let taken = if inside { "refused" } else { "taken" };
-                    return wrong(field.line, format!("{} {value} is {taken}", field.name));
-                }
+                in_range(field.line, value, inside, tried.number(&bytes, field.line)? == self.number)?;
             }
         }
         Ok(())
@@ -127,12 +124,15 @@ impl<'a> Layout<'a> {
     fn check_length(&self, tried: &Tried) -> Checked<()> {
         let bytes = self.write(self.map, &self.values(), tried.inner);
         let longer = [&bytes[..], &[0]].concat();
-        for (bytes, refused) in [(&bytes[..], false), (&bytes[..bytes.len() - 1], true), (&longer, true)] {
-            if (tried.number(bytes, self.line)? == self.number) != refused {
-                return wrong(self.line, format!("laid out so, {} bytes are answered otherwise", bytes.len()));
+        for (bytes, what) in [(&bytes[..bytes.len() - 1], "a byte less"), (&longer, "a byte more")] {
+            if tried.number(bytes, self.line)? != self.number {
+                return wrong(self.line, format!("laid out as in the table, {what} is taken"));
             }
         }
-        Ok(())
+        match tried.number(&bytes, self.line)? == self.number {
+            true => wrong(self.line, "laid out as in the table, with values in the ranges, it is refused"),
+            false => Ok(()),
+        }
     }
 
     fn check(&self, tried: &Tried) -> Checked<()> {

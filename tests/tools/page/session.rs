@@ -60,14 +60,16 @@ fn play_step(pair: &mut Pair, step: &Step) -> Checked<()> {
     step.shows.map_or(Ok(()), |(line, expected)| same(line, "shows", expected, &shown(pair)))
 }
 
-/// The bytes of a worked block.
-fn worked(page: &Page, word: &str) -> Checked<(usize, Vec<u8>)> {
-    let mut bytes = Vec::new();
+/// The lines of a worked block, put together, are what the session lends.
+fn check_worked(page: &Page, word: &str, mut lent: &[u8]) -> Checked<()> {
     let lines = page.block(word)?;
     for line in &lines {
-        bytes.extend(hex_bytes(line.line, line.text)?);
+        let bytes = hex_bytes(line.line, line.text)?;
+        let (head, rest) = lent.split_at(bytes.len().min(lent.len()));
+        same(line.line, &format!("{word} of the session"), hex(&bytes), hex(head))?;
+        lent = rest;
     }
-    Ok((lines[0].line, bytes))
+    same(lines[lines.len() - 1].line, &format!("{word} of the session, behind this line"), "", &hex(lent))
 }
 
 /// Plays the session from a fresh engine; how many calls it has, and its load.
@@ -84,15 +86,10 @@ pub fn check(page: &Page, mut pair: Pair) -> Checked<(usize, Call)> {
     let Some(load) = steps.iter().find(|step| step.call.lends_profiles()) else {
         return wrong(last, "the session has no load");
     };
-    let (line, book) = worked(page, "book")?;
-    if read_book(&book).is_none() {
-        return wrong(line, "the worked book is not one");
+    if read_book(&load.call.book).is_none() || Journey::read(&load.call.journey).is_none() {
+        return wrong(load.line, "the model does not read the journey or the book of this load");
     }
-    same(line, "the worked book and that of the session", hex(&book), hex(&load.call.book))?;
-    let (line, journey) = worked(page, "journey")?;
-    if Journey::read(&journey).is_none() {
-        return wrong(line, "the worked journey is not one");
-    }
-    same(line, "the worked journey and that of the session", hex(&journey), hex(&load.call.journey))?;
+    check_worked(page, "book", &load.call.book)?;
+    check_worked(page, "journey", &load.call.journey)?;
     Ok((steps.len(), load.call.clone()))
 }

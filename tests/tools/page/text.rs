@@ -16,7 +16,12 @@ pub fn wrong<T>(line: usize, what: impl Into<String>) -> Checked<T> {
 
 /// Wrong where the two differ.
 pub fn same<T: PartialEq + std::fmt::Display>(line: usize, what: &str, page: T, found: T) -> Checked<()> {
-    if page == found { Ok(()) } else { wrong(line, format!("{what}: the page has {page}, the engine {found}")) }
+    if page == found { Ok(()) } else { wrong(line, format!("{what}: the page has {page}, but it is {found}")) }
+}
+
+/// Wrong where a value inside a range is refused, or one outside is not.
+pub fn in_range(line: usize, value: u64, inside: bool, refused: bool) -> Checked<()> {
+    if inside != refused { Ok(()) } else { wrong(line, format!("{value} is {}", if inside { "refused" } else { "taken" })) }
 }
 
 pub struct Page(String);

@@ -1,11 +1,12 @@
 //! What the page lists: states, conditions, reports, standings, numbers, application conditions.
 
 use crate::engines::play;
-use crate::text::{same, wrong, Checked, Page};
+use crate::text::{number_of, same, wrong, Checked, Page};
 use model::calls::Call;
 use model::values::{write_book, Journey, JourneyPoint, Record, RecordPoint};
 use model::words::{STATES, STATE_NAMES};
 use proved::pair::Pair;
+use std::collections::BTreeSet;
 
 /// The most characters of a line.
 const LINE: usize = 120;
@@ -86,13 +87,38 @@ fn check_lines(page: &Page) -> Checked<()> {
     }
 }
 
+fn names(text: &str) -> impl Iterator<Item = &str> {
+    let names = text.split(|c: char| !c.is_ascii_alphanumeric() && c != '_');
+    names.filter(|name| name.to_lowercase().starts_with("hollwern_"))
+}
+
+/// Names of the header that the page uses are there; a figure in brackets behind one is its value.
+fn check_names(page: &Page, header: &str) -> Checked<()> {
+    let known: BTreeSet<&str> = names(header).collect();
+    for (line, text) in page.lines() {
+        for name in names(text) {
+            if !known.contains(name) {
+                return wrong(line, format!("the header has no {name}"));
+            }
+            let figure = text.split_once(&format!("`{name}` (")).and_then(|(_, rest)| rest.split_once(')'));
+            if let Some(value) = figure.and_then(|(figure, _)| number_of(figure))
+                && !header.contains(&format!("#define {name} {value}\n"))
+            {
+                return wrong(line, format!("the header does not define {name} as {value}"));
+            }
+        }
+    }
+    Ok(())
+}
+
 /// How many application conditions there are.
-pub fn check(page: &Page) -> Checked<usize> {
+pub fn check(page: &Page, header: &str) -> Checked<usize> {
     check_states(page)?;
     check_reports(page)?;
     check_standings(page)?;
     same(1, "numbers", count_items(page, "## 10. Numbers", "- **")?, 19)?;
     check_lines(page)?;
+    check_names(page, header)?;
     match count_items(page, "## 12. Application conditions", "- **AC-")? {
         0 => wrong(1, "no application conditions"),
         count => Ok(count),
