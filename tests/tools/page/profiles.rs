@@ -159,10 +159,8 @@ impl Tried<'_> {
 fn check_defaults(record: &Layout, journey: &Layout, point: &Layout) -> Checked<()> {
     let stop_and_end = 0x53;
     let inner = point.write(stop_and_end, &point.values(), &[]);
-    let load = Call::load(
-        journey.write(0x1A, &journey.values(), &inner),
-        record.write(record.map, &record.values(), &[]),
-    );
+    let load =
+        Call::load(journey.write(0x1A, &journey.values(), &inner), record.write(record.map, &record.values(), &[]));
     let calls = [Call::power_on(), load, Call::position(0, 0, 0, 0)];
     let packets = packets_of(&calls, journey.line)?;
     let packet = |kind: u8| packets.iter().find(|packet| packet.kind == kind).copied().unwrap_or_default();

@@ -16,12 +16,20 @@ pub fn wrong<T>(line: usize, what: impl Into<String>) -> Checked<T> {
 
 /// Wrong where the two differ.
 pub fn same<T: PartialEq + std::fmt::Display>(line: usize, what: &str, page: T, found: T) -> Checked<()> {
-    if page == found { Ok(()) } else { wrong(line, format!("{what}: the page has {page}, but it is {found}")) }
+    if page == found {
+        Ok(())
+    } else {
+        wrong(line, format!("{what}: the page has {page}, but it is {found}"))
+    }
 }
 
 /// Wrong where a value inside a range is refused, or one outside is not.
 pub fn in_range(line: usize, value: u64, inside: bool, refused: bool) -> Checked<()> {
-    if inside != refused { Ok(()) } else { wrong(line, format!("{value} is {}", if inside { "refused" } else { "taken" })) }
+    if inside != refused {
+        Ok(())
+    } else {
+        wrong(line, format!("{value} is {}", if inside { "refused" } else { "taken" }))
+    }
 }
 
 pub struct Page(String);
@@ -71,7 +79,11 @@ impl Page {
             .take_while(|(_, text)| text.starts_with('|'))
             .map(|(line, text)| Row { line, cells: cells(head).zip(cells(text)).collect() })
             .collect();
-        if rows.is_empty() { wrong(head_line, "a table without rows") } else { Ok(rows) }
+        if rows.is_empty() {
+            wrong(head_line, "a table without rows")
+        } else {
+            Ok(rows)
+        }
     }
 
     /// The block with this word behind its opening marks.
@@ -85,7 +97,11 @@ impl Page {
             .map(|(line, text)| BlockLine { line, text: text.split('#').next().unwrap_or("").trim() })
             .filter(|line| !line.text.is_empty())
             .collect();
-        if lines.is_empty() { wrong(top, format!("the block '{word}' is empty")) } else { Ok(lines) }
+        if lines.is_empty() {
+            wrong(top, format!("the block '{word}' is empty"))
+        } else {
+            Ok(lines)
+        }
     }
 }
 
