@@ -1,6 +1,7 @@
 //! `page FILE HEADER`: plays the interface page (docs/INTERFACE.md) through the proved engine and the model, so that it
-//! cannot say what is not so. The session is played call by call; the tables of events, profiles and packets are tried at both
-//! ends of every range and next to them; names are looked for in the header. What differs is told with its line.
+//! cannot say what is not so. The session is played call by call; the tables of events, profiles and packets are tried
+//! at both ends of every range and next to them; names are looked for in the header. What differs is told with its
+//! line.
 
 #[path = "../tools/page/engines.rs"]
 mod engines;

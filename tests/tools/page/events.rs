@@ -27,7 +27,7 @@ struct Kind {
 
 fn field_of(row: &Row) -> Checked<Field> {
     let (low, high) = row.range("Range")?;
-    let (offset, width) = (row.number("Offset")? as usize, row.number("Width")? as usize);
+    let (offset, width) = (row.number_to("Offset", LONGEST as u64)?, row.width()?);
     Ok(Field { line: row.line, offset, width, low, high })
 }
 
@@ -42,14 +42,14 @@ fn kinds(page: &Page) -> Checked<Vec<Kind>> {
     let fields = page.table("Fields of events", "Kind")?;
     let mut kinds = Vec::new();
     for row in page.table("Kinds", "Kind")? {
-        let kind = row.number("Kind")?;
+        let kind = row.number_to("Kind", 255)?;
         let mut own = Vec::new();
         for field in &fields {
-            if field.number("Kind")? == kind {
+            if field.number_to("Kind", 255)? == kind {
                 own.push(field_of(field)?);
             }
         }
-        let (size, taken) = (row.number("Bytes")? as usize, states_of(&row)?);
+        let (size, taken) = (row.number_to("Bytes", LONGEST as u64)?, states_of(&row)?);
         kinds.push(Kind { line: row.line, kind: kind as u8, size, taken, fields: own });
     }
     Ok(kinds)
@@ -87,7 +87,7 @@ impl Kind {
 
     fn check_ranges(&self, fresh: &Pair) -> Checked<()> {
         for field in &self.fields {
-            for (value, inside) in bounds(field.low, field.high, most(field.width)) {
+            for (value, inside) in bounds(field.line, field.low, field.high, most(field.width))? {
                 let number = refusal(fresh, &Call::of(self.event(Some((field, value)))), field.line)?;
                 in_range(field.line, value, inside, number == 2)?;
             }

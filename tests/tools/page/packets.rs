@@ -47,9 +47,10 @@ fn value_in(packet: &PacketFields, name: &str) -> Option<u64> {
 }
 
 fn field_of<'a>(row: &Row<'a>, size: usize) -> Checked<Field<'a>> {
-    let end = (row.number("Offset")? + row.number("Width")?) as usize;
+    let width = row.width()?;
+    let end = row.number_to("Offset", size as u64)? + width;
     let (low, high) = row.range("Bits")?;
-    if end > size || high < low {
+    if end > size || high < low || high >= 8 * width as u64 {
         return wrong(row.line, "the field is not within the packet");
     }
     let range = if row.text("Range")?.is_empty() { None } else { Some(row.range("Range")?) };
@@ -58,7 +59,7 @@ fn field_of<'a>(row: &Row<'a>, size: usize) -> Checked<Field<'a>> {
 }
 
 fn layout_of<'a>(page: &'a Page, row: &Row<'a>) -> Checked<Layout<'a>> {
-    let (number, size) = (row.number("Packet")? as u8, row.number("Bytes")? as usize);
+    let (number, size) = (row.number_to("Packet", 255)? as u8, row.number_to("Bytes", 255)?);
     let mut fields = Vec::new();
     for heading in ["Header".to_string(), format!("Packet {number}")] {
         for row in page.table(&heading, "Offset")? {
@@ -119,7 +120,7 @@ impl Layout<'_> {
 
     fn check_field(&self, field: &Field) -> Checked<()> {
         let Some((low, high)) = field.range else { return Ok(()) };
-        for (value, inside) in bounds(low, high, (1 << field.bits) - 1) {
+        for (value, inside) in bounds(field.line, low, high, (1 << field.bits) - 1)? {
             let mut bytes = self.bytes();
             field.put(value, &mut bytes);
             let packet = reading(&bytes, field.line)?;

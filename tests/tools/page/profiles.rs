@@ -36,7 +36,7 @@ fn field_of<'a>(row: &Row<'a>) -> Checked<Field<'a>> {
         _ => (row.text("Bit")?, false),
     };
     let Some(bit) = number_of(bit).filter(|bit| *bit < 8) else { return wrong(row.line, "no bit of a map") };
-    let width = if row.text("Width")?.is_empty() { None } else { Some(row.number("Width")? as usize) };
+    let width = if row.text("Width")?.is_empty() { None } else { Some(row.width()?) };
     let ends = if row.text("Range")?.is_empty() { None } else { Some(row.ends("Range")?) };
     let (name, absent) = (row.text("Field")?, row.text("When the bit is 0")?);
     Ok(Field { line: row.line, bit: bit as u8, each, name, width, ends, absent })
@@ -91,7 +91,7 @@ impl<'a> Layout<'a> {
             let (Some((low, high)), Some(width)) = (field.ends, field.width) else { continue };
             let usual = self.values();
             let (low, high) = (self.end(field, low, &usual)?, self.end(field, high, &usual)?);
-            for (value, inside) in bounds(low, high, most(width)) {
+            for (value, inside) in bounds(field.line, low, high, most(width))? {
                 let mut values = self.values();
                 values.insert(field.name, value);
                 let bytes = self.write(self.map, &values, tried.inner);

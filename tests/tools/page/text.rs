@@ -116,6 +116,19 @@ impl<'a> Row<'a> {
         number_of(text).map_or_else(|| wrong(self.line, format!("{column} '{text}' is no number")), Ok)
     }
 
+    /// A number that is none above `most`.
+    pub fn number_to(&self, column: &str, most: u64) -> Checked<usize> {
+        match self.number(column)? {
+            number if number > most => wrong(self.line, format!("{column} {number} is too much")),
+            number => Ok(number as usize),
+        }
+    }
+
+    /// The width of a field in bytes.
+    pub fn width(&self) -> Checked<usize> {
+        self.number_to("Width", 4)
+    }
+
     /// The two ends of a cell such as 0-31.
     pub fn ends(&self, column: &str) -> Checked<(&'a str, &'a str)> {
         let text = self.text(column)?;
@@ -153,7 +166,10 @@ pub fn put(number: u64, width: usize, to: &mut Vec<u8>) {
 }
 
 /// The ends of a range, and what lies next to them up to the highest number: each with whether it is inside.
-pub fn bounds(low: u64, high: u64, most: u64) -> Vec<(u64, bool)> {
+pub fn bounds(line: usize, low: u64, high: u64, most: u64) -> Checked<Vec<(u64, bool)>> {
+    if low > high || high > most {
+        return wrong(line, format!("{low} to {high} is no range of numbers up to {most}"));
+    }
     let mut values = vec![(low, true), (high, true)];
     if low > 0 {
         values.push((low - 1, false));
@@ -161,5 +177,5 @@ pub fn bounds(low: u64, high: u64, most: u64) -> Vec<(u64, bool)> {
     if high < most {
         values.push((high + 1, false));
     }
-    values
+    Ok(values)
 }
