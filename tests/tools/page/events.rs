@@ -1,6 +1,6 @@
 //! The tables of events: kinds, lengths, states, fields and their ranges.
 
-use crate::engines::{engines, packets_of, refusal};
+use crate::engines::{engines, play, refusal};
 use crate::text::{bounds, in_range, most, put, same, wrong, Checked, Page, Row};
 use model::calls::Call;
 use model::words::STATES;
@@ -128,17 +128,23 @@ fn check_unknown(kinds: &[Kind], fresh: &Pair) -> Checked<()> {
     Ok(())
 }
 
-/// A position before the first report, as the packet of power on has it.
+/// What holds after power on.
 fn check_before(page: &Page) -> Checked<()> {
     let rows = page.table("Fields of events", "Kind")?;
-    let header = packets_of(&[Call::power_on()], rows[0].line)?[0].header;
-    for row in rows.iter().filter(|row| row.text("Kind").is_ok_and(|kind| kind == "9")) {
+    let mut pair = Pair::fresh();
+    play(&mut pair, &[Call::power_on()], rows[0].line)?;
+    let now = &pair.model.now;
+    for row in &rows {
         let found = match row.text("Field")? {
-            "NID_C" => header.nidc.into(),
-            "NID_SP" => header.nidsp,
-            "offset" => header.offset,
-            "speed" => header.speed.into(),
-            other => return wrong(row.line, format!("a position has no field '{other}'")),
+            "reports" => now.reports.into(),
+            "mode" => now.mode.into(),
+            "lever" => now.lever.into(),
+            "NID_C" => now.position.nidc.into(),
+            "NID_SP" => now.position.nidsp,
+            "offset" => now.position.offset,
+            "speed" => now.speed.into(),
+            "train length" => now.length,
+            _ => continue,
         };
         same(row.line, "before", row.number("Before")?, found.into())?;
     }

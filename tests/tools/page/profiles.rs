@@ -38,6 +38,9 @@ fn field_of<'a>(row: &Row<'a>) -> Checked<Field<'a>> {
     let Some(bit) = number_of(bit).filter(|bit| *bit < 8) else { return wrong(row.line, "no bit of a map") };
     let width = if row.text("Width")?.is_empty() { None } else { Some(row.width()?) };
     let ends = if row.text("Range")?.is_empty() { None } else { Some(row.ends("Range")?) };
+    if width.is_some_and(|width| width > 0) != ends.is_some() {
+        return wrong(row.line, "a range without a width, or a width without a range");
+    }
     let (name, absent) = (row.text("Field")?, row.text("When the bit is 0")?);
     Ok(Field { line: row.line, bit: bit as u8, each, name, width, ends, absent })
 }
@@ -45,6 +48,13 @@ fn field_of<'a>(row: &Row<'a>) -> Checked<Field<'a>> {
 fn layout_of<'a>(page: &'a Page, heading: &str, number: u8, map: u8) -> Checked<Layout<'a>> {
     let rows = page.table(heading, "Bit")?;
     let fields = rows.iter().map(field_of).collect::<Checked<Vec<Field>>>()?;
+    let mut next = 0;
+    for field in &fields {
+        if field.bit != next && field.bit + 1 != next {
+            return wrong(field.line, "bits do not go up one by one from 0");
+        }
+        next = field.bit + 1;
+    }
     Ok(Layout { line: rows[0].line, fields, number, map })
 }
 
@@ -179,9 +189,12 @@ fn check_defaults(record: &Layout, journey: &Layout, point: &Layout) -> Checked<
 }
 
 /// The table of offsets of a journey's fields, from the widths of the fields.
-fn check_offsets(page: &Page, journey: &Layout) -> Checked<()> {
+fn check_offsets(page: &Page, journey: &Layout, tried: &Tried) -> Checked<()> {
     for row in page.table("Point of a journey", "Map")? {
         let Ok(map) = u8::from_str_radix(row.text("Map")?, 16) else { return wrong(row.line, "no map") };
+        if tried.number(&journey.write(map, &journey.values(), tried.inner), row.line)? == journey.number {
+            return wrong(row.line, format!("the map {map:02X} is refused"));
+        }
         let mut at = 1;
         for field in journey.fields.iter().filter(|field| !field.each && field.bit < 4) {
             let column = if field.name == "count of segments" { "s" } else { field.name };
@@ -208,11 +221,12 @@ pub fn check(page: &Page) -> Checked<usize> {
     let lend_journey = |bytes: &[u8]| Call::load(bytes.to_vec(), Vec::new());
     let lend_point = |bytes: &[u8]| lend_journey(&journey.write(journey.map, &journey.values(), bytes));
     record.check(&Tried { engine: &engine, inner: &[], lend: &lend_book })?;
-    journey.check(&Tried { engine: &engine, inner: &inner, lend: &lend_journey })?;
+    let tried = Tried { engine: &engine, inner: &inner, lend: &lend_journey };
+    journey.check(&tried)?;
+    check_offsets(page, &journey, &tried)?;
     point.check(&Tried { engine: &engine, inner: &[], lend: &lend_point })?;
     let skip_alone = point.write(0x2F, &point.values(), &[]);
     same(point.line, "bit 5 without bit 4: number", 9, refusal(&engine, &lend_point(&skip_alone), point.line)?)?;
     check_defaults(&record, &journey, &point)?;
-    check_offsets(page, &journey)?;
     Ok(record.fields.len() + journey.fields.len() + point.fields.len())
 }

@@ -1,7 +1,7 @@
 //! The session of the page, and the worked book and journey that it loads.
 
 use crate::engines::play;
-use crate::text::{hex_bytes, same, wrong, BlockLine, Checked, Page};
+use crate::text::{hex_bytes, number_of, same, wrong, BlockLine, Checked, Page};
 use model::calls::Call;
 use model::engine::EG;
 use model::values::{read_book, Journey};
@@ -60,6 +60,17 @@ fn play_step(pair: &mut Pair, step: &Step) -> Checked<()> {
     step.shows.map_or(Ok(()), |(line, expected)| same(line, "shows", expected, &shown(pair)))
 }
 
+/// The number that the comment names first, if it does, is that of the bytes; maps are not told by their number.
+fn check_comment(line: &BlockLine, bytes: &[u8]) -> Checked<()> {
+    let mut words = line.comment.split([' ', ':']).filter_map(number_of);
+    match words.next() {
+        Some(number) if !line.comment.starts_with("map") => {
+            same(line.line, "value", number, bytes.iter().fold(0, |number, byte| 256 * number + u64::from(*byte)))
+        }
+        _ => Ok(()),
+    }
+}
+
 /// The lines of a worked block, put together, are what the session lends.
 fn check_worked(page: &Page, word: &str, mut lent: &[u8]) -> Checked<()> {
     let lines = page.block(word)?;
@@ -67,6 +78,7 @@ fn check_worked(page: &Page, word: &str, mut lent: &[u8]) -> Checked<()> {
         let bytes = hex_bytes(line.line, line.text)?;
         let (head, rest) = lent.split_at(bytes.len().min(lent.len()));
         same(line.line, &format!("{word} of the session"), hex(&bytes), hex(head))?;
+        check_comment(line, &bytes)?;
         lent = rest;
     }
     same(lines[lines.len() - 1].line, &format!("{word} of the session, behind this line"), "", &hex(lent))

@@ -40,10 +40,11 @@ pub struct Row<'a> {
     cells: Vec<(&'a str, &'a str)>,
 }
 
-/// A line of a block without its comment.
+/// A line of a block, and the comment behind it.
 pub struct BlockLine<'a> {
     pub line: usize,
     pub text: &'a str,
+    pub comment: &'a str,
 }
 
 fn cells(line: &str) -> impl Iterator<Item = &str> {
@@ -94,7 +95,8 @@ impl Page {
         };
         let inside = self.lines().skip(top).take_while(|(_, text)| *text != "```");
         let lines: Vec<BlockLine> = inside
-            .map(|(line, text)| BlockLine { line, text: text.split('#').next().unwrap_or("").trim() })
+            .map(|(line, text)| (line, text.split_once('#').unwrap_or((text, ""))))
+            .map(|(line, (text, comment))| BlockLine { line, text: text.trim(), comment: comment.trim() })
             .filter(|line| !line.text.is_empty())
             .collect();
         if lines.is_empty() {
