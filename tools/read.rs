@@ -1,0 +1,161 @@
+//! `read [--hex] [--brief] FILE`: a recording in words. `read [--hex] --against CALLS FILE`: a recording beside what the proved
+//! engine writes for the calls.
+
+use model::calls::{Call, read_calls, write_calls};
+use model::words::call_in_words;
+use reading::against::Run;
+use reading::differences::{self, Counts};
+use reading::recording::{Entry, entries};
+use reading::report::Report;
+use std::io::{BufWriter, Read, Write};
+use std::process::ExitCode;
+use tools::language::Scenario;
+
+const HELP: &str = "\
+tools/read [--hex] [--brief] FILE
+    Reads a recording by the proved packet reader and tells it in words: each packet with its place, its fields by their
+    names in SUBSET-140, each refusal (17, 18, 19) with its reason and where the reading goes on, and totals.
+tools/read [--hex] --against CALLS FILE
+    Plays CALLS through the proved engine and says where the recording differs from what it must be, byte and field.
+FILE     bytes as a recorder holds them, packets one after the other; - is standard input
+--hex    FILE is text: the player's lines, or a packet in hexadecimal a line; bytes are counted over the packets alone
+--brief  one line a packet
+CALLS    the player's input or, where its name ends in .scn, a scenario
+Exit status: 0 all is read, or as it must be; 1 a refusal, a difference, or a file that cannot be read; 2 wrong use.
+";
+
+/// Differences are told up to this many.
+const MOST: usize = 20;
+
+#[derive(Default)]
+struct Arguments {
+    hex: bool,
+    brief: bool,
+    against: Option<String>,
+    file: String,
+}
+
+/// An error is wrong use.
+fn read_arguments(mut words: impl Iterator<Item = String>) -> Result<Arguments, String> {
+    let mut arguments = Arguments::default();
+    let mut files = Vec::new();
+    while let Some(word) = words.next() {
+        match word.as_str() {
+            "--hex" => arguments.hex = true,
+            "--brief" => arguments.brief = true,
+            "--against" => arguments.against = Some(words.next().ok_or("--against needs CALLS and FILE")?),
+            option if option.starts_with('-') && option != "-" => return Err(format!("no option is named '{option}'")),
+            _ => files.push(word),
+        }
+    }
+    let [file] = &files[..] else { return Err(format!("one FILE is needed, {} given", files.len())) };
+    if arguments.brief && arguments.against.is_some() {
+        return Err("--brief and --against do not go together".into());
+    }
+    if file == "-" && arguments.against.as_deref() == Some("-") {
+        return Err("CALLS and FILE cannot both be standard input".into());
+    }
+    arguments.file = file.clone();
+    Ok(arguments)
+}
+
+fn read_file(name: &str) -> Result<Vec<u8>, String> {
+    let mut bytes = Vec::new();
+    let read = if name == "-" {
+        std::io::stdin().read_to_end(&mut bytes)
+    } else {
+        std::fs::File::open(name).and_then(|mut file| file.read_to_end(&mut bytes))
+    };
+    read.map_err(|error| format!("{name}: {error}"))?;
+    Ok(bytes)
+}
+
+/// Each call with its event in words, and whether the input is cut short behind them.
+fn read_played(name: &str) -> Result<(Vec<(String, Call)>, Option<String>), String> {
+    let bytes = read_file(name)?;
+    if name.ends_with(".scn") {
+        let text = String::from_utf8(bytes).map_err(|_| format!("{name}: no text"))?;
+        let scenario = Scenario::read(&text).map_err(|error| format!("{name}, {error}"))?;
+        let steps = scenario.steps.into_iter();
+        return Ok((steps.map(|step| (format!("line {}: {}", step.line, step.text), step.call)).collect(), None));
+    }
+    let calls = read_calls(&bytes);
+    let left = bytes.len() - write_calls(&calls).len();
+    if calls.is_empty() && left > 0 {
+        return Err(format!("{name}: no call in it; a scenario is taken where the name ends in .scn"));
+    }
+    let cut = (left > 0).then(|| format!("{name}: cut short: its last {left} bytes are no whole call and are not played"));
+    Ok((calls.into_iter().map(|call| (call_in_words(&call)[0].clone(), call)).collect(), cut))
+}
+
+/// Whether all is read.
+fn tell(entries: &[Entry], brief: bool, out: &mut impl Write) -> std::io::Result<bool> {
+    let mut report = Report::new(brief);
+    for entry in entries {
+        out.write_all(report.tell(entry).as_bytes())?;
+    }
+    out.write_all(report.end().as_bytes())?;
+    Ok(report.sound())
+}
+
+/// Whether the recording is as it must be.
+fn compare(run: &Run, entries: &[Entry], out: &mut impl Write) -> std::io::Result<bool> {
+    let differences = run.differences(entries);
+    let mut counts = Counts::default();
+    for (k, difference) in differences.iter().enumerate() {
+        counts.add(difference);
+        if k < MOST {
+            writeln!(out, "{}", differences::in_words(run, difference))?;
+        }
+    }
+    if differences.len() > MOST {
+        writeln!(out, "and {} more\n", differences.len() - MOST)?;
+    }
+    match differences.is_empty() {
+        true => writeln!(out, "as it must be: {}", run.in_words())?,
+        false => writeln!(out, "differs: {}\nmust be: {}", counts.in_words(), run.in_words())?,
+    }
+    Ok(differences.is_empty())
+}
+
+/// Whether all is well. An error is a file that cannot be read, or output that cannot be written.
+fn run(arguments: &Arguments) -> Result<bool, String> {
+    let mut out = BufWriter::new(std::io::stdout().lock());
+    let played = arguments.against.as_deref().map(read_played).transpose()?;
+    let file = read_file(&arguments.file)?;
+    let entries = entries(&file, arguments.hex).map_err(|error| format!("{}: {error}", arguments.file))?;
+    let sound = match &played {
+        None => tell(&entries, arguments.brief, &mut out),
+        Some((calls, cut)) => {
+            let run = Run::play(calls.iter().map(|(event, call)| (event.clone(), call)));
+            compare(&run, &entries, &mut out).and_then(|same| {
+                cut.iter().try_for_each(|cut| writeln!(out, "{cut}"))?;
+                Ok(same && cut.is_none())
+            })
+        }
+    };
+    let flushed = sound.and_then(|sound| out.flush().map(|()| sound));
+    flushed.map_err(|error| format!("standard output: {error}"))
+}
+
+fn main() -> ExitCode {
+    if std::env::args().skip(1).any(|word| word == "--help") {
+        print!("{HELP}");
+        return ExitCode::SUCCESS;
+    }
+    let arguments = match read_arguments(std::env::args().skip(1)) {
+        Ok(arguments) => arguments,
+        Err(error) => {
+            eprintln!("tools/read: {error}; tools/read --help says more");
+            return ExitCode::from(2);
+        }
+    };
+    match run(&arguments) {
+        Ok(true) => ExitCode::SUCCESS,
+        Ok(false) => ExitCode::FAILURE,
+        Err(error) => {
+            eprintln!("tools/read: {error}");
+            ExitCode::FAILURE
+        }
+    }
+}

@@ -1,0 +1,151 @@
+//! Where a recording differs from what it must be, in words.
+
+use crate::against::{Difference, Must, Run};
+use crate::layout::{Field, fields};
+use crate::recording::{Answered, Entry, Item, answer_line, hex_of_front, reason};
+use crate::report::{answer_in_words, bytes_in_brief};
+use crate::words::{counted, packet_name};
+use proved::hollwern::read;
+
+/// Of several that are missing or too many, so many are told.
+const MOST: usize = 5;
+
+/// How many differ, are missing and are too many.
+#[derive(Default)]
+pub struct Counts {
+    changed: usize,
+    missing: usize,
+    surplus: usize,
+}
+
+impl Counts {
+    pub fn add(&mut self, difference: &Difference) {
+        match (difference.musts.len(), difference.found.len()) {
+            (missing, 0) => self.missing += missing,
+            (0, surplus) => self.surplus += surplus,
+            _ => self.changed += 1,
+        }
+    }
+
+    pub fn in_words(&self) -> String {
+        format!("{} changed, {} missing, {} too many", self.changed, self.missing, self.surplus)
+    }
+}
+
+/// Answers and packets counted, in words.
+fn counted_items<'a>(items: impl Iterator<Item = &'a Item> + Clone) -> String {
+    let answers = items.clone().filter(|item| matches!(item, Item::Answer(_))).count();
+    let lines = items.clone().filter(|item| matches!(item, Item::Other(_))).count();
+    let packets = items.count() - answers - lines;
+    let counts = [(answers, "answer", "answers"), (packets, "packet", "packets"), (lines, "line", "lines")];
+    let counts = counts.into_iter().filter(|(count, ..)| *count > 0);
+    counts.map(|(count, one, many)| counted(count, one, many)).collect::<Vec<_>>().join(" and ")
+}
+
+fn item_in_words(item: &Item) -> String {
+    match item {
+        Item::Answer(answer) => format!("{}: {}", answer_line(*answer), answer_in_words(*answer)),
+        Item::Bytes(bytes) => bytes_in_brief(bytes),
+        Item::Other(text) => format!("'{}'", text.chars().take(60).collect::<String>()),
+    }
+}
+
+fn call_in_words(run: &Run, call: usize) -> String {
+    format!("call {}, {}", call + 1, run.calls[call].event)
+}
+
+/// Which of its call's packets it is.
+fn part_in_words(run: &Run, must: &Must) -> String {
+    match must.item {
+        Item::Bytes(_) => format!("packet {} of {}", must.packet + 1, run.calls[must.call].packets),
+        _ => "answer".into(),
+    }
+}
+
+fn field_in_words(field: &Field, at: usize, must: &[u8], found: &[u8]) -> String {
+    let line = |what: &str, packet: &[u8]| {
+        let value = field.value(packet);
+        let (hex, words) = (field.hex(value), (field.words)(value));
+        format!("      {what:<9}{hex:<9}{value:<11}{words}").trim_end().to_string() + "\n"
+    };
+    let heading = format!("    {}{}\n", field.place(at), field.name);
+    heading + &line("must be", must) + &line("is", found)
+}
+
+/// A packet and other bytes in its place.
+fn changed_bytes(at: usize, must: &[u8], found: &[u8]) -> String {
+    let mut text = String::new();
+    if must.len() == found.len() {
+        let known = fields(must[0]).into_iter().flatten();
+        let differing = known.filter(|field| field.value(must) != field.value(found));
+        differing.for_each(|field| text += &field_in_words(field, at, must, found));
+    } else {
+        let alike = must.iter().zip(found).take_while(|(must, found)| must == found).count();
+        text += &format!("    {} as they must be, then\n", counted(alike, "byte is", "bytes are"));
+        text += &format!("      must be  {}\n      is       {}\n", hex_of_front(&must[alike..]), hex_of_front(&found[alike..]));
+    }
+    if !read(found).accepted {
+        text += &format!("    refused by {}\n", reason(found));
+    }
+    text
+}
+
+fn changed_answer(must: Answered, found: Answered) -> String {
+    let line = |what: &str, answer: Answered| format!("      {what:<9}{}\n", item_in_words(&Item::Answer(answer)));
+    line("must be", must) + &line("is", found)
+}
+
+fn changed(run: &Run, must: &Must, found: &Entry) -> String {
+    let heading = format!("  {}, {}", call_in_words(run, must.call), part_in_words(run, must));
+    match (&must.item, &found.item) {
+        (Item::Bytes(must), Item::Bytes(bytes)) => {
+            let packet = format!("{} {}", must[0], packet_name(must[0].into()));
+            format!("{heading}, {packet}, differs\n{}", changed_bytes(found.at, must, bytes))
+        }
+        (Item::Answer(must), Item::Answer(found)) => format!("{heading} differs\n{}", changed_answer(*must, *found)),
+        (must, found) => {
+            let [must, found] = [item_in_words(must), item_in_words(found)].map(|words| words.replace('\n', "\n           "));
+            format!("{heading} differs\n      must be  {must}\n      is       {found}\n")
+        }
+    }
+}
+
+fn missing(run: &Run, difference: &Difference) -> String {
+    let what = counted_items(difference.musts.iter().map(|must| &must.item));
+    let mut text = format!("  {} missing\n", if difference.musts.len() == 1 { format!("{what} is") } else { format!("{what} are") });
+    for must in difference.musts.iter().take(MOST) {
+        let part = format!("{}, {}", call_in_words(run, must.call), part_in_words(run, must));
+        text += &format!("  {part}\n    {}\n", item_in_words(&must.item));
+    }
+    text + &more(difference.musts.len())
+}
+
+fn surplus(run: &Run, difference: &Difference) -> String {
+    let what = counted_items(difference.found.iter().map(|entry| &entry.item));
+    let behind = difference.behind.map_or("before the first".into(), |call| format!("behind {}", call_in_words(run, call)));
+    let mut text = format!("  {what} too many, {behind}\n");
+    difference.found.iter().take(MOST).for_each(|entry| text += &format!("    {}\n", item_in_words(&entry.item)));
+    text + &more(difference.found.len())
+}
+
+fn more(count: usize) -> String {
+    if count > MOST { format!("    and {} more\n", count - MOST) } else { String::new() }
+}
+
+/// One difference, with its place in the recording.
+pub fn in_words(run: &Run, difference: &Difference) -> String {
+    let line = difference.found.first().and_then(|entry| entry.line);
+    let line = line.map_or(String::new(), |line| format!(", line {line}"));
+    let end = match (difference.at_end, difference.musts.is_empty(), difference.found.is_empty()) {
+        (true, false, true) => ": the recording stops early",
+        (true, true, false) => ": the recording goes on",
+        _ => "",
+    };
+    let heading = format!("byte {}{line}{end}\n", difference.at);
+    heading
+        + &match (&difference.musts[..], &difference.found[..]) {
+            ([must], [found]) => changed(run, must, found),
+            (_, []) => missing(run, difference),
+            _ => surplus(run, difference),
+        }
+}

@@ -1,0 +1,208 @@
+//! What a recording says: every packet with its fields by name and in words, every refusal with its reason and where the reading
+//! goes on, and totals.
+
+use crate::layout::{Field, fields, out_of_range};
+use crate::recording::{Answered, Entry, Item, answer_line, hex_of_front, reason};
+use crate::words::{self, counted};
+use model::words::hex;
+use proved::hollwern::{PacketFields, read};
+use std::collections::BTreeMap;
+
+#[derive(Default)]
+pub struct Report {
+    /// One line a packet.
+    brief: bool,
+    /// The bytes of packets so far, read or refused.
+    bytes: usize,
+    bytes_read: usize,
+    /// Packets read by number, refusals by number.
+    packets: BTreeMap<u8, usize>,
+    refusals: BTreeMap<u8, usize>,
+    /// Answers that accept and that refuse.
+    answers: [usize; 2],
+    /// Lines of a text that are wrong.
+    wrong_lines: usize,
+    /// The last answer: its line, the bytes that it says, and those that stood before it.
+    answered: Option<(usize, usize, usize)>,
+}
+
+fn sum(counts: &BTreeMap<u8, usize>) -> usize {
+    counts.values().sum()
+}
+
+fn by_number(counts: &BTreeMap<u8, usize>) -> String {
+    let each: Vec<String> = counts.iter().map(|(number, count)| format!("{number}: {count}")).collect();
+    each.join(", ")
+}
+
+fn place(entry: &Entry) -> String {
+    let line = entry.line.map_or(String::new(), |line| format!(", line {line}"));
+    format!("byte {}{line}", entry.at)
+}
+
+/// One row of a packet's table.
+fn row(field: &Field, start: usize, value: u32, words: &str) -> String {
+    let (place, name, hex) = (field.place(start), field.name, field.hex(value));
+    format!("  {place}{name:<33}{hex:<9}{value:<11}{words}").trim_end().to_string() + "\n"
+}
+
+/// The content of a packet in one line.
+pub fn content_in_words(p: &PacketFields) -> String {
+    let (nidc, nidtp) = (p.nidc, p.nidtp);
+    match p.kind {
+        62 => {
+            let status = words::status(p.status.into());
+            let [end, alignment] = [words::end_of_journey(p.q_eoj_reached.into()), words::alignment(p.alignment.into())];
+            format!("NID_C {nidc}, NID_TP {nidtp}: {status}; {end}; {alignment}; STOPPING_DATA {:02X}", p.stopping)
+        }
+        65 => {
+            let nidc = if u32::from(nidc) == words::UNKNOWN_NIDC { "unknown".into() } else { nidc.to_string() };
+            let stamp = format!("{}, seconds {}, counter {}", words::date(p.date.into()), p.seconds, p.counter);
+            format!("NID_C {nidc}, NID_ATOTS {}, Journey Profile of {stamp}", p.atots)
+        }
+        _ => format!("{}; {}", words::state(p.state.into()), words::conditions(p.conditions.into())),
+    }
+}
+
+fn packet_in_brief(entry: &Entry, p: &PacketFields) -> String {
+    let place = entry.line.map_or(String::new(), |line| format!("line {line:<6}"));
+    format!("{:>8}  {place}{} {:<12}  {}\n", entry.at, p.kind, words::packet_name(p.kind.into()), content_in_words(p))
+}
+
+fn packet_in_words(entry: &Entry, p: &PacketFields) -> String {
+    let heading = format!("{} {}, {} bytes", p.kind, words::packet_name(p.kind.into()), p.size);
+    let mut text = format!("{}: packet {heading}\n", place(entry));
+    for field in fields(p.kind).into_iter().flatten() {
+        let value = (field.read)(p);
+        text += &row(field, entry.at, value, &(field.words)(value));
+    }
+    if p.kind == 68 {
+        let conditions = words::each_condition(p.conditions.into());
+        conditions.iter().for_each(|line| text += &format!("{:22}{line}\n", ""));
+    }
+    text + "\n"
+}
+
+fn refusal_in_words(entry: &Entry, bytes: &[u8]) -> String {
+    let number = read(bytes).number;
+    let mut text = format!("{}: refused by {}\n  {}\n", place(entry), reason(bytes), hex_of_front(bytes));
+    if number == 19 {
+        let wrong = out_of_range(bytes);
+        for field in &wrong {
+            let range = format!("out of range: 0 to {}", field.highest_in(bytes));
+            text += &row(field, entry.at, field.value(bytes), &range);
+        }
+        if wrong.is_empty() {
+            text += "  the reader refuses it, though every field is in the range that we know\n";
+        }
+    }
+    let end = entry.at + bytes.len();
+    text + &match (entry.line, number) {
+        (Some(_), _) => "  goes on at the next line\n\n".to_string(),
+        (None, 17) => format!("  {} left over\n\n", counted(bytes.len(), "byte is", "bytes are")),
+        (None, 19) => format!("  goes on at byte {end}, the packet's end\n\n"),
+        _ => format!("  {} skipped; goes on at byte {end}\n\n", counted(bytes.len(), "byte", "bytes")),
+    }
+}
+
+/// The answer in words.
+pub fn answer_in_words(answer: Answered) -> String {
+    match answer {
+        Err(number) => format!("call refused by {number}"),
+        Ok(answer) => {
+            let request = if answer.request { "AD requested" } else { "AD not requested" };
+            let written = counted(answer.bytes, "byte", "bytes");
+            format!("call accepted: {}; {request}; {written} written", words::state(answer.state.into()))
+        }
+    }
+}
+
+impl Report {
+    pub fn new(brief: bool) -> Report {
+        Report { brief, ..Report::default() }
+    }
+
+    /// One entry in words.
+    pub fn tell(&mut self, entry: &Entry) -> String {
+        match &entry.item {
+            Item::Bytes(bytes) => self.tell_bytes(entry, bytes),
+            Item::Answer(answer) => {
+                let before = self.close_answer();
+                self.answers[usize::from(answer.is_err())] += 1;
+                let written = answer.map_or(0, |answer| answer.bytes);
+                self.answered = Some((entry.line.unwrap_or(0), written, entry.at));
+                let line = entry.line.unwrap_or(0);
+                format!("{before}line {line}: {}: {}\n", answer_line(*answer), answer_in_words(*answer))
+            }
+            Item::Other(text) => {
+                self.wrong_lines += 1;
+                let text: String = text.chars().take(60).collect();
+                let line = entry.line.unwrap_or(0);
+                format!("line {line}: neither a packet in hexadecimal nor an answer of the player: '{text}'\n")
+            }
+        }
+    }
+
+    fn tell_bytes(&mut self, entry: &Entry, bytes: &[u8]) -> String {
+        let packet = read(bytes);
+        self.bytes += bytes.len();
+        if !packet.accepted {
+            *self.refusals.entry(packet.number).or_default() += 1;
+            return refusal_in_words(entry, bytes);
+        }
+        *self.packets.entry(packet.kind).or_default() += 1;
+        self.bytes_read += bytes.len();
+        if self.brief { packet_in_brief(entry, &packet) } else { packet_in_words(entry, &packet) }
+    }
+
+    /// Whether the last answer says as many bytes as stand below it.
+    fn close_answer(&mut self) -> String {
+        match self.answered.take() {
+            Some((line, says, before)) if says != self.bytes - before => {
+                self.wrong_lines += 1;
+                let stand = counted(self.bytes - before, "byte stands", "bytes stand");
+                format!("line {line}: the answer says {}, {stand} below it\n", counted(says, "byte", "bytes"))
+            }
+            _ => String::new(),
+        }
+    }
+
+    /// The totals. A recording of nothing is refused, as the reader refuses it.
+    pub fn end(&mut self) -> String {
+        let mut text = self.close_answer();
+        if self.bytes == 0 && self.answers == [0, 0] && self.wrong_lines == 0 {
+            let nothing = Entry { at: 0, line: None, item: Item::Bytes(Vec::new()) };
+            text += &self.tell(&nothing);
+        }
+        let mut total = |name: &str, count: usize, more: String| {
+            text += format!("{name:<16}{count:>8}  {more}").trim_end();
+            text += "\n";
+        };
+        total("bytes", self.bytes, format!("{} in packets, {} skipped", self.bytes_read, self.bytes - self.bytes_read));
+        total("packets", sum(&self.packets), by_number(&self.packets));
+        total("refusals", sum(&self.refusals), by_number(&self.refusals));
+        if self.answers != [0, 0] {
+            let [accepted, refused] = self.answers;
+            total("answers", accepted + refused, format!("accepted: {accepted}, refused: {refused}"));
+        }
+        if self.wrong_lines > 0 {
+            total("wrong lines", self.wrong_lines, String::new());
+        }
+        text
+    }
+
+    /// Whether all was read.
+    pub fn sound(&self) -> bool {
+        self.refusals.is_empty() && self.wrong_lines == 0
+    }
+}
+
+/// A packet's number, name and content, or why it is refused, in one line; and its bytes.
+pub fn bytes_in_brief(bytes: &[u8]) -> String {
+    let packet = read(bytes);
+    if !packet.accepted {
+        return format!("refused by {}\n    {}", reason(bytes), hex_of_front(bytes));
+    }
+    let name = words::packet_name(packet.kind.into());
+    format!("{} {name}: {}\n    {}", packet.kind, content_in_words(&packet), hex(bytes))
+}
