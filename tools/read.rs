@@ -1,12 +1,12 @@
 //! `read [--hex] [--brief] FILE`: a recording in words. `read [--hex] --against CALLS FILE`: a recording beside what the proved
 //! engine writes for the calls.
 
-use model::calls::{Call, read_calls, write_calls};
+use model::calls::{read_calls, write_calls, Call};
 use model::words::call_in_words;
 use reading::against::Run;
 use reading::differences::{self, Counts};
-use reading::recording::{Entry, entries};
-use reading::report::Report;
+use reading::recording::{entries, Entry};
+use reading::report::{Report, COLUMNS};
 use std::io::{BufWriter, Read, Write};
 use std::process::ExitCode;
 use tools::language::Scenario;
@@ -84,13 +84,17 @@ fn read_played(name: &str) -> Result<(Vec<(String, Call)>, Option<String>), Stri
     if calls.is_empty() && left > 0 {
         return Err(format!("{name}: no call in it; a scenario is taken where the name ends in .scn"));
     }
-    let cut = (left > 0).then(|| format!("{name}: cut short: its last {left} bytes are no whole call and are not played"));
+    let cut =
+        (left > 0).then(|| format!("{name}: cut short: its last {left} bytes are no whole call and are not played"));
     Ok((calls.into_iter().map(|call| (call_in_words(&call)[0].clone(), call)).collect(), cut))
 }
 
 /// Whether all is read.
 fn tell(entries: &[Entry], brief: bool, out: &mut impl Write) -> std::io::Result<bool> {
     let mut report = Report::new(brief);
+    if !brief {
+        out.write_all(COLUMNS.as_bytes())?;
+    }
     for entry in entries {
         out.write_all(report.tell(entry).as_bytes())?;
     }

@@ -1,7 +1,7 @@
 //! A recording against the one that must be: the proved engine's, for a list of calls.
 
 use crate::alignment::{gaps, pairs};
-use crate::recording::{Answered, Entry, Item, front_size};
+use crate::recording::{front_size, Answered, Entry, Item};
 use crate::words::counted;
 use model::calls::{Call, MEMORY};
 use proved::engine::Proved;
@@ -85,7 +85,7 @@ impl Run {
         let answers = found.iter().any(|entry| is_answer(&entry.item));
         let musts: Vec<&Must> = self.musts.iter().filter(|must| answers || !is_answer(&must.item)).collect();
         let mut differences = Vec::new();
-        for (lacking, others) in gaps(&musts, found, |must, entry| must.item == entry.item) {
+        for (lacking, others) in gaps(&musts, found, |must, entry| unlikeness(&must.item, &entry.item)) {
             let at_end = lacking.end == musts.len() && others.end == found.len();
             let behind = lacking.start.checked_sub(1).map(|k| musts[k].call);
             let before = others.start.checked_sub(1).map(|k| &found[k]);
@@ -109,11 +109,19 @@ fn size(item: &Item) -> usize {
 }
 
 fn is_refused(item: &Item) -> bool {
-    if let Item::Bytes(bytes) = item { !read(bytes).accepted } else { false }
+    if let Item::Bytes(bytes) = item {
+        !read(bytes).accepted
+    } else {
+        false
+    }
 }
 
 fn bytes_of(item: &Item) -> &[u8] {
-    if let Item::Bytes(bytes) = item { bytes } else { &[] }
+    if let Item::Bytes(bytes) = item {
+        bytes
+    } else {
+        &[]
+    }
 }
 
 /// The bytes found, cut where the packets end that must be there, if they are as many: a damaged number makes the reader cut

@@ -1,8 +1,8 @@
 //! Where a recording differs from what it must be, in words.
 
 use crate::against::{Difference, Must, Run};
-use crate::layout::{Field, fields};
-use crate::recording::{Answered, Entry, Item, answer_line, hex_of_front, reason};
+use crate::layout::{fields, Field};
+use crate::recording::{answer_line, hex_of_front, reason, Answered, Entry, Item};
 use crate::report::{answer_in_words, bytes_in_brief};
 use crate::words::{counted, packet_name};
 use proved::hollwern::read;
@@ -68,7 +68,8 @@ fn field_in_words(field: &Field, at: usize, must: &[u8], found: &[u8]) -> String
         let (hex, words) = (field.hex(value), (field.words)(value));
         format!("      {what:<9}{hex:<9}{value:<11}{words}").trim_end().to_string() + "\n"
     };
-    let heading = format!("    {}{}\n", field.place(at), field.name);
+    let group = if field.group().is_empty() { String::new() } else { format!(", {}", field.group()) };
+    let heading = format!("    {}{}{group}\n", field.place(at), field.name);
     heading + &line("must be", must) + &line("is", found)
 }
 
@@ -82,7 +83,11 @@ fn changed_bytes(at: usize, must: &[u8], found: &[u8]) -> String {
     } else {
         let alike = must.iter().zip(found).take_while(|(must, found)| must == found).count();
         text += &format!("    {} as they must be, then\n", counted(alike, "byte is", "bytes are"));
-        text += &format!("      must be  {}\n      is       {}\n", hex_of_front(&must[alike..]), hex_of_front(&found[alike..]));
+        text += &format!(
+            "      must be  {}\n      is       {}\n",
+            hex_of_front(&must[alike..]),
+            hex_of_front(&found[alike..])
+        );
     }
     if !read(found).accepted {
         text += &format!("    refused by {}\n", reason(found));
@@ -104,7 +109,8 @@ fn changed(run: &Run, must: &Must, found: &Entry) -> String {
         }
         (Item::Answer(must), Item::Answer(found)) => format!("{heading} differs\n{}", changed_answer(*must, *found)),
         (must, found) => {
-            let [must, found] = [item_in_words(must), item_in_words(found)].map(|words| words.replace('\n', "\n           "));
+            let [must, found] =
+                [item_in_words(must), item_in_words(found)].map(|words| words.replace('\n', "\n           "));
             format!("{heading} differs\n      must be  {must}\n      is       {found}\n")
         }
     }
@@ -112,7 +118,10 @@ fn changed(run: &Run, must: &Must, found: &Entry) -> String {
 
 fn missing(run: &Run, difference: &Difference) -> String {
     let what = counted_items(difference.musts.iter().map(|must| &must.item));
-    let mut text = format!("  {} missing\n", if difference.musts.len() == 1 { format!("{what} is") } else { format!("{what} are") });
+    let mut text = format!(
+        "  {} missing\n",
+        if difference.musts.len() == 1 { format!("{what} is") } else { format!("{what} are") }
+    );
     for must in difference.musts.iter().take(MOST) {
         let part = format!("{}, {}", call_in_words(run, must.call), part_in_words(run, must));
         text += &format!("  {part}\n    {}\n", item_in_words(&must.item));
@@ -122,14 +131,19 @@ fn missing(run: &Run, difference: &Difference) -> String {
 
 fn surplus(run: &Run, difference: &Difference) -> String {
     let what = counted_items(difference.found.iter().map(|entry| &entry.item));
-    let behind = difference.behind.map_or("before the first".into(), |call| format!("behind {}", call_in_words(run, call)));
+    let behind =
+        difference.behind.map_or("before the first".into(), |call| format!("behind {}", call_in_words(run, call)));
     let mut text = format!("  {what} too many, {behind}\n");
     difference.found.iter().take(MOST).for_each(|entry| text += &format!("    {}\n", item_in_words(&entry.item)));
     text + &more(difference.found.len())
 }
 
 fn more(count: usize) -> String {
-    if count > MOST { format!("    and {} more\n", count - MOST) } else { String::new() }
+    if count > MOST {
+        format!("    and {} more\n", count - MOST)
+    } else {
+        String::new()
+    }
 }
 
 /// One difference, with its place in the recording.

@@ -3,8 +3,8 @@
 use crate::layout::size_of;
 use crate::words::{counted, packet_name};
 use model::engine::Answer;
-use model::words::{STATES, bytes_of_hex, hex};
-use proved::hollwern::{PacketFields, read};
+use model::words::{bytes_of_hex, hex, STATES};
+use proved::hollwern::{read, PacketFields};
 
 /// What the player answers a call.
 pub type Answered = Result<Answer, u8>;
@@ -150,5 +150,9 @@ pub fn reason(bytes: &[u8]) -> String {
 /// The first bytes in hexadecimal.
 pub fn hex_of_front(bytes: &[u8]) -> String {
     const MOST: usize = 40;
-    if bytes.len() <= MOST { hex(bytes) } else { format!("{} ..", hex(&bytes[..MOST])) }
+    if bytes.len() <= MOST {
+        hex(bytes)
+    } else {
+        format!("{} ..", hex(&bytes[..MOST]))
+    }
 }

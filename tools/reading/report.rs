@@ -1,11 +1,11 @@
 //! What a recording says: every packet with its fields by name and in words, every refusal with its reason and where the reading
 //! goes on, and totals.
 
-use crate::layout::{Field, fields, out_of_range};
-use crate::recording::{Answered, Entry, Item, answer_line, hex_of_front, reason};
+use crate::layout::{fields, out_of_range, Field};
+use crate::recording::{answer_line, hex_of_front, reason, Answered, Entry, Item};
 use crate::words::{self, counted};
 use model::words::hex;
-use proved::hollwern::{PacketFields, read};
+use proved::hollwern::{read, PacketFields};
 use std::collections::BTreeMap;
 
 #[derive(Default)]
@@ -40,45 +40,50 @@ fn place(entry: &Entry) -> String {
     format!("byte {}{line}", entry.at)
 }
 
+/// Above the first packet.
+pub const COLUMNS: &str = "  byte        bit   field                              hex      decimal    in words\n\n";
+
 /// One row of a packet's table.
 fn row(field: &Field, start: usize, value: u32, words: &str) -> String {
     let (place, name, hex) = (field.place(start), field.name, field.hex(value));
-    format!("  {place}{name:<33}{hex:<9}{value:<11}{words}").trim_end().to_string() + "\n"
+    format!("  {place}{name:<35}{hex:<9}{value:<11}{words}").trim_end().to_string() + "\n"
 }
 
 /// The content of a packet in one line.
 pub fn content_in_words(p: &PacketFields) -> String {
-    let (nidc, nidtp) = (p.nidc, p.nidtp);
     match p.kind {
         62 => {
-            let status = words::status(p.status.into());
-            let [end, alignment] = [words::end_of_journey(p.q_eoj_reached.into()), words::alignment(p.alignment.into())];
-            format!("NID_C {nidc}, NID_TP {nidtp}: {status}; {end}; {alignment}; STOPPING_DATA {:02X}", p.stopping)
+            let end = if p.q_eoj_reached == 0 { "EoJ reached" } else { "EoJ not reached" };
+            let [status, alignment] = [words::status(p.status.into()), words::alignment(p.alignment.into())];
+            format!("NID_C {} NID_TP {}: {status}; {end}; {alignment}; data {:02X}", p.nidc, p.nidtp, p.stopping)
         }
         65 => {
-            let nidc = if u32::from(nidc) == words::UNKNOWN_NIDC { "unknown".into() } else { nidc.to_string() };
             let stamp = format!("{}, seconds {}, counter {}", words::date(p.date.into()), p.seconds, p.counter);
-            format!("NID_C {nidc}, NID_ATOTS {}, Journey Profile of {stamp}", p.atots)
+            format!("NID_C {} NID_ATOTS {}: Journey Profile of {stamp}", p.nidc, p.atots)
         }
         _ => format!("{}; {}", words::state(p.state.into()), words::conditions(p.conditions.into())),
     }
 }
 
 fn packet_in_brief(entry: &Entry, p: &PacketFields) -> String {
-    let place = entry.line.map_or(String::new(), |line| format!("line {line:<6}"));
-    format!("{:>8}  {place}{} {:<12}  {}\n", entry.at, p.kind, words::packet_name(p.kind.into()), content_in_words(p))
+    let line = entry.line.map_or(String::new(), |line| format!("line {line:<6}"));
+    format!("{:>8}  {line}{} {:<12}  {}\n", entry.at, p.kind, words::packet_name(p.kind.into()), content_in_words(p))
 }
 
 fn packet_in_words(entry: &Entry, p: &PacketFields) -> String {
     let heading = format!("{} {}, {} bytes", p.kind, words::packet_name(p.kind.into()), p.size);
     let mut text = format!("{}: packet {heading}\n", place(entry));
+    let mut group = "";
     for field in fields(p.kind).into_iter().flatten() {
+        if field.group() != group {
+            group = field.group();
+            text += &format!("{:20}{group}\n", "");
+        }
         let value = (field.read)(p);
         text += &row(field, entry.at, value, &(field.words)(value));
-    }
-    if p.kind == 68 {
-        let conditions = words::each_condition(p.conditions.into());
-        conditions.iter().for_each(|line| text += &format!("{:22}{line}\n", ""));
+        if field.name == "M_ATO_OPERATIONAL_CONDITIONS" {
+            words::each_condition(value).iter().for_each(|line| text += &format!("{:22}{line}\n", ""));
+        }
     }
     text + "\n"
 }
@@ -89,7 +94,7 @@ fn refusal_in_words(entry: &Entry, bytes: &[u8]) -> String {
     if number == 19 {
         let wrong = out_of_range(bytes);
         for field in &wrong {
-            let range = format!("out of range: 0 to {}", field.highest_in(bytes));
+            let range = format!("out of range 0 to {}, {}", field.highest_in(bytes), field.group());
             text += &row(field, entry.at, field.value(bytes), &range);
         }
         if wrong.is_empty() {
@@ -152,7 +157,11 @@ impl Report {
         }
         *self.packets.entry(packet.kind).or_default() += 1;
         self.bytes_read += bytes.len();
-        if self.brief { packet_in_brief(entry, &packet) } else { packet_in_words(entry, &packet) }
+        if self.brief {
+            packet_in_brief(entry, &packet)
+        } else {
+            packet_in_words(entry, &packet)
+        }
     }
 
     /// Whether the last answer says as many bytes as stand below it.
@@ -178,7 +187,7 @@ impl Report {
             text += format!("{name:<16}{count:>8}  {more}").trim_end();
             text += "\n";
         };
-        total("bytes", self.bytes, format!("{} in packets, {} skipped", self.bytes_read, self.bytes - self.bytes_read));
+        total("bytes", self.bytes, format!("read: {}, not read: {}", self.bytes_read, self.bytes - self.bytes_read));
         total("packets", sum(&self.packets), by_number(&self.packets));
         total("refusals", sum(&self.refusals), by_number(&self.refusals));
         if self.answers != [0, 0] {

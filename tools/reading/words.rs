@@ -43,7 +43,7 @@ const CONDITIONS: [&str; 9] = [
 ];
 
 pub const UNKNOWN_NIDC: u32 = 1024;
-const UNKNOWN_ATOTS: u32 = 16_384;
+pub const UNKNOWN_ATOTS: u32 = 16_384;
 const NO_OPERATIONAL: u32 = u32::MAX;
 
 /// A count with its noun.
@@ -66,7 +66,11 @@ pub fn country(_: u32) -> String {
 }
 
 pub fn country_of_train(value: u32) -> String {
-    if value == UNKNOWN_NIDC { "unknown".into() } else { country(value) }
+    if value == UNKNOWN_NIDC {
+        "unknown".into()
+    } else {
+        country(value)
+    }
 }
 
 pub fn segment(_: u32) -> String {
@@ -78,14 +82,14 @@ pub fn offset(value: u32) -> String {
     if value == UNDEFINED {
         "Undefined Location".into()
     } else {
-        format!("{}.{:02} m from the beginning of the SP", value / 100, value % 100)
+        format!("cm, {}.{:02} m from the beginning of the SP", value / 100, value % 100)
     }
 }
 
 /// Centimetres a second as kilometres an hour, exactly.
 pub fn speed(value: u32) -> String {
     let metres_an_hour = value * 36;
-    format!("{}.{:03} km/h", metres_an_hour / 1000, metres_an_hour % 1000)
+    format!("cm/s, {}.{:03} km/h", metres_an_hour / 1000, metres_an_hour % 1000)
 }
 
 pub fn operational(value: u32) -> String {
@@ -98,12 +102,20 @@ pub fn operational(value: u32) -> String {
 }
 
 pub fn timing_point(value: u32) -> String {
-    if value == u32::MAX { "undefined value".into() } else { "TP identity".into() }
+    if value == u32::MAX {
+        "undefined value".into()
+    } else {
+        "TP identity".into()
+    }
 }
 
 /// 0 where it is reached: the inverse of its name.
 pub fn end_of_journey(value: u32) -> String {
-    if value == 0 { "EoJ reached or passed".into() } else { "EoJ neither reached nor passed".into() }
+    if value == 0 {
+        "EoJ reached or passed".into()
+    } else {
+        "EoJ neither reached nor passed".into()
+    }
 }
 
 pub fn alignment(value: u32) -> String {
@@ -115,15 +127,19 @@ pub fn status(value: u32) -> String {
 }
 
 pub fn tolerance(_: u32) -> String {
-    "of a stop (Q_TP_STATUS 1); SUBSET-126 7.3.9.2".into()
+    "of a stop only; see SUBSET-126 7.3.9.2".into()
 }
 
 pub fn accurate_stopping(_: u32) -> String {
-    "of a stop (Q_TP_STATUS 1); SUBSET-126 7.3.10.2".into()
+    "of a stop only; see SUBSET-126 7.3.10.2".into()
 }
 
 pub fn atots(value: u32) -> String {
-    if value == UNKNOWN_ATOTS { "unknown".into() } else { "ATO-TS identifier".into() }
+    if value == UNKNOWN_ATOTS {
+        "unknown".into()
+    } else {
+        "ATO-TS identifier".into()
+    }
 }
 
 /// Whole days from the 1st January 2010.
@@ -151,7 +167,11 @@ pub fn counter(_: u32) -> String {
 }
 
 pub fn journey_status(value: u32) -> String {
-    if value == 0 { "journey accepted".into() } else { "no status".into() }
+    if value == 0 {
+        "journey accepted".into()
+    } else {
+        "no status".into()
+    }
 }
 
 pub fn state(value: u32) -> String {
@@ -165,11 +185,15 @@ fn stands(conditions: u32, k: usize) -> bool {
 
 pub fn conditions(value: u32) -> String {
     let lacking: Vec<String> = (0..CONDITIONS.len()).filter(|&k| !stands(value, k)).map(|k| k.to_string()).collect();
-    if lacking.is_empty() { "all nine stand".into() } else { format!("lacking {}", lacking.join(" ")) }
+    if lacking.is_empty() {
+        "all nine stand".into()
+    } else {
+        format!("lacking {}", lacking.join(" "))
+    }
 }
 
 /// A line for each of the nine.
 pub fn each_condition(value: u32) -> Vec<String> {
-    let line = |(k, name)| format!("{k} {} {name}", if stands(value, k) { "stands:" } else { "lacks: " });
+    let line = |(k, name)| format!("{k} {}  {name}", if stands(value, k) { "stands " } else { "lacking" });
     CONDITIONS.into_iter().enumerate().map(line).collect()
 }

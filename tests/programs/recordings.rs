@@ -1,0 +1,139 @@
+//! `recordings write SCENARIO LINES BYTES`: what the model records for a scenario, as the player's lines and as bytes.
+//! `recordings COUNT`: the recordings of so many random lists, from the model. Each is read whole and is as it must be; with a byte
+//! changed, a packet lost and a packet twice, just that is found.
+
+use inputs::lists::new_list;
+use model::calls::{play, Call};
+use model::packets::{split_packets, Packet};
+use model::words::bytes_of_hex;
+use reading::against::{Difference, Run};
+use reading::differences;
+use reading::layout::{fields, out_of_range};
+use reading::recording::{entries, pieces, Entry};
+use reading::report::Report;
+use tools::language::Scenario;
+
+/// Far from the seeds of other programs.
+const SEED: u64 = 3_000_000_000;
+/// So often each recording is damaged.
+const TURNS: usize = 10;
+
+/// The packets of the player's lines.
+fn packets_in(lines: &str) -> Vec<Vec<u8>> {
+    lines.lines().filter_map(bytes_of_hex).collect()
+}
+
+fn read_whole(file: &[u8], hex: bool) -> Result<Vec<Entry>, String> {
+    let entries = entries(file, hex)?;
+    let mut report = Report::new(false);
+    let text: String = entries.iter().map(|entry| report.tell(entry)).collect();
+    report.end();
+    if report.sound() {
+        Ok(entries)
+    } else {
+        Err(format!("not read whole:\n{text}"))
+    }
+}
+
+/// The fields that are told are those of the packet's bytes, and all are in range just where the model reads it.
+fn check_fields(packet: &[u8]) -> Result<(), String> {
+    let read = proved::hollwern::read(packet);
+    let in_range = out_of_range(packet).is_empty();
+    if read.accepted != Packet::read(packet).is_ok() || read.accepted != in_range {
+        return Err(format!("{packet:02X?}: read {}, in range {in_range}", read.accepted));
+    }
+    let mut told = fields(packet[0]).into_iter().flatten();
+    match told.find(|field| read.accepted && (field.read)(&read) != field.value(packet)) {
+        Some(field) => Err(format!("{packet:02X?}: {}", field.name)),
+        None => Ok(()),
+    }
+}
+
+/// The differences, each told without fail.
+fn compared<'a>(run: &'a Run, bytes: &[u8]) -> Result<Vec<Difference<'a>>, String> {
+    let differences = run.differences(&entries(bytes, false)?);
+    differences.iter().for_each(|difference| drop(differences::in_words(run, difference)));
+    Ok(differences)
+}
+
+/// One byte changed, one packet lost, one packet twice; `turn` chooses which.
+fn try_damage(run: &Run, packets: &[Vec<u8>], turn: usize) -> Result<(), String> {
+    let (before, from) = packets.split_at(turn * 7 % packets.len());
+    let at = before.concat().len();
+    let byte = turn * 11 % from[0].len();
+    let mut changed = from[0].clone();
+    changed[byte] = changed[byte].wrapping_add(1 + (turn % 255) as u8);
+    if byte > 0 {
+        check_fields(&changed)?;
+    }
+    let recording = [before.concat(), changed.clone(), from[1..].concat()].concat();
+    let found = compared(run, &recording)?;
+    if !matches!(&found[..], [one] if one.musts.len() == 1 && one.found.len() == 1 && one.at == at) {
+        let told: String = found.iter().map(|difference| differences::in_words(run, difference)).collect();
+        return Err(format!("byte {byte} of the packet at {at} changed:\n{told}"));
+    }
+    let lost = compared(run, &[before.concat(), from[1..].concat()].concat())?;
+    if !matches!(&lost[..], [one] if one.musts.len() == 1 && one.found.is_empty()) {
+        return Err(format!("packet at {at} lost: {} differences", lost.len()));
+    }
+    let twice = compared(run, &[before.concat(), from[0].clone(), from.concat()].concat())?;
+    if !matches!(&twice[..], [one] if one.musts.is_empty() && one.found.len() == 1) {
+        return Err(format!("packet at {at} twice: {} differences", twice.len()));
+    }
+    Ok(())
+}
+
+/// The packets of one list.
+fn try_list(seed: u64) -> Result<usize, String> {
+    let calls = new_list(seed);
+    let lines = play(&calls);
+    let packets = packets_in(&lines);
+    let recording = packets.concat();
+    let run = Run::play(calls.iter().map(|call| (String::new(), call)));
+    if pieces(&recording) != split_packets(&recording) {
+        return Err("cut elsewhere than the model cuts".into());
+    }
+    for (file, hex) in [(&recording[..], false), (lines.as_bytes(), true)] {
+        if !file.is_empty() && !run.differences(&read_whole(file, hex)?).is_empty() {
+            return Err("differs from what it must be".into());
+        }
+    }
+    packets.iter().try_for_each(|packet| check_fields(packet))?;
+    let turns = if packets.is_empty() { 0 } else { TURNS };
+    (0..turns).try_for_each(|k| try_damage(&run, &packets, seed as usize * TURNS + k))?;
+    Ok(packets.len())
+}
+
+fn write(scenario: &str, lines: &str, bytes: &str) -> Result<(), String> {
+    let in_file = |file: &str, error: std::io::Error| format!("{file}: {error}");
+    let text = std::fs::read_to_string(scenario).map_err(|error| in_file(scenario, error))?;
+    let steps = Scenario::read(&text)?.steps;
+    let calls: Vec<Call> = steps.into_iter().map(|step| step.call).collect();
+    let recorded = play(&calls);
+    std::fs::write(lines, &recorded).map_err(|error| in_file(lines, error))?;
+    std::fs::write(bytes, packets_in(&recorded).concat()).map_err(|error| in_file(bytes, error))
+}
+
+fn run() -> Result<(), String> {
+    let arguments: Vec<String> = std::env::args().skip(1).collect();
+    match &arguments.iter().map(String::as_str).collect::<Vec<_>>()[..] {
+        ["write", scenario, lines, bytes] => write(scenario, lines, bytes),
+        [count] => {
+            let count: u64 = count.parse().map_err(|_| format!("'{count}' is no number"))?;
+            let mut packets = 0;
+            for seed in SEED..SEED + count {
+                packets += try_list(seed).map_err(|error| format!("list {seed}: {error}"))?;
+            }
+            println!("{count} random recordings of {packets} packets are read and compared, also damaged");
+            Ok(())
+        }
+        _ => Err("recordings COUNT, or recordings write SCENARIO LINES BYTES".into()),
+    }
+}
+
+fn main() {
+    if let Err(error) = run() {
+        eprintln!("{error}");
+        std::process::exit(1);
+    }
+}
