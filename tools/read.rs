@@ -91,7 +91,7 @@ fn read_played(name: &str) -> Result<(Vec<(String, Call)>, Option<String>), Stri
 
 /// Whether all is read.
 fn tell(entries: &[Entry], brief: bool, out: &mut impl Write) -> std::io::Result<bool> {
-    let mut report = Report::new(brief);
+    let mut report = Report::new(entries, brief);
     if !brief {
         out.write_all(COLUMNS.as_bytes())?;
     }
@@ -103,21 +103,17 @@ fn tell(entries: &[Entry], brief: bool, out: &mut impl Write) -> std::io::Result
 }
 
 /// Whether the recording is as it must be.
-fn compare(run: &Run, entries: &[Entry], out: &mut impl Write) -> std::io::Result<bool> {
+fn compare(run: &Run, cut: bool, entries: &[Entry], out: &mut impl Write) -> std::io::Result<bool> {
     let differences = run.differences(entries);
-    let mut counts = Counts::default();
-    for (k, difference) in differences.iter().enumerate() {
-        counts.add(difference);
-        if k < MOST {
-            writeln!(out, "{}", differences::in_words(run, difference))?;
-        }
+    for difference in differences.iter().take(MOST) {
+        writeln!(out, "{}", differences::in_words(run, difference))?;
     }
     if differences.len() > MOST {
         writeln!(out, "and {} more\n", differences.len() - MOST)?;
     }
     match differences.is_empty() {
-        true => writeln!(out, "as it must be: {}", run.in_words())?,
-        false => writeln!(out, "differs: {}\nmust be: {}", counts.in_words(), run.in_words())?,
+        true => writeln!(out, "as it must be{}: {}", if cut { " so far" } else { "" }, run.in_words())?,
+        false => writeln!(out, "differs: {}\nmust be: {}", Counts::of(&differences).in_words(), run.in_words())?,
     }
     Ok(differences.is_empty())
 }
@@ -132,7 +128,7 @@ fn run(arguments: &Arguments) -> Result<bool, String> {
         None => tell(&entries, arguments.brief, &mut out),
         Some((calls, cut)) => {
             let run = Run::play(calls.iter().map(|(event, call)| (event.clone(), call)));
-            compare(&run, &entries, &mut out).and_then(|same| {
+            compare(&run, cut.is_some(), &entries, &mut out).and_then(|same| {
                 cut.iter().try_for_each(|cut| writeln!(out, "{cut}"))?;
                 Ok(same && cut.is_none())
             })

@@ -1,13 +1,13 @@
 //! `recordings write SCENARIO LINES BYTES`: what the model records for a scenario, as the player's lines and as bytes.
 //! `recordings COUNT`: the recordings of so many random lists, from the model. Each is read whole and is as it must be; with a byte
-//! changed, a packet lost and a packet twice, just that is found.
+//! changed or lost, a packet lost and a packet twice, just that is found.
 
 use inputs::lists::new_list;
 use model::calls::{play, Call};
 use model::packets::{split_packets, Packet};
 use model::words::bytes_of_hex;
 use reading::against::{Difference, Run};
-use reading::differences;
+use reading::differences::{self, Counts};
 use reading::layout::{fields, out_of_range};
 use reading::recording::{entries, pieces, Entry};
 use reading::report::Report;
@@ -25,7 +25,7 @@ fn packets_in(lines: &str) -> Vec<Vec<u8>> {
 
 fn read_whole(file: &[u8], hex: bool) -> Result<Vec<Entry>, String> {
     let entries = entries(file, hex)?;
-    let mut report = Report::new(false);
+    let mut report = Report::new(&entries, false);
     let text: String = entries.iter().map(|entry| report.tell(entry)).collect();
     report.end();
     if report.sound() {
@@ -56,29 +56,30 @@ fn compared<'a>(run: &'a Run, bytes: &[u8]) -> Result<Vec<Difference<'a>>, Strin
     Ok(differences)
 }
 
-/// One byte changed, one packet lost, one packet twice; `turn` chooses which.
+/// One byte changed, one byte lost, one packet lost, one packet twice; `turn` chooses which.
 fn try_damage(run: &Run, packets: &[Vec<u8>], turn: usize) -> Result<(), String> {
-    let (before, from) = packets.split_at(turn * 7 % packets.len());
-    let at = before.concat().len();
-    let byte = turn * 11 % from[0].len();
-    let mut changed = from[0].clone();
-    changed[byte] = changed[byte].wrapping_add(1 + (turn % 255) as u8);
+    let chosen = turn * 7 % packets.len();
+    let byte = turn * 11 % packets[chosen].len();
+    let step = 1 + (turn % 255) as u8;
+    let with = |packet: Vec<u8>| [packets[..chosen].concat(), packet, packets[chosen + 1..].concat()].concat();
+    let mut changed = packets[chosen].clone();
+    changed[byte] = changed[byte].wrapping_add(step);
     if byte > 0 {
         check_fields(&changed)?;
     }
-    let recording = [before.concat(), changed.clone(), from[1..].concat()].concat();
-    let found = compared(run, &recording)?;
-    if !matches!(&found[..], [one] if one.musts.len() == 1 && one.found.len() == 1 && one.at == at) {
-        let told: String = found.iter().map(|difference| differences::in_words(run, difference)).collect();
-        return Err(format!("byte {byte} of the packet at {at} changed:\n{told}"));
-    }
-    let lost = compared(run, &[before.concat(), from[1..].concat()].concat())?;
-    if !matches!(&lost[..], [one] if one.musts.len() == 1 && one.found.is_empty()) {
-        return Err(format!("packet at {at} lost: {} differences", lost.len()));
-    }
-    let twice = compared(run, &[before.concat(), from[0].clone(), from.concat()].concat())?;
-    if !matches!(&twice[..], [one] if one.musts.is_empty() && one.found.len() == 1) {
-        return Err(format!("packet at {at} twice: {} differences", twice.len()));
+    let shorter = [&packets[chosen][..byte], &packets[chosen][byte + 1..]].concat();
+    let trials = [
+        ("byte changed", with(changed), Counts { changed: 1, ..Counts::default() }),
+        ("byte lost", with(shorter), Counts { changed: 1, ..Counts::default() }),
+        ("packet lost", with(Vec::new()), Counts { missing: 1, ..Counts::default() }),
+        ("packet twice", with(packets[chosen].repeat(2)), Counts { surplus: 1, ..Counts::default() }),
+    ];
+    for (damage, recording, expected) in trials {
+        let found = compared(run, &recording)?;
+        if Counts::of(&found) != expected {
+            let told: String = found.iter().map(|difference| differences::in_words(run, difference)).collect();
+            return Err(format!("packet {chosen}, byte {byte}: {damage}\n{told}"));
+        }
     }
     Ok(())
 }

@@ -5,7 +5,6 @@ use crate::recording::{front_size, Answered, Entry, Item};
 use crate::words::counted;
 use model::calls::{Call, MEMORY};
 use proved::engine::Proved;
-use proved::hollwern::read;
 
 /// A call that was played.
 pub struct Played {
@@ -74,7 +73,7 @@ impl Run {
     pub fn in_words(&self) -> String {
         let refused = self.calls.iter().filter(|call| call.answer.is_err()).count();
         let packets = self.calls.iter().map(|call| call.packets).sum();
-        let bytes = self.musts.iter().map(|must| size(&must.item)).sum();
+        let bytes = self.musts.iter().map(|must| must.item.bytes().len()).sum();
         let calls = counted(self.calls.len(), "call", "calls");
         let written = format!("{}, {}", counted(packets, "packet", "packets"), counted(bytes, "byte", "bytes"));
         format!("{calls} ({} accepted, {refused} refused), {written}", self.calls.len() - refused)
@@ -89,7 +88,7 @@ impl Run {
             let at_end = lacking.end == musts.len() && others.end == found.len();
             let behind = lacking.start.checked_sub(1).map(|k| musts[k].call);
             let before = others.start.checked_sub(1).map(|k| &found[k]);
-            let at = before.map_or(0, |entry| entry.at + size(&entry.item));
+            let at = before.map_or(0, Entry::end);
             let mut gap = in_gap(&musts[lacking], &found[others], at, behind);
             if let Some(last) = gap.last_mut() {
                 last.at_end = at_end;
@@ -104,41 +103,32 @@ fn is_answer(item: &Item) -> bool {
     matches!(item, Item::Answer(_))
 }
 
-fn size(item: &Item) -> usize {
-    bytes_of(item).len()
+/// How many elements are equal from the front.
+pub fn alike<'a>(a: impl Iterator<Item = &'a u8>, b: impl Iterator<Item = &'a u8>) -> usize {
+    a.zip(b).take_while(|(a, b)| a == b).count()
 }
 
-fn is_refused(item: &Item) -> bool {
-    if let Item::Bytes(bytes) = item {
-        !read(bytes).accepted
-    } else {
-        false
-    }
-}
-
-fn bytes_of(item: &Item) -> &[u8] {
-    if let Item::Bytes(bytes) = item {
-        bytes
-    } else {
-        &[]
-    }
-}
-
-/// The bytes found, cut where the packets end that must be there, if they are as many: a damaged number makes the reader cut
-/// elsewhere. A line of a text stands for itself.
-fn cut_alike(musts: &[&Must], found: &[Entry]) -> Option<Vec<Entry>> {
-    let bytes: Vec<u8> = found.iter().flat_map(|entry| bytes_of(&entry.item)).copied().collect();
-    let sizes = musts.iter().map(|must| size(&must.item));
-    let damaged = found.iter().any(|entry| is_refused(&entry.item));
-    if !damaged || sizes.clone().sum::<usize>() != bytes.len() || found.iter().any(|entry| entry.line.is_some()) {
+/// The bytes found, cut where the packets end that must be there, none for a packet that has no byte left: a damaged number,
+/// and bytes lost or put in, make the reader cut elsewhere. `None` where nothing is damaged, and where the bytes are neither as
+/// many as they must be nor differ by one run that is lost or put in. A line of a text stands for itself.
+fn cut_alike(musts: &[&Must], found: &[Entry]) -> Option<Vec<Option<Entry>>> {
+    let must: Vec<u8> = musts.iter().flat_map(|must| must.item.bytes()).copied().collect();
+    let is: Vec<u8> = found.iter().flat_map(|entry| entry.item.bytes()).copied().collect();
+    let ahead = alike(must.iter(), is.iter());
+    let behind = alike(must[ahead..].iter().rev(), is[ahead..].iter().rev());
+    let one_run = must.len() == is.len() || ahead + behind == must.len().min(is.len());
+    let damaged = found.iter().any(|entry| entry.item.is_refused());
+    if musts.is_empty() || !one_run || !damaged || found.iter().any(|entry| entry.line.is_some()) {
         return None;
     }
-    let (mut at, mut left) = (found.first()?.at, &bytes[..]);
-    let cut = sizes.map(|size| {
-        let (piece, rest) = left.split_at(size);
-        let entry = Entry { at, line: None, item: Item::Bytes(piece.to_vec()) };
-        (at, left) = (at + size, rest);
-        entry
+    let place = |end: usize| if end <= ahead { end } else { ahead.max((end + is.len()).saturating_sub(must.len())) };
+    let (mut end, mut from) = (0, 0);
+    let cut = musts.iter().map(|must| {
+        end += must.item.bytes().len();
+        let piece = &is[from..place(end)];
+        let entry = Entry { at: found[0].at + from, line: None, item: Item::Bytes(piece.to_vec()) };
+        from = place(end);
+        (!piece.is_empty()).then_some(entry)
     });
     Some(cut.collect())
 }
@@ -149,7 +139,7 @@ fn unlikeness(must: &Item, found: &Item) -> Option<usize> {
         (Item::Bytes(must), Item::Bytes(found)) if must.len() == found.len() => {
             Some(must.iter().zip(found).filter(|(must, found)| must != found).count())
         }
-        (Item::Bytes(_), Item::Bytes(_)) => is_refused(found).then_some(DAMAGED),
+        (Item::Bytes(_), Item::Bytes(_)) => found.is_refused().then_some(DAMAGED),
         (Item::Answer(must), Item::Answer(found)) => Some(if must == found { 0 } else { OTHER_ANSWER }),
         (_, Item::Other(_)) => Some(DAMAGED),
         _ => None,
@@ -159,7 +149,7 @@ fn unlikeness(must: &Item, found: &Item) -> Option<usize> {
 /// What stands for what in a gap.
 fn paired<'a>(musts: &[&'a Must], found: &[Entry]) -> Vec<(Option<&'a Must>, Option<Entry>)> {
     if let Some(cut) = cut_alike(musts, found) {
-        return musts.iter().zip(cut).map(|(must, entry)| (Some(*must), Some(entry))).collect();
+        return musts.iter().zip(cut).map(|(must, entry)| (Some(*must), entry)).collect();
     }
     let pairs = pairs(musts, found, |must, entry| unlikeness(&must.item, &entry.item));
     pairs.into_iter().map(|(i, j)| (i.map(|i| musts[i]), j.map(|j| found[j].clone()))).collect()
@@ -173,7 +163,7 @@ fn in_gap<'a>(musts: &[&'a Must], found: &[Entry], mut at: usize, mut behind: Op
     for (must, entry) in paired(musts, found) {
         let call = must.map(|must| must.call).or(behind);
         at = entry.as_ref().map_or(at, |entry| entry.at);
-        let end = at + entry.as_ref().map_or(0, |entry| size(&entry.item));
+        let end = entry.as_ref().map_or(at, Entry::end);
         let equal = must.zip(entry.as_ref()).is_some_and(|(must, entry)| must.item == entry.item);
         let now_alone = (must.is_some() != entry.is_some()).then_some(must.is_some());
         match differences.last_mut() {

@@ -1,6 +1,6 @@
 //! Where a recording differs from what it must be, in words.
 
-use crate::against::{Difference, Must, Run};
+use crate::against::{alike, Difference, Must, Run};
 use crate::layout::{fields, Field};
 use crate::recording::{answer_line, hex_of_front, reason, Answered, Entry, Item};
 use crate::report::{answer_in_words, bytes_in_brief};
@@ -11,20 +11,24 @@ use proved::hollwern::read;
 const MOST: usize = 5;
 
 /// How many differ, are missing and are too many.
-#[derive(Default)]
+#[derive(Default, PartialEq, Eq, Debug)]
 pub struct Counts {
-    changed: usize,
-    missing: usize,
-    surplus: usize,
+    pub changed: usize,
+    pub missing: usize,
+    pub surplus: usize,
 }
 
 impl Counts {
-    pub fn add(&mut self, difference: &Difference) {
-        match (difference.musts.len(), difference.found.len()) {
-            (missing, 0) => self.missing += missing,
-            (0, surplus) => self.surplus += surplus,
-            _ => self.changed += 1,
+    pub fn of(differences: &[Difference]) -> Counts {
+        let mut counts = Counts::default();
+        for difference in differences {
+            match (difference.musts.len(), difference.found.len()) {
+                (missing, 0) => counts.missing += missing,
+                (0, surplus) => counts.surplus += surplus,
+                _ => counts.changed += 1,
+            }
         }
+        counts
     }
 
     pub fn in_words(&self) -> String {
@@ -32,14 +36,20 @@ impl Counts {
     }
 }
 
-/// Answers and packets counted, in words.
-fn counted_items<'a>(items: impl Iterator<Item = &'a Item> + Clone) -> String {
-    let answers = items.clone().filter(|item| matches!(item, Item::Answer(_))).count();
-    let lines = items.clone().filter(|item| matches!(item, Item::Other(_))).count();
-    let packets = items.count() - answers - lines;
-    let counts = [(answers, "answer", "answers"), (packets, "packet", "packets"), (lines, "line", "lines")];
-    let counts = counts.into_iter().filter(|(count, ..)| *count > 0);
-    counts.map(|(count, one, many)| counted(count, one, many)).collect::<Vec<_>>().join(" and ")
+/// Answers, packets, refused bytes and other lines counted, in words.
+fn counted_items<'a>(items: impl Iterator<Item = &'a Item>) -> String {
+    let mut counts = [0; 4];
+    for item in items {
+        counts[match item {
+            Item::Answer(_) => 0,
+            Item::Bytes(bytes) if read(bytes).accepted => 1,
+            Item::Bytes(_) => 2,
+            Item::Other(_) => 3,
+        }] += 1;
+    }
+    let names = [("answer", "answers"), ("packet", "packets"), ("refused piece", "refused pieces"), ("line", "lines")];
+    let counts = counts.into_iter().zip(names).filter(|(count, _)| *count > 0);
+    counts.map(|(count, (one, many))| counted(count, one, many)).collect::<Vec<_>>().join(" and ")
 }
 
 fn item_in_words(item: &Item) -> String {
@@ -73,7 +83,21 @@ fn field_in_words(field: &Field, at: usize, must: &[u8], found: &[u8]) -> String
     heading + &line("must be", must) + &line("is", found)
 }
 
-/// A packet and other bytes in its place.
+/// Other bytes in the place of a packet, and not as many.
+fn other_size(must: &[u8], found: &[u8]) -> String {
+    let ahead = alike(must.iter(), found.iter());
+    let behind = alike(must[ahead..].iter().rev(), found[ahead..].iter().rev());
+    let line = |what: &str, bytes: &[u8]| {
+        let between = &bytes[ahead..bytes.len() - behind];
+        let hex = if between.is_empty() { "nothing".into() } else { hex_of_front(between) };
+        format!("      {what:<9}{hex}\n")
+    };
+    let sizes = format!("{} must be here, {} are", counted(must.len(), "byte", "bytes"), found.len());
+    let heading = format!("    {sizes}; the first {ahead} and the last {behind} as they must be, and between\n");
+    heading + &line("must be", must) + &line("is", found)
+}
+
+/// Other bytes in the place of a packet.
 fn changed_bytes(at: usize, must: &[u8], found: &[u8]) -> String {
     let mut text = String::new();
     if must.len() == found.len() {
@@ -81,13 +105,7 @@ fn changed_bytes(at: usize, must: &[u8], found: &[u8]) -> String {
         let differing = known.filter(|field| field.value(must) != field.value(found));
         differing.for_each(|field| text += &field_in_words(field, at, must, found));
     } else {
-        let alike = must.iter().zip(found).take_while(|(must, found)| must == found).count();
-        text += &format!("    {} as they must be, then\n", counted(alike, "byte is", "bytes are"));
-        text += &format!(
-            "      must be  {}\n      is       {}\n",
-            hex_of_front(&must[alike..]),
-            hex_of_front(&found[alike..])
-        );
+        text += &other_size(must, found);
     }
     if !read(found).accepted {
         text += &format!("    refused by {}\n", reason(found));

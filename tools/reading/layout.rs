@@ -11,7 +11,7 @@ pub struct Field {
     width: usize,
     /// Where it is some bits of a BITSET.
     bits: Option<Bits>,
-    highest: u32,
+    pub highest: u32,
     /// Its value in the proved reader's answer.
     pub read: Read,
     pub words: Words,

@@ -27,6 +27,27 @@ pub struct Entry {
     pub item: Item,
 }
 
+impl Item {
+    /// None of a line that is no packet.
+    pub fn bytes(&self) -> &[u8] {
+        match self {
+            Item::Bytes(bytes) => bytes,
+            _ => &[],
+        }
+    }
+
+    pub fn is_refused(&self) -> bool {
+        matches!(self, Item::Bytes(bytes) if !read(bytes).accepted)
+    }
+}
+
+impl Entry {
+    /// The bytes of packets up to its end.
+    pub fn end(&self) -> usize {
+        self.at + self.item.bytes().len()
+    }
+}
+
 /// The bytes of the packet in front, and of all that is left where no packet has the number or it is cut short.
 pub fn front_size(bytes: &[u8]) -> usize {
     let size = bytes.first().and_then(|&number| size_of(number));
@@ -57,13 +78,13 @@ pub fn pieces(bytes: &[u8]) -> Vec<&[u8]> {
 }
 
 /// A recorder's bytes.
-pub fn entries_of_bytes(bytes: &[u8]) -> Vec<Entry> {
-    let mut at = 0;
-    let entry = |piece: &[u8]| {
-        at += piece.len();
-        Entry { at: at - piece.len(), line: None, item: Item::Bytes(piece.to_vec()) }
-    };
-    pieces(bytes).into_iter().map(entry).collect()
+fn entries_of_bytes(bytes: &[u8]) -> Vec<Entry> {
+    let mut entries: Vec<Entry> = Vec::new();
+    for piece in pieces(bytes) {
+        let at = entries.last().map_or(0, Entry::end);
+        entries.push(Entry { at, line: None, item: Item::Bytes(piece.to_vec()) });
+    }
+    entries
 }
 
 pub fn answer_line(answer: Answered) -> String {
@@ -100,14 +121,11 @@ fn read_line(text: &str) -> Item {
 }
 
 /// The player's lines, or any text with a packet in hexadecimal a line. Empty lines do not count.
-pub fn entries_of_text(text: &str) -> Vec<Entry> {
-    let mut entries = Vec::new();
-    let mut at = 0;
+fn entries_of_text(text: &str) -> Vec<Entry> {
+    let mut entries: Vec<Entry> = Vec::new();
     for (k, line) in text.lines().enumerate().filter(|(_, line)| !line.trim().is_empty()) {
-        let item = read_line(line.trim_end());
-        let size = if let Item::Bytes(bytes) = &item { bytes.len() } else { 0 };
-        entries.push(Entry { at, line: Some(k + 1), item });
-        at += size;
+        let at = entries.last().map_or(0, Entry::end);
+        entries.push(Entry { at, line: Some(k + 1), item: read_line(line.trim_end()) });
     }
     entries
 }

@@ -4,7 +4,7 @@
 use crate::layout::{fields, out_of_range, Field};
 use crate::recording::{answer_line, hex_of_front, reason, Answered, Entry, Item};
 use crate::words::{self, counted};
-use model::words::hex;
+use model::words::{hex, ALIGNMENTS};
 use proved::hollwern::{read, PacketFields};
 use std::collections::BTreeMap;
 
@@ -12,6 +12,8 @@ use std::collections::BTreeMap;
 pub struct Report {
     /// One line a packet.
     brief: bool,
+    /// The place of the last entry.
+    last: Option<(usize, Option<usize>)>,
     /// The bytes of packets so far, read or refused.
     bytes: usize,
     bytes_read: usize,
@@ -54,12 +56,12 @@ pub fn content_in_words(p: &PacketFields) -> String {
     match p.kind {
         62 => {
             let end = if p.q_eoj_reached == 0 { "EoJ reached" } else { "EoJ not reached" };
-            let [status, alignment] = [words::status(p.status.into()), words::alignment(p.alignment.into())];
+            let (status, alignment) = (words::status(p.status.into()), ALIGNMENTS[usize::from(p.alignment)]);
             format!("NID_C {} NID_TP {}: {status}; {end}; {alignment}; data {:02X}", p.nidc, p.nidtp, p.stopping)
         }
         65 => {
             let stamp = format!("{}, seconds {}, counter {}", words::date(p.date.into()), p.seconds, p.counter);
-            format!("NID_C {} NID_ATOTS {}: Journey Profile of {stamp}", p.nidc, p.atots)
+            format!("NID_C {} NID_ATOTS {}: JP of {stamp}", p.nidc, p.atots)
         }
         _ => format!("{}; {}", words::state(p.state.into()), words::conditions(p.conditions.into())),
     }
@@ -88,25 +90,39 @@ fn packet_in_words(entry: &Entry, p: &PacketFields) -> String {
     text + "\n"
 }
 
-fn refusal_in_words(entry: &Entry, bytes: &[u8]) -> String {
+/// What is wrong with a value.
+fn range_in_words(field: &Field, bytes: &[u8]) -> String {
+    match (field.highest_in(bytes), field.highest) {
+        (0, 0) => format!("must be 0, {}", field.group()),
+        (0, _) => "must be 0 unless Q_TP_STATUS is 1".into(),
+        (highest, _) => format!("out of range 0 to {highest}, {}", field.group()),
+    }
+}
+
+fn refusal_in_words(entry: &Entry, bytes: &[u8], is_last: bool) -> String {
+    let mut text = format!("{}: refused by {}\n", place(entry), reason(bytes));
+    if !bytes.is_empty() {
+        text += &format!("  {}\n", hex_of_front(bytes));
+    }
     let number = read(bytes).number;
-    let mut text = format!("{}: refused by {}\n  {}\n", place(entry), reason(bytes), hex_of_front(bytes));
     if number == 19 {
         let wrong = out_of_range(bytes);
-        for field in &wrong {
-            let range = format!("out of range 0 to {}, {}", field.highest_in(bytes), field.group());
-            text += &row(field, entry.at, field.value(bytes), &range);
-        }
+        let rows = wrong.iter().map(|field| row(field, entry.at, field.value(bytes), &range_in_words(field, bytes)));
+        rows.for_each(|row| text += &row);
         if wrong.is_empty() {
-            text += "  the reader refuses it, though every field is in the range that we know\n";
+            text += "  the reader refuses it, though every field is in the range that is known here\n";
         }
     }
-    let end = entry.at + bytes.len();
+    let next = match (entry.line, is_last) {
+        (_, true) => "nothing follows".to_string(),
+        (Some(_), _) => "goes on at the next line".to_string(),
+        _ => format!("goes on at byte {}", entry.at + bytes.len()),
+    };
+    let left = counted(bytes.len(), "byte", "bytes");
     text + &match (entry.line, number) {
-        (Some(_), _) => "  goes on at the next line\n\n".to_string(),
-        (None, 17) => format!("  {} left over\n\n", counted(bytes.len(), "byte is", "bytes are")),
-        (None, 19) => format!("  goes on at byte {end}, the packet's end\n\n"),
-        _ => format!("  {} skipped; goes on at byte {end}\n\n", counted(bytes.len(), "byte", "bytes")),
+        (None, 17) => format!("  {left} left over\n\n"),
+        (None, 18) => format!("  {left} skipped; {next}\n\n"),
+        _ => format!("  {next}\n\n"),
     }
 }
 
@@ -123,8 +139,9 @@ pub fn answer_in_words(answer: Answered) -> String {
 }
 
 impl Report {
-    pub fn new(brief: bool) -> Report {
-        Report { brief, ..Report::default() }
+    pub fn new(entries: &[Entry], brief: bool) -> Report {
+        let last = entries.last().map(|entry| (entry.at, entry.line));
+        Report { brief, last, ..Report::default() }
     }
 
     /// One entry in words.
@@ -141,6 +158,7 @@ impl Report {
             }
             Item::Other(text) => {
                 self.wrong_lines += 1;
+                self.answered = None;
                 let text: String = text.chars().take(60).collect();
                 let line = entry.line.unwrap_or(0);
                 format!("line {line}: neither a packet in hexadecimal nor an answer of the player: '{text}'\n")
@@ -153,7 +171,7 @@ impl Report {
         self.bytes += bytes.len();
         if !packet.accepted {
             *self.refusals.entry(packet.number).or_default() += 1;
-            return refusal_in_words(entry, bytes);
+            return refusal_in_words(entry, bytes, self.last == Some((entry.at, entry.line)));
         }
         *self.packets.entry(packet.kind).or_default() += 1;
         self.bytes_read += bytes.len();
