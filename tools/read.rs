@@ -7,22 +7,9 @@ use reading::against::Run;
 use reading::differences::{self, Counts};
 use reading::recording::{entries, Entry};
 use reading::report::{Report, COLUMNS};
-use std::io::{BufWriter, Read, Write};
+use std::io::{BufWriter, ErrorKind, Read, Write};
 use std::process::ExitCode;
 use tools::language::Scenario;
-
-const HELP: &str = "\
-tools/read [--hex] [--brief] FILE
-    Reads a recording by the proved packet reader and tells it in words: each packet with its place, its fields by their
-    names in SUBSET-140, each refusal (17, 18, 19) with its reason and where the reading goes on, and totals.
-tools/read [--hex] --against CALLS FILE
-    Plays CALLS through the proved engine and says where the recording differs from what it must be, byte and field.
-FILE     bytes as a recorder holds them, packets one after the other; - is standard input
---hex    FILE is text: the player's lines, or a packet in hexadecimal a line; bytes are counted over the packets alone
---brief  one line a packet
-CALLS    the player's input or, where its name ends in .scn, a scenario
-Exit status: 0 all is read, or as it must be; 1 a refusal, a difference, or a file that cannot be read; 2 wrong use.
-";
 
 /// Differences are told up to this many.
 const MOST: usize = 20;
@@ -134,15 +121,14 @@ fn run(arguments: &Arguments) -> Result<bool, String> {
             })
         }
     };
-    let flushed = sound.and_then(|sound| out.flush().map(|()| sound));
-    flushed.map_err(|error| format!("standard output: {error}"))
+    match sound.and_then(|sound| out.flush().map(|()| sound)) {
+        // nobody reads on
+        Err(error) if error.kind() == ErrorKind::BrokenPipe => Ok(false),
+        flushed => flushed.map_err(|error| format!("standard output: {error}")),
+    }
 }
 
 fn main() -> ExitCode {
-    if std::env::args().skip(1).any(|word| word == "--help") {
-        print!("{HELP}");
-        return ExitCode::SUCCESS;
-    }
     let arguments = match read_arguments(std::env::args().skip(1)) {
         Ok(arguments) => arguments,
         Err(error) => {

@@ -1,9 +1,10 @@
-//! `recordings write SCENARIO LINES BYTES`: what the model records for a scenario, as the player's lines and as bytes.
+//! `recordings write SCENARIO FOLDER`: the scenario's calls as the player's input, and what the model records for them, as the
+//! player's lines and as bytes: files calls, lines and bytes.
 //! `recordings COUNT`: the recordings of so many random lists, from the model. Each is read whole and is as it must be; with a byte
 //! changed or lost, a packet lost and a packet twice, just that is found.
 
 use inputs::lists::new_list;
-use model::calls::{play, Call};
+use model::calls::{play, write_calls, Call};
 use model::packets::{split_packets, Packet};
 use model::words::bytes_of_hex;
 use reading::against::{Difference, Run};
@@ -105,20 +106,22 @@ fn try_list(seed: u64) -> Result<usize, String> {
     Ok(packets.len())
 }
 
-fn write(scenario: &str, lines: &str, bytes: &str) -> Result<(), String> {
-    let in_file = |file: &str, error: std::io::Error| format!("{file}: {error}");
-    let text = std::fs::read_to_string(scenario).map_err(|error| in_file(scenario, error))?;
+fn write(scenario: &str, folder: &str) -> Result<(), String> {
+    let text = std::fs::read_to_string(scenario).map_err(|error| format!("{scenario}: {error}"))?;
     let steps = Scenario::read(&text)?.steps;
     let calls: Vec<Call> = steps.into_iter().map(|step| step.call).collect();
-    let recorded = play(&calls);
-    std::fs::write(lines, &recorded).map_err(|error| in_file(lines, error))?;
-    std::fs::write(bytes, packets_in(&recorded).concat()).map_err(|error| in_file(bytes, error))
+    let lines = play(&calls);
+    let files = [("calls", write_calls(&calls)), ("bytes", packets_in(&lines).concat()), ("lines", lines.into_bytes())];
+    for (name, content) in files {
+        std::fs::write(format!("{folder}/{name}"), content).map_err(|error| format!("{folder}/{name}: {error}"))?;
+    }
+    Ok(())
 }
 
 fn run() -> Result<(), String> {
     let arguments: Vec<String> = std::env::args().skip(1).collect();
     match &arguments.iter().map(String::as_str).collect::<Vec<_>>()[..] {
-        ["write", scenario, lines, bytes] => write(scenario, lines, bytes),
+        ["write", scenario, folder] => write(scenario, folder),
         [count] => {
             let count: u64 = count.parse().map_err(|_| format!("'{count}' is no number"))?;
             let mut packets = 0;
@@ -128,7 +131,7 @@ fn run() -> Result<(), String> {
             println!("{count} random recordings of {packets} packets are read and compared, also damaged");
             Ok(())
         }
-        _ => Err("recordings COUNT, or recordings write SCENARIO LINES BYTES".into()),
+        _ => Err("recordings COUNT, or recordings write SCENARIO FOLDER".into()),
     }
 }
 

@@ -92,9 +92,12 @@ fn other_size(must: &[u8], found: &[u8]) -> String {
         let hex = if between.is_empty() { "nothing".into() } else { hex_of_front(between) };
         format!("      {what:<9}{hex}\n")
     };
-    let sizes = format!("{} must be here, {} are", counted(must.len(), "byte", "bytes"), found.len());
-    let heading = format!("    {sizes}; the first {ahead} and the last {behind} as they must be, and between\n");
-    heading + &line("must be", must) + &line("is", found)
+    let same = |which: &str, count: usize| match count {
+        0 => String::new(),
+        count => format!("      the {which} {count} as they must be\n"),
+    };
+    let sizes = format!("    {} must be here, {} are\n", counted(must.len(), "byte", "bytes"), found.len());
+    sizes + &same("first", ahead) + &line("must be", must) + &line("is", found) + &same("last", behind)
 }
 
 /// Other bytes in the place of a packet.

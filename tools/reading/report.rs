@@ -113,15 +113,22 @@ fn refusal_in_words(entry: &Entry, bytes: &[u8], is_last: bool) -> String {
             text += "  the reader refuses it, though every field is in the range that is known here\n";
         }
     }
+    text + &next_in_words(entry, number, is_last)
+}
+
+/// Where the reading goes on behind a refusal.
+fn next_in_words(entry: &Entry, number: u8, is_last: bool) -> String {
+    let bytes = counted(entry.item.bytes().len(), "byte", "bytes");
     let next = match (entry.line, is_last) {
         (_, true) => "nothing follows".to_string(),
         (Some(_), _) => "goes on at the next line".to_string(),
-        _ => format!("goes on at byte {}", entry.at + bytes.len()),
+        _ => format!("goes on at byte {}", entry.end()),
     };
-    let left = counted(bytes.len(), "byte", "bytes");
-    text + &match (entry.line, number) {
-        (None, 17) => format!("  {left} left over\n\n"),
-        (None, 18) => format!("  {left} skipped; {next}\n\n"),
+    match (entry.line, number) {
+        (None, 17) if entry.item.bytes().is_empty() => "\n".into(),
+        (None, 17) => format!("  {bytes} left over\n\n"),
+        (None, 18) => format!("  {bytes} skipped; {next}\n\n"),
+        (None, 19) if !is_last => format!("  {next}, the packet's end\n\n"),
         _ => format!("  {next}\n\n"),
     }
 }
