@@ -1,12 +1,13 @@
-//! `read [--hex] [--brief] FILE`: a recording in words. `read [--hex] --against CALLS FILE`: a recording beside what the proved
-//! engine writes for the calls.
+//! `read [--hex] [--brief] FILE`: a recording in words.
+//! `read [--hex] --against CALLS FILE`: a recording beside what the proved engine writes for the calls.
 
 use model::calls::{read_calls, write_calls, Call};
 use model::words::call_in_words;
-use reading::against::Run;
+use reading::against::{has_answers, Run};
 use reading::differences::{self, Counts};
 use reading::recording::{entries, Entry};
 use reading::report::{Report, COLUMNS};
+use reading::words::counted;
 use std::io::{BufWriter, ErrorKind, Read, Write};
 use std::process::ExitCode;
 use tools::language::Scenario;
@@ -71,8 +72,8 @@ fn read_played(name: &str) -> Result<(Vec<(String, Call)>, Option<String>), Stri
     if calls.is_empty() && left > 0 {
         return Err(format!("{name}: no call in it; a scenario is taken where the name ends in .scn"));
     }
-    let cut =
-        (left > 0).then(|| format!("{name}: cut short: its last {left} bytes are no whole call and are not played"));
+    let left_over = counted(left, "byte", "bytes");
+    let cut = (left > 0).then(|| format!("{name}: cut short: {left_over} at its end, no whole call, not played"));
     Ok((calls.into_iter().map(|call| (call_in_words(&call)[0].clone(), call)).collect(), cut))
 }
 
@@ -98,9 +99,12 @@ fn compare(run: &Run, cut: bool, entries: &[Entry], out: &mut impl Write) -> std
     if differences.len() > MOST {
         writeln!(out, "and {} more\n", differences.len() - MOST)?;
     }
-    match differences.is_empty() {
-        true => writeln!(out, "as it must be{}: {}", if cut { " so far" } else { "" }, run.in_words())?,
-        false => writeln!(out, "differs: {}\nmust be: {}", Counts::of(&differences).in_words(), run.in_words())?,
+    let so_far = if cut { " so far" } else { "" };
+    let answers = if has_answers(entries) { ", and each answer" } else { "" };
+    if differences.is_empty() {
+        writeln!(out, "as it must be{so_far}: {}{answers}", run.in_words())?;
+    } else {
+        writeln!(out, "differs: {}\nmust be: {}", Counts::of(&differences).in_words(), run.in_words())?;
     }
     Ok(differences.is_empty())
 }
@@ -129,7 +133,8 @@ fn run(arguments: &Arguments) -> Result<bool, String> {
 }
 
 fn main() -> ExitCode {
-    let arguments = match read_arguments(std::env::args().skip(1)) {
+    let words = std::env::args_os().skip(1).map(|word| word.to_string_lossy().into_owned());
+    let arguments = match read_arguments(words) {
         Ok(arguments) => arguments,
         Err(error) => {
             eprintln!("tools/read: {error}; tools/read --help says more");

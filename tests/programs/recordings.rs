@@ -1,7 +1,7 @@
-//! `recordings write SCENARIO FOLDER`: the scenario's calls as the player's input, and what the model records for them, as the
-//! player's lines and as bytes: files calls, lines and bytes.
-//! `recordings COUNT`: the recordings of so many random lists, from the model. Each is read whole and is as it must be; with a byte
-//! changed or lost, a packet lost and a packet twice, just that is found.
+//! `recordings write SCENARIO FOLDER`: the scenario's calls as the player's input, and what the model records for them,
+//! as the player's lines and as bytes: files calls, lines and bytes.
+//! `recordings COUNT`: the recordings of so many random lists, from the model. Each is read whole and is as it must be;
+//! with a byte changed or lost, a packet lost and a packet twice, just that is found.
 
 use inputs::lists::new_list;
 use model::calls::{play, write_calls, Call};

@@ -81,7 +81,7 @@ impl Run {
 
     /// Every difference of a recording, from its front. Answers count where the recording has some.
     pub fn differences(&self, found: &[Entry]) -> Vec<Difference<'_>> {
-        let answers = found.iter().any(|entry| is_answer(&entry.item));
+        let answers = has_answers(found);
         let musts: Vec<&Must> = self.musts.iter().filter(|must| answers || !is_answer(&must.item)).collect();
         let mut differences = Vec::new();
         for (lacking, others) in gaps(&musts, found, |must, entry| unlikeness(&must.item, &entry.item)) {
@@ -103,14 +103,20 @@ fn is_answer(item: &Item) -> bool {
     matches!(item, Item::Answer(_))
 }
 
+/// Whether a recording is the player's lines.
+pub fn has_answers(found: &[Entry]) -> bool {
+    found.iter().any(|entry| is_answer(&entry.item))
+}
+
 /// How many elements are equal from the front.
 pub fn alike<'a>(a: impl Iterator<Item = &'a u8>, b: impl Iterator<Item = &'a u8>) -> usize {
     a.zip(b).take_while(|(a, b)| a == b).count()
 }
 
-/// The bytes found, cut where the packets end that must be there, none for a packet that has no byte left: a damaged number,
-/// and bytes lost or put in, make the reader cut elsewhere. `None` where nothing is damaged, and where the bytes are neither as
-/// many as they must be nor differ by one run that is lost or put in. A line of a text stands for itself.
+/// The bytes found, cut where the packets end that must be there, none for a packet that has no byte left: a damaged
+/// number, and bytes lost or put in, make the reader cut elsewhere. `None` where nothing is damaged, where the bytes are
+/// neither as many as they must be nor differ by one run that is lost or put in, and of a text, where each line stands
+/// for itself.
 fn cut_alike(musts: &[&Must], found: &[Entry]) -> Option<Vec<Option<Entry>>> {
     let must: Vec<u8> = musts.iter().flat_map(|must| must.item.bytes()).copied().collect();
     let is: Vec<u8> = found.iter().flat_map(|entry| entry.item.bytes()).copied().collect();
@@ -155,8 +161,8 @@ fn paired<'a>(musts: &[&'a Must], found: &[Entry]) -> Vec<(Option<&'a Must>, Opt
     pairs.into_iter().map(|(i, j)| (i.map(|i| musts[i]), j.map(|j| found[j].clone()))).collect()
 }
 
-/// The differences of a gap, which begins at a byte and behind a call's packets. Those that are missing or too many one after the
-/// other are one.
+/// The differences of a gap, which begins at a byte and behind a call's packets. Those that are missing or too many one
+/// after the other are one.
 fn in_gap<'a>(musts: &[&'a Must], found: &[Entry], mut at: usize, mut behind: Option<usize>) -> Vec<Difference<'a>> {
     let mut differences: Vec<Difference> = Vec::new();
     let mut alone = None;

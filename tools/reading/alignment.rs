@@ -1,5 +1,5 @@
-//! Two sequences beside each other: where they differ, and what stands for what there, at the least cost. The cost of a pair is 0 where
-//! both are equal, and none where the one cannot stand for the other.
+//! Two sequences beside each other: where they differ, and what stands for what there, at the least cost. The cost of a
+//! pair is 0 where both are equal, and none where the one cannot stand for the other.
 
 use std::ops::Range;
 

@@ -2,9 +2,10 @@
 
 use crate::against::{alike, Difference, Must, Run};
 use crate::layout::{fields, Field};
-use crate::recording::{answer_line, hex_of_front, reason, Answered, Entry, Item};
-use crate::report::{answer_in_words, bytes_in_brief};
+use crate::recording::{answer_line, Entry, Item};
+use crate::report::{answer_in_words, bytes_in_brief, hex_of_front, reason};
 use crate::words::{counted, packet_name};
+use model::words::hex;
 use proved::hollwern::read;
 
 /// Of several that are missing or too many, so many are told.
@@ -116,11 +117,6 @@ fn changed_bytes(at: usize, must: &[u8], found: &[u8]) -> String {
     text
 }
 
-fn changed_answer(must: Answered, found: Answered) -> String {
-    let line = |what: &str, answer: Answered| format!("      {what:<9}{}\n", item_in_words(&Item::Answer(answer)));
-    line("must be", must) + &line("is", found)
-}
-
 fn changed(run: &Run, must: &Must, found: &Entry) -> String {
     let heading = format!("  {}, {}", call_in_words(run, must.call), part_in_words(run, must));
     match (&must.item, &found.item) {
@@ -128,20 +124,19 @@ fn changed(run: &Run, must: &Must, found: &Entry) -> String {
             let packet = format!("{} {}", must[0], packet_name(must[0].into()));
             format!("{heading}, {packet}, differs\n{}", changed_bytes(found.at, must, bytes))
         }
-        (Item::Answer(must), Item::Answer(found)) => format!("{heading} differs\n{}", changed_answer(*must, *found)),
         (must, found) => {
-            let [must, found] =
-                [item_in_words(must), item_in_words(found)].map(|words| words.replace('\n', "\n           "));
-            format!("{heading} differs\n      must be  {must}\n      is       {found}\n")
+            let must = if let Item::Bytes(bytes) = must { hex(bytes) } else { item_in_words(must) };
+            format!("{heading} differs\n      must be  {must}\n      is       {}\n", item_in_words(found))
         }
     }
 }
 
 fn missing(run: &Run, difference: &Difference) -> String {
     let what = counted_items(difference.musts.iter().map(|must| &must.item));
+    let verb = if difference.musts.len() == 1 { "is" } else { "are" };
     let mut text = format!(
-        "  {} missing\n",
-        if difference.musts.len() == 1 { format!("{what} is") } else { format!("{what} are") }
+        "  {what} {verb} missing
+"
     );
     for must in difference.musts.iter().take(MOST) {
         let part = format!("{}, {}", call_in_words(run, must.call), part_in_words(run, must));

@@ -1,5 +1,5 @@
-//! Packets 62, 65 and 68 field by field, as SUBSET-140 lays them out (Tables 3, 5, 8, 11): the name of each, its bytes and
-//! bits, its range in document 01, where the proved reader's answer has it, and its value in words.
+//! Packets 62, 65 and 68 field by field, as SUBSET-140 lays them out (Tables 3, 5, 8, 11): the name of each, its bytes
+//! and bits, its range in document 01, where the proved reader's answer has it, and its value in words.
 
 use crate::words;
 use proved::hollwern::PacketFields;

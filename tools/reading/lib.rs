@@ -1,5 +1,5 @@
-//! Recordings: read packet by packet through the proved reader and told in words, and compared with what the proved engine
-//! writes for a list of calls.
+//! Recordings: read packet by packet through the proved reader and told in words, and compared with what the proved
+//! engine writes for a list of calls.
 
 pub mod against;
 mod alignment;

@@ -1,9 +1,8 @@
 //! A recording: bytes as a recorder holds them, cut into packets and what lies between, or text with a line a packet.
 
 use crate::layout::size_of;
-use crate::words::{counted, packet_name};
 use model::engine::Answer;
-use model::words::{bytes_of_hex, hex, STATES};
+use model::words::{bytes_of_hex, STATES};
 use proved::hollwern::{read, PacketFields};
 
 /// What the player answers a call.
@@ -63,8 +62,8 @@ fn skipped(bytes: &[u8]) -> usize {
     (1..bytes.len()).find(|&k| read_front(&bytes[k..]).accepted).unwrap_or(bytes.len())
 }
 
-/// Bytes cut into pieces: packets, also those that are refused by 19; from a number that no packet has to the next whole
-/// packet; and, last, a packet cut short.
+/// Bytes cut into pieces: packets, also those that are refused by 19; from a number that no packet has to the next
+/// whole packet; and, last, a packet cut short.
 pub fn pieces(bytes: &[u8]) -> Vec<&[u8]> {
     let mut pieces = Vec::new();
     let mut left = bytes;
@@ -134,8 +133,8 @@ fn is_of_text(byte: u8) -> bool {
     byte.is_ascii_graphic() || byte.is_ascii_whitespace()
 }
 
-/// A recorder's bytes, or with `hex` a text; an error where it is plainly the other. No packet is text: NID_C, behind its
-/// number, begins with a byte of 3 at most.
+/// A recorder's bytes, or with `hex` a text; an error where it is plainly the other. No packet is text: NID_C, behind
+/// its number, begins with a byte of 3 at most.
 pub fn entries(file: &[u8], hex: bool) -> Result<Vec<Entry>, String> {
     let no_text = file.iter().position(|&byte| !is_of_text(byte));
     match (hex, no_text) {
@@ -145,32 +144,5 @@ pub fn entries(file: &[u8], hex: bool) -> Result<Vec<Entry>, String> {
             Err(format!("byte {at} is {:02X}: no text in hexadecimal; bytes are read without --hex", file[at]))
         }
         (true, None) => Ok(entries_of_text(&String::from_utf8_lossy(file))),
-    }
-}
-
-/// Why the reader refuses these bytes.
-pub fn reason(bytes: &[u8]) -> String {
-    let named = |number: u8| format!("{number} {}", packet_name(number.into()));
-    match (read(bytes).number, bytes.first()) {
-        (17, Some(&number)) => {
-            let size = size_of(number).unwrap_or(0);
-            let what = if bytes.len() < size { "cut short" } else { "too long" };
-            let there = counted(bytes.len(), "is", "are");
-            format!("17, {what}: packet {} has {size} bytes, {there} there", named(number))
-        }
-        (17, None) => "17, empty".into(),
-        (18, Some(&number)) => format!("18, another number than 62, 65, 68: {}", named(number)),
-        (19, Some(&number)) => format!("19, value out of range in packet {}", named(number)),
-        (number, _) => format!("{number}"),
-    }
-}
-
-/// The first bytes in hexadecimal.
-pub fn hex_of_front(bytes: &[u8]) -> String {
-    const MOST: usize = 40;
-    if bytes.len() <= MOST {
-        hex(bytes)
-    } else {
-        format!("{} ..", hex(&bytes[..MOST]))
     }
 }

@@ -1,8 +1,8 @@
-//! What a recording says: every packet with its fields by name and in words, every refusal with its reason and where the reading
-//! goes on, and totals.
+//! What a recording says: every packet with its fields by name and in words, every refusal with its reason and where
+//! the reading goes on, and totals.
 
-use crate::layout::{fields, out_of_range, Field};
-use crate::recording::{answer_line, hex_of_front, reason, Answered, Entry, Item};
+use crate::layout::{fields, out_of_range, size_of, Field};
+use crate::recording::{answer_line, Answered, Entry, Item};
 use crate::words::{self, counted};
 use model::words::{hex, ALIGNMENTS};
 use proved::hollwern::{read, PacketFields};
@@ -52,7 +52,7 @@ fn row(field: &Field, start: usize, value: u32, words: &str) -> String {
 }
 
 /// The content of a packet in one line.
-pub fn content_in_words(p: &PacketFields) -> String {
+fn content_in_words(p: &PacketFields) -> String {
     match p.kind {
         62 => {
             let end = if p.q_eoj_reached == 0 { "EoJ reached" } else { "EoJ not reached" };
@@ -88,6 +88,43 @@ fn packet_in_words(entry: &Entry, p: &PacketFields) -> String {
         }
     }
     text + "\n"
+}
+
+/// Why the reader refuses these bytes.
+pub fn reason(bytes: &[u8]) -> String {
+    let named = |number: u8| format!("{number} {}", words::packet_name(number.into()));
+    match (read(bytes).number, bytes.first()) {
+        (17, Some(&number)) => {
+            let size = size_of(number).unwrap_or(0);
+            let what = if bytes.len() < size { "cut short" } else { "too long" };
+            let there = counted(bytes.len(), "is", "are");
+            format!("17, {what}: packet {} has {size} bytes, {there} there", named(number))
+        }
+        (17, None) => "17, empty".into(),
+        (18, Some(&number)) => format!("18, another number than 62, 65, 68: {}", named(number)),
+        (19, Some(&number)) => format!("19, value out of range in packet {}", named(number)),
+        (number, _) => format!("{number}"),
+    }
+}
+
+/// The first bytes in hexadecimal.
+pub fn hex_of_front(bytes: &[u8]) -> String {
+    const MOST: usize = 40;
+    if bytes.len() <= MOST {
+        hex(bytes)
+    } else {
+        format!("{} ..", hex(&bytes[..MOST]))
+    }
+}
+
+/// A packet's number, name and content, or why it is refused, in one line; and its bytes.
+pub fn bytes_in_brief(bytes: &[u8]) -> String {
+    let packet = read(bytes);
+    if !packet.accepted {
+        return format!("refused by {}\n    {}", reason(bytes), hex_of_front(bytes));
+    }
+    let name = words::packet_name(packet.kind.into());
+    format!("{} {name}: {}\n    {}", packet.kind, content_in_words(&packet), hex(bytes))
 }
 
 /// What is wrong with a value.
@@ -229,14 +266,4 @@ impl Report {
     pub fn sound(&self) -> bool {
         self.refusals.is_empty() && self.wrong_lines == 0
     }
-}
-
-/// A packet's number, name and content, or why it is refused, in one line; and its bytes.
-pub fn bytes_in_brief(bytes: &[u8]) -> String {
-    let packet = read(bytes);
-    if !packet.accepted {
-        return format!("refused by {}\n    {}", reason(bytes), hex_of_front(bytes));
-    }
-    let name = words::packet_name(packet.kind.into());
-    format!("{} {name}: {}\n    {}", packet.kind, content_in_words(&packet), hex(bytes))
 }
