@@ -114,9 +114,9 @@ pub fn alike<'a>(a: impl Iterator<Item = &'a u8>, b: impl Iterator<Item = &'a u8
 }
 
 /// The bytes found, cut where the packets end that must be there, none for a packet that has no byte left: a damaged
-/// number, and bytes lost or put in, make the reader cut elsewhere. `None` where nothing is damaged, where the bytes are
-/// neither as many as they must be nor differ by one run that is lost or put in, and of a text, where each line stands
-/// for itself.
+/// number, and bytes lost or put in, make the reader cut elsewhere. `None` where nothing is damaged, where the bytes
+/// are neither as many as they must be nor differ by one run that is lost or put in, and of a text, where each line
+/// stands for itself.
 fn cut_alike(musts: &[&Must], found: &[Entry]) -> Option<Vec<Option<Entry>>> {
     let must: Vec<u8> = musts.iter().flat_map(|must| must.item.bytes()).copied().collect();
     let is: Vec<u8> = found.iter().flat_map(|entry| entry.item.bytes()).copied().collect();
