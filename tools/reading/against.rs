@@ -1,10 +1,11 @@
 //! A recording against the one that must be: the proved engine's, for a list of calls.
 
 use crate::alignment::{gaps, pairs};
-use crate::recording::{front_size, Answered, Entry, Item};
+use crate::recording::{Answered, Entry, Item};
 use crate::words::counted;
 use model::calls::{Call, MEMORY};
 use proved::engine::Proved;
+use proved::hollwern::packets;
 
 /// A call that was played.
 pub struct Played {
@@ -57,16 +58,13 @@ impl Run {
         run
     }
 
-    fn add(&mut self, event: String, answer: Answered, mut written: &[u8]) {
+    fn add(&mut self, event: String, answer: Answered, written: &[u8]) {
         let call = self.calls.len();
+        let answered = self.musts.len() + 1;
         self.musts.push(Must { call, packet: 0, item: Item::Answer(answer) });
-        let mut packets = 0;
-        while !written.is_empty() {
-            let (packet, rest) = written.split_at(front_size(written));
-            self.musts.push(Must { call, packet: packets, item: Item::Bytes(packet.to_vec()) });
-            (written, packets) = (rest, packets + 1);
-        }
-        self.calls.push(Played { event, answer, packets });
+        let packets = packets(written).enumerate();
+        self.musts.extend(packets.map(|(packet, bytes)| Must { call, packet, item: Item::Bytes(bytes.to_vec()) }));
+        self.calls.push(Played { event, answer, packets: self.musts.len() - answered });
     }
 
     /// What it took and wrote, in words.

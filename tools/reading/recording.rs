@@ -1,9 +1,8 @@
 //! A recording: bytes as a recorder holds them, cut into packets and what lies between, or text with a line a packet.
 
-use crate::layout::size_of;
 use model::engine::Answer;
 use model::words::{bytes_of_hex, STATES};
-use proved::hollwern::{read, PacketFields};
+use proved::hollwern::{front_size, read, PacketFields};
 
 /// What the player answers a call.
 pub type Answered = Result<Answer, u8>;
@@ -45,12 +44,6 @@ impl Entry {
     pub fn end(&self) -> usize {
         self.at + self.item.bytes().len()
     }
-}
-
-/// The bytes of the packet in front, and of all that is left where no packet has the number or it is cut short.
-pub fn front_size(bytes: &[u8]) -> usize {
-    let size = bytes.first().and_then(|&number| size_of(number));
-    size.map_or(bytes.len(), |size| size.min(bytes.len()))
 }
 
 fn read_front(bytes: &[u8]) -> PacketFields {
