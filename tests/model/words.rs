@@ -17,6 +17,17 @@ pub const STATE_NAMES: [&str; 8] = [
     "disengaging",
     "failure",
 ];
+/// What the driver may do in each state, and what the unit waits for.
+pub const DRIVER: [&str; 8] = [
+    "the driver drives; the unit is off",
+    "the driver drives; the unit waits to be configured",
+    "the driver drives; the unit waits for the conditions that are lacking",
+    "the driver drives; for ready the unit waits for train conditions, the lever at neutral and ETCS out of AD",
+    "the driver drives, and may press engage",
+    "the unit drives; the driver may take over by the lever at brake or by leaving AD",
+    "conditions were lost; the driver takes over by the lever at brake or by leaving AD",
+    "the driver drives; only power off is left to the unit",
+];
 pub const MODES: [&str; 2] = ["other", "AD"];
 pub const LEVERS: [&str; 3] = ["neutral", "traction", "brake"];
 pub const ALIGNMENTS: [&str; 3] = ["front", "middle", "rear"];
@@ -46,6 +57,20 @@ pub const CONDITIONS: [&str; 9] = [
 
 pub fn hex(bytes: &[u8]) -> String {
     bytes.iter().map(|byte| format!("{byte:02X}")).collect()
+}
+
+/// The place of checking, of the table of numbers, so far as event calls answer it.
+pub fn place_of_number(number: u8) -> &'static str {
+    match number {
+        1 | 2 => "event",
+        3..=5 => "power",
+        6 => "state",
+        7 | 8 => "book",
+        9..=12 => "journey",
+        13 => "position",
+        14 | 15 => "skip",
+        _ => "output",
+    }
 }
 
 /// A number with its thousands apart.
