@@ -56,7 +56,7 @@ impl Fields<'_> {
         if low <= value && value <= high {
             Ok(value)
         } else {
-            Err(format!("{what} is {}, not {}", spelled(value), range(low, high)))
+            Err(format!("{what} is {}; it must be {}", spelled(value), range(low, high)))
         }
     }
 
@@ -103,7 +103,7 @@ fn read_event(bytes: &[u8]) -> Result<Event, Refused> {
         _ => return Err((1, format!("no kind of event has the number {kind}"))),
     };
     if bytes.len() != size {
-        return Err((1, format!("an event of kind {kind} is {size} bytes long, this one {}", bytes.len())));
+        return Err((1, format!("its length is {}; of kind {kind} it must be {size}", bytes.len())));
     }
     read_fields(kind, Fields(Numbers(fields))).map_err(|reason| (2, reason))
 }
@@ -232,6 +232,9 @@ fn twice_in_book(records: &[Record], names: &dyn Names) -> Result<(), String> {
 }
 
 fn read_journey(bytes: &[u8], names: &dyn Names) -> Result<(), String> {
+    if bytes.is_empty() {
+        return Err("the journey is empty".into());
+    }
     let mut from = Fields(Numbers(bytes));
     let map = from.map(0b1_1010, 0b1_1111)?;
     if map & 1 != 0 {
@@ -344,7 +347,7 @@ impl Booked<'_> {
             if from >= to {
                 let (before, after) = (self.names.point(k - 1), self.names.point(k));
                 let (from, to) = (grouped(from), grouped(to));
-                return Err(format!("from the journey's start {before} is at {from}, {after} at {to}: not behind it"));
+                return Err(format!("{after}, {to} from the journey's start, is not behind {before}, at {from}"));
             }
         }
         Ok(())
