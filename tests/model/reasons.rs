@@ -1,5 +1,5 @@
-//! Why a call is refused, in words: for each number 1 to 15 which of its row's reasons it was. The layouts are read once
-//! more, field by field, so that the field can be named; `checked` compares the number with the one answered.
+//! Why a call is refused, in words: for each number 1 to 15 which of its row's reasons it was. The layouts are read
+//! once more, field by field, so that the field can be named; `checked` compares the number with the one answered.
 
 use crate::calls::Call;
 use crate::engine::{Engine, Standing, CO, FA, NP, RE};

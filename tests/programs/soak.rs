@@ -1,7 +1,8 @@
 //! `soak STATE COUNT PROGRAM`: guided random lists against the model, through the C interface, until so many calls have
 //! agreed. The packets that each call wrote are read by both readers, also cut, longer and changed.
-//! STATE holds what has agreed so far: lists, calls, packets read and refused; the next run goes on from there. PROGRAM is
-//! a digest of this very program, with the library, the model and the lists in it: what another one did counts for nothing.
+//! STATE holds what has agreed so far: lists, calls, packets read and refused; the next run goes on from there. PROGRAM
+//! is a digest of this very program, with the library, the model and the lists in it: what another one did counts for
+//! nothing.
 
 use inputs::lists::new_list;
 use model::calls::Call;
@@ -126,7 +127,7 @@ fn run(state: &State, count: u64) -> Result<(), String> {
     }
     println!("now: {lists} lists, {calls} calls: the proved engine and the model agree");
     let [read, short, unknown, beyond] = [0, 1, 2, 3].map(|k| done.readings[k] - before.readings[k]);
-    println!("now: {read} strings of bytes read as packets alike, {short} refused by 17, {unknown} by 18, {beyond} by 19");
+    println!("now: {read} strings of bytes read as packets alike; refused by 17 {short}, by 18 {unknown}, by 19 {beyond}");
     Ok(())
 }
 

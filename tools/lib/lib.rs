@@ -1,5 +1,5 @@
-//! What the tools share: the scenario language, the player and its lines, a scenario told in words, and what is recorded
-//! over many orders of events.
+//! What the tools share: the scenario language, the player and its lines, a scenario told in words, and what is
+//! recorded over many orders of events.
 
 mod answers;
 pub mod language;

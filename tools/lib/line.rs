@@ -83,14 +83,13 @@ impl<'a> Words<'a> {
 
     /// A number that the field's bytes can hold, whether or not it is in the field's range.
     pub fn number<T: TryFrom<u64>>(&mut self, what: &str) -> Result<T, String> {
-        let word = self.next(&format!("the number of {what}"))?;
+        let word = self.next(&format!("a number for {what}"))?;
         if word.is_empty() || !word.bytes().all(|byte| byte.is_ascii_digit()) {
             return Err(self.wrong(format!("{what}: '{word}' is not a whole number in plain digits")));
         }
         let value = word.parse::<u64>().ok().and_then(|value| T::try_from(value).ok());
-        let bytes = size_of::<T>();
-        let most = grouped((1 << (8 * bytes)) - 1);
-        value.ok_or_else(|| format!("{what}: {word} does not fit; its {bytes} bytes hold at most {most}"))
+        let most = grouped((1 << (8 * size_of::<T>())) - 1);
+        value.ok_or_else(|| format!("{what}: {word} is more than the bytes of that field hold, {most}"))
     }
 
     /// A keyword with its number.

@@ -1,5 +1,5 @@
-//! A scenario told in words from the player's lines. The independent model makes the same calls beside it: it knows where
-//! each point stands and why a call is refused, and every answer must be its own too.
+//! A scenario told in words from the player's lines. The independent model makes the same calls beside it: it knows
+//! where each point stands and why a call is refused, and every answer must be its own too.
 
 use crate::answers::{read_answers, Answered};
 use crate::language::{Scenario, Step};
@@ -48,7 +48,8 @@ impl<'a> Story<'a> {
             return Err(format!("the player's lines end after {} of {} events", answers.len(), steps.len()));
         }
         let (accepted, refused) = (self.accepted, self.refused);
-        self.text += &format!("\n{accepted} events accepted, {refused} refused; the independent model answers the same\n");
+        self.text += &format!("\n{accepted} events accepted, {refused} refused; ");
+        self.text += "the independent model answers the same\n";
         Ok(())
     }
 
