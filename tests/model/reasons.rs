@@ -51,13 +51,17 @@ struct Fields<'a>(Numbers<'a>);
 
 impl Fields<'_> {
     fn number(&mut self, what: &str, width: usize, low: u32, high: u32) -> Result<u32, String> {
-        let bytes = self.0.take(width).ok_or(format!("the bytes end within {what}"))?;
+        let bytes = self.0.take(width).ok_or(format!("the bytes end before the end of {what}"))?;
         let value = bytes.iter().fold(0, |value, &byte| value << 8 | u32::from(byte));
         if low <= value && value <= high {
             Ok(value)
         } else {
             Err(format!("{what} is {}; it must be {}", spelled(value), range(low, high)))
         }
+    }
+
+    fn left(&self) -> usize {
+        self.0 .0.len()
     }
 
     /// Any value of so many bytes.
@@ -184,7 +188,7 @@ fn twice<T: PartialEq>(values: &[T]) -> Option<(usize, usize)> {
 fn read_records(bytes: &[u8], names: &dyn Names) -> Result<(), String> {
     let mut from = Fields(Numbers(bytes));
     let mut count = 0;
-    while !from.0.0.is_empty() {
+    while from.left() > 0 {
         read_record(&mut from).map_err(|reason| format!("{}: {reason}", names.record(count)))?;
         count += 1;
     }
@@ -204,10 +208,8 @@ fn read_record(from: &mut Fields) -> Result<(), String> {
     }
     let zones = if map & 16 != 0 { from.number("the count of zones", 1, 1, 4)? } else { 0 };
     for k in 1..=zones {
-        let start = from.free(&format!("the start of its zone {k}"), 4)?;
-        from.number(&format!("the end of its zone {k}"), 4, start, length).map_err(|reason| {
-            if start > length { format!("its zone {k} starts behind its length") } else { reason }
-        })?;
+        let start = from.number(&format!("the start of its zone {k}"), 4, 0, length)?;
+        from.number(&format!("the end of its zone {k}"), 4, start, length)?;
     }
     Ok(())
 }
@@ -253,7 +255,7 @@ fn read_journey(bytes: &[u8], names: &dyn Names) -> Result<(), String> {
     for k in 0..from.number("the count of points", 1, 1, 64)? as usize {
         read_journey_point(&mut from).map_err(|reason| format!("{}: {reason}", names.point(k)))?;
     }
-    match from.0.0.len() {
+    match from.left() {
         0 => Ok(()),
         1 => Err("a byte stands behind the last point".into()),
         more => Err(format!("{more} bytes stand behind the last point")),
@@ -294,7 +296,7 @@ impl Booked<'_> {
         let (points, segments) = (&self.journey.points, self.journey.segments.len());
         if let Some(k) = points.iter().position(|point| usize::from(point.segment) >= segments) {
             let (name, index) = (self.names.point(k), points[k].segment);
-            return Err(format!("{name} has the segment index {index}, and the journey's {segments} go from 0"));
+            return Err(format!("{name} has the segment index {index}; the segments are 0 to {}", segments - 1));
         }
         let nidtps: Vec<u32> = points.iter().map(|point| point.nidtp).collect();
         if let Some((a, b)) = twice(&nidtps) {

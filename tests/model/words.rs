@@ -7,16 +7,8 @@ use crate::values::{read_book, Journey, JourneyPoint, Record};
 
 pub const STATES: [&str; 8] = ["NP", "CO", "NA", "AV", "RE", "EG", "DE", "FA"];
 /// The states in words.
-pub const STATE_NAMES: [&str; 8] = [
-    "no power",
-    "configuration",
-    "not available",
-    "available",
-    "ready",
-    "engaged",
-    "disengaging",
-    "failure",
-];
+pub const STATE_NAMES: [&str; 8] =
+    ["no power", "configuration", "not available", "available", "ready", "engaged", "disengaging", "failure"];
 /// What the driver may do in each state, and what the unit waits for.
 pub const DRIVER: [&str; 8] = [
     "the driver drives; the unit is off",

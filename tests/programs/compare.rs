@@ -89,6 +89,10 @@ fn agrees(player: &str, lists: &[Vec<Call>], coverage: &mut Coverage) -> bool {
     if run_player(player, &joined).is_ok_and(|found| found == expected) {
         return true;
     }
+    if let Err(error) = run_player(player, &[]) {
+        println!("{error}");
+        return false;
+    }
     let wrong = |calls: &[Call]| !run_player(player, calls).is_ok_and(|found| found == play(calls));
     let alone = lists.iter().find(|list| wrong(list)).cloned();
     println!("the player differs from the model; the shortest list found that still does:");

@@ -127,7 +127,9 @@ fn run(state: &State, count: u64) -> Result<(), String> {
     }
     println!("now: {lists} lists, {calls} calls: the proved engine and the model agree");
     let [read, short, unknown, beyond] = [0, 1, 2, 3].map(|k| done.readings[k] - before.readings[k]);
-    println!("now: {read} strings of bytes read as packets alike; refused by 17 {short}, by 18 {unknown}, by 19 {beyond}");
+    println!(
+        "now: {read} strings of bytes read as packets alike; {short} refused by 17, {unknown} by 18, {beyond} by 19"
+    );
     Ok(())
 }
 

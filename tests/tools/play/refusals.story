@@ -77,7 +77,7 @@ line 150: load Day B8
     refused by 7 (book): record BackZone: the end of its zone 1 is 4; it must be 5 to 10
 
 line 151: load Day B9
-    refused by 7 (book): record LateZone: its zone 1 starts behind its length
+    refused by 7 (book): record LateZone: the start of its zone 1 is 11; it must be 0 to 10
 
 line 152: load Day B10
     refused by 7 (book): record FiveZones: the count of zones is 5; it must be 1 to 4
