@@ -1,7 +1,7 @@
 //! What the tools share: the scenario language, the player and its lines, a scenario told in words, and what is
 //! recorded over many orders of events.
 
-mod answers;
+pub mod answers;
 pub mod language;
 mod line;
 mod named;

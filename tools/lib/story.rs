@@ -3,7 +3,7 @@
 
 use crate::answers::{read_answers, Answered};
 use crate::language::{Scenario, Step};
-use model::calls::MEMORY;
+use model::calls::{write_lines, MEMORY};
 use model::engine::{Answer, Engine, Standing};
 use model::events::LOAD;
 use model::packets::{split_packets, Content, Packet};
@@ -60,7 +60,7 @@ impl<'a> Story<'a> {
         let answer = self.model.call(&step.call, &mut out);
         let packets = split_packets(&out[..answer.map_or(0, |answer| answer.bytes)]);
         if answered.answer != answer || answered.packets != packets {
-            return Err(difference(answered, answer, &packets));
+            return Err(difference(answered, answer, &out));
         }
         match answer {
             Err(number) => {
@@ -145,15 +145,13 @@ impl<'a> Story<'a> {
     }
 }
 
-fn difference(answered: &Answered, answer: Result<Answer, u8>, packets: &[&[u8]]) -> String {
-    let in_words = |answer: Result<Answer, u8>, packets: Vec<String>| match answer {
-        Err(number) => format!("R {number}"),
-        Ok(Answer { state, request, bytes }) => {
-            format!("A {state} {} {bytes} {}", u8::from(request), packets.join(" ")).trim_end().to_string()
-        }
+fn difference(answered: &Answered, answer: Result<Answer, u8>, out: &[u8]) -> String {
+    let in_a_line = |answer: Result<Answer, u8>, out: &[u8]| {
+        let mut lines = String::new();
+        write_lines(answer, out, &mut lines);
+        lines.trim_end().replace('\n', " ")
     };
-    let found = in_words(answered.answer, answered.packets.iter().map(|packet| hex(packet)).collect());
-    let expected = in_words(answer, packets.iter().map(|packet| hex(packet)).collect());
+    let (found, expected) = (in_a_line(answered.answer, &answered.packets.concat()), in_a_line(answer, out));
     format!("the player's line {} differs from the model\n  player {found}\n  model  {expected}", answered.line)
 }
 
