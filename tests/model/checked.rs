@@ -1,11 +1,12 @@
-//! The model with every check around each call: refusals change nothing, memory behind the packets is kept, too short
-//! memory is 16, the packets read back, the literal rules agree, and what was told since the load tells where each point
-//! stands.
+//! The model with every check around each call: refusals change nothing and have a reason, memory behind the packets is
+//! kept, too short memory is 16, the packets read back, the literal rules agree, and what was told since the load tells
+//! where each point stands.
 
 use crate::calls::{Call, MEMORY};
 use crate::engine::{Answer, Engine};
 use crate::events::read_event;
 use crate::packets::{split_packets, Content, Packet};
+use crate::reasons::{reason, ByPlace};
 use crate::rules::Rules;
 use crate::told::Told;
 
@@ -27,6 +28,10 @@ impl Checked {
         self.out = [self.calls as u8; MEMORY];
         let (before, memory) = (self.engine.clone(), self.out);
         let answer = self.engine.call(call, &mut self.out);
+        let reason = reason(&before, call, &ByPlace);
+        if reason.as_ref().map(|(number, _)| *number) != answer.err() {
+            return Err(format!("the answer is {answer:?}, the reason found {reason:?}"));
+        }
         match answer {
             Err(_) if self.engine != before || self.out != memory => return Err("a refusal changed something".into()),
             Err(_) => {}

@@ -7,6 +7,7 @@ pub mod engine;
 pub mod events;
 mod numbers;
 pub mod packets;
+pub mod reasons;
 pub mod route;
 mod rules;
 mod told;

@@ -7,15 +7,18 @@ use crate::values::{read_book, Journey, JourneyPoint, Record};
 
 pub const STATES: [&str; 8] = ["NP", "CO", "NA", "AV", "RE", "EG", "DE", "FA"];
 /// The states in words.
-pub const STATE_NAMES: [&str; 8] = [
-    "no power",
-    "configuration",
-    "not available",
-    "available",
-    "ready",
-    "engaged",
-    "disengaging",
-    "failure",
+pub const STATE_NAMES: [&str; 8] =
+    ["no power", "configuration", "not available", "available", "ready", "engaged", "disengaging", "failure"];
+/// What the driver may do in each state, and what the unit waits for.
+pub const DRIVER: [&str; 8] = [
+    "the driver drives; the unit is off",
+    "the driver drives; the unit waits to be configured",
+    "the driver drives; the unit waits for the conditions that are lacking",
+    "the driver drives; for ready the unit waits for train conditions, the lever at neutral and ETCS out of AD",
+    "the driver drives, and may press engage",
+    "the unit drives; the driver may take over by the lever at brake or by leaving AD",
+    "conditions were lost; the driver takes over by the lever at brake or by leaving AD",
+    "the driver drives; only power off is left to the unit",
 ];
 pub const MODES: [&str; 2] = ["other", "AD"];
 pub const LEVERS: [&str; 3] = ["neutral", "traction", "brake"];
@@ -46,6 +49,33 @@ pub const CONDITIONS: [&str; 9] = [
 
 pub fn hex(bytes: &[u8]) -> String {
     bytes.iter().map(|byte| format!("{byte:02X}")).collect()
+}
+
+/// The place of checking, of the table of numbers, so far as event calls answer it.
+pub fn place_of_number(number: u8) -> &'static str {
+    match number {
+        1 | 2 => "event",
+        3..=5 => "power",
+        6 => "state",
+        7 | 8 => "book",
+        9..=12 => "journey",
+        13 => "position",
+        14 | 15 => "skip",
+        _ => "output",
+    }
+}
+
+/// A number with its thousands apart.
+pub fn grouped(number: u64) -> String {
+    let digits = number.to_string();
+    let mut text = String::new();
+    for (k, digit) in digits.chars().enumerate() {
+        if k > 0 && (digits.len() - k) % 3 == 0 {
+            text.push(',');
+        }
+        text.push(digit);
+    }
+    text
 }
 
 /// The bytes that hexadecimal digits stand for; `None` for other text.

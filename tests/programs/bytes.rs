@@ -119,7 +119,10 @@ impl Two {
 }
 
 fn main() {
-    let count = std::env::args().nth(1).and_then(|text| text.parse().ok()).expect("bytes COUNT");
+    let Some(count) = std::env::args().nth(1).and_then(|text| text.parse().ok()) else {
+        eprintln!("usage: bytes COUNT");
+        std::process::exit(2);
+    };
     let engines = [Lent::new(), Lent::new()];
     let mut two = Two { engines, calls: 0, accepted: BTreeMap::new(), refused: BTreeMap::new() };
     if let Err(difference) = two.try_lists(count) {

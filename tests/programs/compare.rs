@@ -1,4 +1,4 @@
-//! `compare PLAYER [COUNT [SEED]]`: the model against a player program on so many guided random lists of calls, and the
+//! `compare PLAYER COUNT SEED`: the model against a player program on so many guided random lists of calls, and the
 //! model against the literal rules after every call. On a difference it prints the shortest list found that still differs.
 //! `compare PLAYER --input FILE` takes the calls of a file instead.
 
@@ -7,26 +7,10 @@ use inputs::lists::new_ended_list;
 use model::calls::{play, read_calls, write_calls, write_lines, Call};
 use model::checked::Checked;
 use model::words::{call_in_words, hex};
-use std::io::Write;
-use std::process::{Command, Stdio};
+use tools::player::run_player;
 
 /// Lists that one run of the player takes, each ended by power off.
 const BATCH: u64 = 200;
-
-fn run_player(player: &str, calls: &[Call]) -> String {
-    let start = Command::new(player).stdin(Stdio::piped()).stdout(Stdio::piped()).spawn();
-    let mut child = start.unwrap_or_else(|error| panic!("{player}: {error}"));
-    let mut input = child.stdin.take().unwrap();
-    let bytes = write_calls(calls);
-    let writer = std::thread::spawn(move || input.write_all(&bytes));
-    let output = child.wait_with_output().unwrap();
-    let _ = writer.join();
-    let mut text = String::from_utf8_lossy(&output.stdout).into_owned();
-    if !output.status.success() {
-        text += "the player failed\n";
-    }
-    text
-}
 
 /// What the model prints, with every check around each call.
 fn checked_lines(calls: &[Call], coverage: &mut Coverage) -> Result<String, String> {
@@ -72,7 +56,14 @@ fn print_list(calls: &[Call]) {
 
 fn print_difference(calls: &[Call], player: &str) {
     print_list(calls);
-    let (expected, found) = (play(calls), run_player(player, calls));
+    let expected = play(calls);
+    let found = match run_player(player, calls) {
+        Ok(found) => found,
+        Err(error) => {
+            println!("{error}");
+            return;
+        }
+    };
     let lines = expected.lines().count().max(found.lines().count());
     for k in 0..lines {
         let (left, right) = (expected.lines().nth(k), found.lines().nth(k));
@@ -95,10 +86,14 @@ fn agrees(player: &str, lists: &[Vec<Call>], coverage: &mut Coverage) -> bool {
             return false;
         }
     };
-    if run_player(player, &joined) == expected {
+    if run_player(player, &joined).is_ok_and(|found| found == expected) {
         return true;
     }
-    let wrong = |calls: &[Call]| run_player(player, calls) != play(calls);
+    if let Err(error) = run_player(player, &[]) {
+        println!("{error}");
+        return false;
+    }
+    let wrong = |calls: &[Call]| !run_player(player, calls).is_ok_and(|found| found == play(calls));
     let alone = lists.iter().find(|list| wrong(list)).cloned();
     println!("the player differs from the model; the shortest list found that still does:");
     print_difference(&shortest(alone.unwrap_or(joined), &wrong), player);
@@ -119,20 +114,34 @@ fn compare_random(player: &str, count: u64, seed: u64, coverage: &mut Coverage) 
     true
 }
 
+/// `None` for wrong use.
+fn compare(arguments: &[&str], coverage: &mut Coverage) -> Option<Result<bool, String>> {
+    Some(match *arguments {
+        [player, "--input", file] => {
+            coverage.lists = 1;
+            let input = std::fs::read(file).map_err(|error| format!("{file}: {error}"));
+            input.map(|input| agrees(player, &[read_calls(&input)], coverage))
+        }
+        [player, count, seed] => Ok(compare_random(player, count.parse().ok()?, seed.parse().ok()?, coverage)),
+        _ => return None,
+    })
+}
+
 fn main() {
-    let arguments: Vec<String> = std::env::args().collect();
-    let player = arguments.get(1).expect("compare PLAYER [COUNT [SEED]] or compare PLAYER --input FILE");
-    let number = |k: usize, otherwise| arguments.get(k).map_or(otherwise, |text| text.parse().expect("a number"));
+    let arguments: Vec<String> = std::env::args().skip(1).collect();
+    let arguments: Vec<&str> = arguments.iter().map(String::as_str).collect();
     let mut coverage = Coverage::default();
-    let agreed = if arguments.get(2).is_some_and(|text| text == "--input") {
-        let input = std::fs::read(&arguments[3]).expect("the file of calls");
-        coverage.lists = 1;
-        agrees(player, &[read_calls(&input)], &mut coverage)
-    } else {
-        compare_random(player, number(2, 1000), number(3, 1), &mut coverage)
-    };
-    if !agreed {
-        std::process::exit(1);
+    match compare(&arguments, &mut coverage) {
+        None => {
+            eprintln!("usage: compare PLAYER COUNT SEED, or compare PLAYER --input FILE");
+            std::process::exit(2);
+        }
+        Some(Err(error)) => {
+            eprintln!("{error}");
+            std::process::exit(1);
+        }
+        Some(Ok(false)) => std::process::exit(1),
+        Some(Ok(true)) => {}
     }
     println!("{} lists, {} calls: model, player and rules agree", coverage.lists, coverage.calls);
     coverage.print();

@@ -1,6 +1,8 @@
-//! `soak STATE COUNT`: guided random lists against the model, through the C interface, until so many calls have agreed. The packets
-//! that each call wrote are read by both readers, also cut, longer and changed.
-//! STATE holds what has agreed so far: lists, calls, packets read and refused; the next run goes on from there.
+//! `soak STATE COUNT PROGRAM`: guided random lists against the model, through the C interface, until so many calls have
+//! agreed. The packets that each call wrote are read by both readers, also cut, longer and changed.
+//! STATE holds what has agreed so far: lists, calls, packets read and refused; the next run goes on from there. PROGRAM
+//! is a digest of this very program, with the library, the model and the lists in it: what another one did counts for
+//! nothing.
 
 use inputs::lists::new_list;
 use model::calls::Call;
@@ -22,17 +24,40 @@ struct Done {
     readings: Readings,
 }
 
-fn read_state(file: &str) -> Done {
-    let text = std::fs::read_to_string(file).unwrap_or_default();
-    let mut numbers = text.split_whitespace().filter_map(|word| word.parse().ok());
-    let mut number = || numbers.next().unwrap_or(0);
-    Done { lists: number(), calls: number(), readings: [(); 4].map(|()| number()) }
+/// The file that holds what this program has done.
+struct State<'a> {
+    file: &'a str,
+    program: &'a str,
 }
 
-fn write_state(file: &str, done: Done) {
-    let [read, short, unknown, beyond] = done.readings;
-    let text = format!("{} lists {} calls {read} {short} {unknown} {beyond}\n", done.lists, done.calls);
-    std::fs::write(file, text).expect("the state file");
+impl State<'_> {
+    /// What was done before; nothing, and it says so, where another program did it.
+    fn read(&self) -> Result<Done, String> {
+        let text = match std::fs::read_to_string(self.file) {
+            Ok(text) => text,
+            Err(error) if error.kind() == std::io::ErrorKind::NotFound => return Ok(Done::default()),
+            Err(error) => return Err(format!("{}: {error}", self.file)),
+        };
+        let (program, numbers) = text.split_once('\n').unwrap_or((&text, ""));
+        if program != self.program {
+            println!("{} is of another program (library, model or lists): beginning anew", self.file);
+            return Ok(Done::default());
+        }
+        let numbers: Vec<u64> = numbers.split_whitespace().map_while(|word| word.parse().ok()).collect();
+        let &[lists, calls, read, short, unknown, beyond] = &numbers[..] else {
+            return Err(format!("{} is damaged; remove it to begin anew", self.file));
+        };
+        Ok(Done { lists, calls, readings: [read, short, unknown, beyond] })
+    }
+
+    /// Whole or not at all, wherever the run is stopped.
+    fn write(&self, done: Done) -> Result<(), String> {
+        let [read, short, unknown, beyond] = done.readings;
+        let numbers = format!("{} {} {read} {short} {unknown} {beyond}", done.lists, done.calls);
+        let new = format!("{}.new", self.file);
+        let written = std::fs::write(&new, format!("{}\n{numbers}\n", self.program));
+        written.and_then(|()| std::fs::rename(&new, self.file)).map_err(|error| format!("{}: {error}", self.file))
+    }
 }
 
 /// The vectors take just their bytes, so that a memory checker sees their ends.
@@ -73,29 +98,50 @@ fn try_list(mut done: Done, memory: &mut Memory) -> Result<Done, String> {
     Ok(done)
 }
 
-fn main() {
-    let arguments: Vec<String> = std::env::args().collect();
-    let [_, file, count] = &arguments[..] else { panic!("soak STATE COUNT") };
-    let count: u64 = count.parse().expect("a number of calls");
-    let mut done = read_state(file);
+/// Lists until so many calls have agreed, those before counted in.
+fn try_lists(state: &State, mut done: Done, count: u64) -> Result<Done, String> {
     let mut memory = Memory::new();
     let mut reported = done.calls;
     while done.calls < count {
-        match try_list(done, &mut memory) {
-            Ok(more) => done = more,
-            Err(difference) => {
-                println!("{difference}");
-                std::process::exit(1);
-            }
-        }
+        done = try_list(done, &mut memory)?;
         if done.calls >= reported + REPORT {
             reported = done.calls;
-            write_state(file, done);
+            state.write(done)?;
             println!("{} calls so far", done.calls);
         }
     }
-    write_state(file, done);
-    println!("{} lists, {} calls: the proved engine and the model agree", done.lists, done.calls);
-    let [read, short, unknown, beyond] = done.readings;
-    println!("{read} strings of bytes read as packets alike, {short} refused by 17, {unknown} by 18, {beyond} by 19");
+    state.write(done)?;
+    Ok(done)
+}
+
+fn run(state: &State, count: u64) -> Result<(), String> {
+    let before = state.read()?;
+    let done = try_lists(state, before, count)?;
+    let (lists, calls) = (done.lists - before.lists, done.calls - before.calls);
+    if before.calls > 0 {
+        println!("before: {} lists, {} calls, by earlier runs of this very program", before.lists, before.calls);
+    }
+    if calls == 0 {
+        println!("now: none; the count was reached before");
+        return Ok(());
+    }
+    println!("now: {lists} lists, {calls} calls: the proved engine and the model agree");
+    let [read, short, unknown, beyond] = [0, 1, 2, 3].map(|k| done.readings[k] - before.readings[k]);
+    println!(
+        "now: {read} strings of bytes read as packets alike; {short} refused by 17, {unknown} by 18, {beyond} by 19"
+    );
+    Ok(())
+}
+
+fn main() {
+    let arguments: Vec<String> = std::env::args().collect();
+    let count = arguments.get(2).and_then(|count| count.parse().ok());
+    let ([_, file, _, program], Some(count)) = (&arguments[..], count) else {
+        eprintln!("usage: soak STATE COUNT PROGRAM");
+        std::process::exit(2);
+    };
+    if let Err(error) = run(&State { file, program }, count) {
+        println!("{error}");
+        std::process::exit(1);
+    }
 }

@@ -37,7 +37,10 @@ fn store(folder: &str, input: &[u8], lines: &str) -> std::io::Result<()> {
 }
 
 fn main() -> std::io::Result<()> {
-    let folder = std::env::args().nth(1).expect("stored FOLDER");
+    let Some(folder) = std::env::args().nth(1) else {
+        eprintln!("usage: stored FOLDER");
+        std::process::exit(2);
+    };
     let (trials, packet_trials) = (all_trials(), packet_trials());
     if wrong_trials(&trials) + wrong_packet_trials(&packet_trials) > 0 {
         std::process::exit(1);

@@ -1,30 +1,19 @@
-//! The scenario language: a line declares part of a book or journey, or is one event. `#` starts a comment.
-//!
-//! ```text
-//! segment NAME NID_C n NID_SP n length n           a record of the book
-//! point NAME NID_TP n on SEGMENT at n [R n]        a point of that record
-//! zone on SEGMENT from n to n                      an inhibition zone of that record
-//! book NAME [SEGMENT ..]
-//! journey NAME date n seconds n counter n [NID_OPERATIONAL hexadecimal] [NID_ATOTS n]
-//!   through SEGMENT ..                             of the journey above, as are:
-//!   stop POINT [alignment front|middle|rear] [data n] [skipped] [end]
-//!   passing POINT [alignment front|middle|rear] [data n] [end]
-//! power on|off, configured, fault, engage
-//! reports all|none, or those that stand of: etcs no_brake consistent valid train
-//! mode AD|other
-//! lever neutral|traction|brake
-//! position SEGMENT n|undefined speed n
-//! length n
-//! load JOURNEY BOOK
-//! skip POINT, revoke POINT
-//! bytes HEXADECIMAL                                an event as it stands
-//! ```
+//! The scenario language: a line declares part of a book or journey, or is one event; docs/SCENARIOS.md has every word.
+//! A value that its field's bytes cannot hold is an error; one that they hold may be out of the field's range, so that
+//! refusals can be tried.
 
+use crate::line::{without_comment, Words};
+use crate::named::Named;
 use model::calls::Call;
 use model::events::UNDEFINED;
 use model::values::{write_book, Journey, JourneyPoint, Record, RecordPoint};
-use model::words::{bytes_of_hex, ALIGNMENTS, LEVERS, MODES};
-use std::collections::HashMap;
+use model::words::{bytes_of_hex, grouped, ALIGNMENTS, LEVERS, MODES};
+
+/// The most that a count of one byte holds.
+const COUNT_MOST: usize = 255;
+/// The most bytes that the player's input holds of an event or profile, by its length of two bytes.
+const BYTES_MOST: usize = 65_535;
+const REPORTS: [&str; 5] = ["etcs", "no_brake", "consistent", "valid", "train"];
 
 /// One event of a scenario, with its line.
 pub struct Step {
@@ -35,140 +24,120 @@ pub struct Step {
     pub loads: Option<(String, String)>,
 }
 
+struct DeclaredPoint {
+    nidtp: u32,
+    segment: String,
+}
+
 #[derive(Default)]
+struct DeclaredJourney {
+    profile: Journey,
+    /// The names of its segments and of its points, in its order.
+    segments: Vec<String>,
+    points: Vec<String>,
+}
+
 pub struct Scenario {
     pub steps: Vec<Step>,
-    segments: HashMap<String, Record>,
-    /// NID_TP and segment.
-    points: HashMap<String, (u32, String)>,
-    books: HashMap<String, Vec<String>>,
-    journeys: HashMap<String, Journey>,
-    /// The journey that `through`, `stop` and `passing` belong to, and its segments.
-    journey: String,
-    through: Vec<String>,
-}
-
-/// The words of a line, taken from the left.
-struct Words<'a>(Vec<&'a str>);
-
-impl<'a> Words<'a> {
-    fn of(line: &'a str) -> Words<'a> {
-        let before_comment = line.split('#').next().unwrap_or("");
-        Words(before_comment.split_whitespace().rev().collect())
-    }
-
-    fn next(&mut self, what: &str) -> Result<&'a str, String> {
-        self.0.pop().ok_or(format!("{what} is missing"))
-    }
-
-    fn keyword(&mut self, word: &str) -> Result<(), String> {
-        let found = self.next(word)?;
-        if found == word {
-            Ok(())
-        } else {
-            Err(format!("'{word}' expected, '{found}' found"))
-        }
-    }
-
-    /// Takes the word if it is the next.
-    fn takes(&mut self, word: &str) -> bool {
-        self.0.pop_if(|next| *next == word).is_some()
-    }
-
-    fn number<T: TryFrom<u64>>(&mut self, what: &str) -> Result<T, String> {
-        let word = self.next(what)?;
-        let value = word.parse::<u64>().ok().and_then(|value| T::try_from(value).ok());
-        value.ok_or(format!("{what}: '{word}' is no number that fits"))
-    }
-
-    /// A keyword with its number.
-    fn value<T: TryFrom<u64>>(&mut self, word: &str) -> Result<T, String> {
-        self.keyword(word)?;
-        self.number(word)
-    }
-
-    /// The place of the next word among the choices.
-    fn choice(&mut self, choices: &[&str]) -> Result<u8, String> {
-        let word = self.next(&choices.join(" or "))?;
-        let at = choices.iter().position(|choice| *choice == word);
-        at.map(|k| k as u8).ok_or(format!("'{word}' is none of {}", choices.join(", ")))
-    }
-
-    fn rest(&mut self) -> Vec<String> {
-        self.0.drain(..).rev().map(String::from).collect()
-    }
-
-    fn end(&self) -> Result<(), String> {
-        self.0.last().map_or(Ok(()), |word| Err(format!("'{word}' is too much")))
-    }
-}
-
-fn find<'a, T>(what: &str, names: &'a HashMap<String, T>, name: &str) -> Result<&'a T, String> {
-    names.get(name).ok_or(format!("no {what} is named '{name}'"))
+    segments: Named<Record>,
+    points: Named<DeclaredPoint>,
+    books: Named<Vec<String>>,
+    journeys: Named<DeclaredJourney>,
 }
 
 impl Scenario {
     /// Reads a whole scenario; an error names its line.
     pub fn read(text: &str) -> Result<Scenario, String> {
-        let mut scenario = Scenario::default();
-        for (k, line) in text.lines().enumerate() {
-            scenario.read_line(k + 1, line).map_err(|error| format!("line {}: {error}", k + 1))?;
+        let mut scenario = Scenario {
+            steps: Vec::new(),
+            segments: Named::of("segment"),
+            points: Named::of("point"),
+            books: Named::of("book"),
+            journeys: Named::of("journey"),
+        };
+        for (k, text) in text.lines().enumerate() {
+            scenario.read_line(k + 1, text).map_err(|error| format!("line {}: {error}", k + 1))?;
         }
         Ok(scenario)
     }
 
-    /// The name of a timing point, else its number.
+    /// The name of the timing point with these numbers: that of the journey's point, else that of the only point
+    /// declared with them; where there is no such, NID_TP itself.
+    pub fn point_name_in(&self, journey: Option<&str>, nidc: u16, nidtp: u32) -> String {
+        let fits = |point: &DeclaredPoint| {
+            let segment = self.segments.get(&point.segment);
+            point.nidtp == nidtp && segment.is_some_and(|segment| segment.nidc == nidc)
+        };
+        let of_journey = journey.map_or(&[][..], |journey| self.point_names(journey));
+        let in_journey = |name: &&String| self.points.get(name).is_some_and(fits);
+        let mut declared = self.points.iter().filter(|(_, point)| fits(point)).map(|(name, _)| name);
+        match (of_journey.iter().find(in_journey), declared.next(), declared.next()) {
+            (Some(name), _, _) => name.clone(),
+            (None, Some(name), None) => name.into(),
+            _ => nidtp.to_string(),
+        }
+    }
+
+    /// The name of the first point declared with this NID_TP, else the number.
     pub fn point_name(&self, nidtp: u32) -> String {
-        let named = self.points.iter().find(|(_, point)| point.0 == nidtp);
-        named.map_or(nidtp.to_string(), |(name, _)| name.clone())
+        let named = self.points.iter().find(|(_, point)| point.nidtp == nidtp);
+        named.map_or(nidtp.to_string(), |(name, _)| name.into())
+    }
+
+    /// The names of a journey's points, in its order.
+    pub fn point_names(&self, journey: &str) -> &[String] {
+        self.journeys.get(journey).map_or(&[], |journey| &journey.points)
+    }
+
+    /// The names of a journey's segments, in its order.
+    pub fn segment_names(&self, journey: &str) -> &[String] {
+        self.journeys.get(journey).map_or(&[], |journey| &journey.segments)
+    }
+
+    /// The names of the segments that a book has records of, in its order.
+    pub fn record_names(&self, book: &str) -> &[String] {
+        self.books.get(book).map_or(&[], |segments| segments)
     }
 
     fn read_line(&mut self, line: usize, text: &str) -> Result<(), String> {
-        let mut words = Words::of(text);
-        if words.0.is_empty() {
-            return Ok(());
-        }
-        let word = words.next("a word")?;
-        match word {
-            "segment" => self.read_segment(&mut words)?,
-            "point" => self.read_point(&mut words)?,
+        let Some(mut words) = Words::of(text)? else { return Ok(()) };
+        match words.first() {
+            "segment" => self.read_segment(line, &mut words)?,
+            "point" => self.read_point(line, &mut words)?,
             "zone" => self.read_zone(&mut words)?,
-            "book" => self.read_book(&mut words)?,
-            "journey" => self.read_journey(&mut words)?,
+            "book" => self.read_book(line, &mut words)?,
+            "journey" => self.read_journey(line, &mut words)?,
             "through" => self.read_through(&mut words)?,
-            "stop" | "passing" => self.read_journey_point(word == "stop", &mut words)?,
-            _ => {
-                let (call, loads) = match word {
+            "stop" => self.read_journey_point(true, &mut words)?,
+            "passing" => self.read_journey_point(false, &mut words)?,
+            event => {
+                let (call, loads) = match event {
                     "load" => self.read_load(&mut words)?,
-                    _ => (self.read_event(word, &mut words)?, None),
+                    _ => (self.read_event(&mut words)?, None),
                 };
-                let text = text.split('#').next().unwrap_or("").trim().to_string();
-                self.steps.push(Step { line, text, call, loads });
+                self.steps.push(Step { line, text: without_comment(text).into(), call, loads });
             }
         }
         words.end()
     }
 
-    fn read_segment(&mut self, words: &mut Words) -> Result<(), String> {
-        let name = words.next("the segment's name")?.to_string();
+    fn read_segment(&mut self, line: usize, words: &mut Words) -> Result<(), String> {
+        let name = words.next("the segment's name")?;
         let (nidc, nidsp, length) = (words.value("NID_C")?, words.value("NID_SP")?, words.value("length")?);
-        self.segments.insert(name, Record { nidc, nidsp, length, ..Record::default() });
-        Ok(())
+        self.segments.add(line, name, Record { nidc, nidsp, length, ..Record::default() })
     }
 
-    fn record(&mut self, name: &str) -> Result<&mut Record, String> {
-        self.segments.get_mut(name).ok_or(format!("no segment is named '{name}'"))
-    }
-
-    fn read_point(&mut self, words: &mut Words) -> Result<(), String> {
-        let name = words.next("the point's name")?.to_string();
+    fn read_point(&mut self, line: usize, words: &mut Words) -> Result<(), String> {
+        let name = words.next("the point's name")?;
         let nidtp = words.value("NID_TP")?;
         words.keyword("on")?;
-        let segment = words.next("the segment")?.to_string();
+        let segment = words.next("the segment")?;
         let place = words.value("at")?;
         let reach = if words.takes("R") { words.number("R")? } else { 0 };
-        self.record(&segment)?.points.push(RecordPoint { nidtp, place, reach });
-        self.points.insert(name, (nidtp, segment));
+        let record = self.segments.find_mut(segment)?;
+        one_more(record.points.len(), &format!("points on '{segment}'"))?;
+        self.points.add(line, name, DeclaredPoint { nidtp, segment: segment.into() })?;
+        record.points.push(RecordPoint { nidtp, place, reach });
         Ok(())
     }
 
@@ -176,58 +145,55 @@ impl Scenario {
         words.keyword("on")?;
         let segment = words.next("the segment")?;
         let zone = (words.value("from")?, words.value("to")?);
-        self.record(segment)?.zones.push(zone);
+        let zones = &mut self.segments.find_mut(segment)?.zones;
+        one_more(zones.len(), &format!("zones on '{segment}'"))?;
+        zones.push(zone);
         Ok(())
     }
 
-    fn read_book(&mut self, words: &mut Words) -> Result<(), String> {
-        let name = words.next("the book's name")?.to_string();
+    fn read_book(&mut self, line: usize, words: &mut Words) -> Result<(), String> {
+        let name = words.next("the book's name")?;
         let segments = words.rest();
         for segment in &segments {
-            find("segment", &self.segments, segment)?;
+            self.segments.find(segment)?;
         }
-        self.books.insert(name, segments);
-        Ok(())
+        self.books.add(line, name, segments)
     }
 
-    fn read_journey(&mut self, words: &mut Words) -> Result<(), String> {
-        self.journey = words.next("the journey's name")?.to_string();
-        self.through.clear();
+    fn read_journey(&mut self, line: usize, words: &mut Words) -> Result<(), String> {
+        let name = words.next("the journey's name")?;
         let (date, seconds, counter) = (words.value("date")?, words.value("seconds")?, words.value("counter")?);
-        let mut journey = Journey { date, seconds, counter, ..Journey::default() };
+        let mut profile = Journey { date, seconds, counter, ..Journey::default() };
         if words.takes("NID_OPERATIONAL") {
-            let text = words.next("NID_OPERATIONAL")?;
-            let value = u32::from_str_radix(text, 16);
-            journey.operational = Some(value.map_err(|_| format!("'{text}' is no hexadecimal number of four bytes"))?);
+            profile.operational = Some(read_operational(words)?);
         }
         if words.takes("NID_ATOTS") {
-            journey.atots = Some(words.number("NID_ATOTS")?);
+            profile.atots = Some(words.number("NID_ATOTS")?);
         }
-        self.journeys.insert(self.journey.clone(), journey);
-        Ok(())
-    }
-
-    fn current_journey(&mut self) -> Result<&mut Journey, String> {
-        self.journeys.get_mut(&self.journey).ok_or("no journey stands above".to_string())
+        self.journeys.add(line, name, DeclaredJourney { profile, ..DeclaredJourney::default() })
     }
 
     fn read_through(&mut self, words: &mut Words) -> Result<(), String> {
-        for name in words.rest() {
-            let record = find("segment", &self.segments, &name)?;
-            let segment = (record.nidc, record.nidsp);
-            self.current_journey()?.segments.push(segment);
-            self.through.push(name);
+        let journey = self.journeys.last_mut()?;
+        let mut names = vec![words.next("a segment")?.to_string()];
+        names.extend(words.rest());
+        for name in names {
+            let segment = self.segments.find(&name)?.segment();
+            one_more(journey.segments.len(), "segments of the journey")?;
+            journey.profile.segments.push(segment);
+            journey.segments.push(name);
         }
         Ok(())
     }
 
     fn read_journey_point(&mut self, stop: bool, words: &mut Words) -> Result<(), String> {
         let name = words.next("the point")?;
-        let (nidtp, segment) = find("point", &self.points, name)?.clone();
-        let index = self.through.iter().position(|other| *other == segment);
-        let index = index.ok_or(format!("the journey does not go through '{segment}', where '{name}' is"))?;
+        let DeclaredPoint { nidtp, segment } = self.points.find(name)?;
+        let journey = self.journeys.last_mut()?;
+        let index = journey.segments.iter().position(|other| other == segment);
+        let index = index.ok_or(format!("the journey above does not go through '{segment}', where '{name}' is"))?;
         let point = JourneyPoint {
-            nidtp,
+            nidtp: *nidtp,
             segment: index as u8,
             alignment: if words.takes("alignment") { Some(words.choice(&ALIGNMENTS)?) } else { None },
             stopping: if words.takes("data") { Some(words.number("data")?) } else { None },
@@ -236,12 +202,14 @@ impl Scenario {
             end: words.takes("end"),
             ..JourneyPoint::default()
         };
-        self.current_journey()?.points.push(point);
+        one_more(journey.points.len(), "points of the journey")?;
+        journey.profile.points.push(point);
+        journey.points.push(name.into());
         Ok(())
     }
 
-    fn read_event(&self, word: &str, words: &mut Words) -> Result<Call, String> {
-        Ok(match word {
+    fn read_event(&self, words: &mut Words) -> Result<Call, String> {
+        Ok(match words.first() {
             "power" if words.choice(&["on", "off"])? == 0 => Call::power_on(),
             "power" => Call::power_off(),
             "configured" => Call::configured(),
@@ -252,34 +220,59 @@ impl Scenario {
             "engage" => Call::press(),
             "position" => self.read_position(words)?,
             "length" => Call::length(words.number("length")?),
-            "skip" => Call::skip(self.point_number(words)?),
-            "revoke" => Call::revoke(self.point_number(words)?),
-            "bytes" => {
-                let text = words.next("the event's bytes")?;
-                Call::of(bytes_of_hex(text).ok_or(format!("'{text}' is not hexadecimal bytes"))?)
-            }
-            _ => return Err(format!("'{word}' begins no line of a scenario")),
+            "skip" => Call::skip(self.read_point_name(words)?),
+            "revoke" => Call::revoke(self.read_point_name(words)?),
+            _ => Call::of(read_bytes(words)?),
         })
     }
 
-    fn point_number(&self, words: &mut Words) -> Result<u32, String> {
-        Ok(find("point", &self.points, words.next("the point")?)?.0)
+    /// NID_TP of the point that is named.
+    fn read_point_name(&self, words: &mut Words) -> Result<u32, String> {
+        Ok(self.points.find(words.next("the point")?)?.nidtp)
     }
 
     fn read_position(&self, words: &mut Words) -> Result<Call, String> {
-        let segment = find("segment", &self.segments, words.next("the segment")?)?;
+        let (nidc, nidsp) = self.segments.find(words.next("the segment")?)?.segment();
         let offset = if words.takes("undefined") { UNDEFINED } else { words.number("the offset")? };
-        Ok(Call::position(segment.nidc, segment.nidsp, offset, words.value("speed")?))
+        Ok(Call::position(nidc, nidsp, offset, words.value("speed")?))
     }
 
-    /// The call, and the names of the journey and of the book that it brings.
+    /// The call, and the names of the journey and of the book that it brings, as they stand above.
     fn read_load(&self, words: &mut Words) -> Result<(Call, Option<(String, String)>), String> {
         let (journey, book) = (words.next("the journey")?, words.next("the book")?);
-        let records = find("book", &self.books, book)?.iter().map(|name| self.segments[name].clone());
-        let records: Vec<Record> = records.collect();
-        let call = Call::load(find("journey", &self.journeys, journey)?.write(), write_book(&records));
+        let mut records = Vec::new();
+        for name in self.books.find(book)? {
+            records.push(self.segments.find(name)?.clone());
+        }
+        let call = Call::load(self.journeys.find(journey)?.profile.write(), write_book(&records));
+        check_size(&format!("the journey '{journey}'"), &call.journey)?;
+        check_size(&format!("the book '{book}'"), &call.book)?;
         Ok((call, Some((journey.into(), book.into()))))
     }
+}
+
+/// There is room for one more in a count of one byte.
+fn one_more(count: usize, what: &str) -> Result<(), String> {
+    if count < COUNT_MOST {
+        Ok(())
+    } else {
+        Err(format!("more than {COUNT_MOST} {what}; the layout counts them by one byte"))
+    }
+}
+
+fn check_size(what: &str, bytes: &[u8]) -> Result<(), String> {
+    if bytes.len() <= BYTES_MOST {
+        return Ok(());
+    }
+    let (size, most) = (grouped(bytes.len() as u64), grouped(BYTES_MOST as u64));
+    Err(format!("{what} takes {size} bytes; the player's input holds at most {most}"))
+}
+
+fn read_operational(words: &mut Words) -> Result<u32, String> {
+    let text = words.next("NID_OPERATIONAL")?;
+    let digits = text.len() <= 8 && text.bytes().all(|byte| byte.is_ascii_hexdigit());
+    let value = if digits { u32::from_str_radix(text, 16).ok() } else { None };
+    value.ok_or(format!("NID_OPERATIONAL: '{text}' is not a hexadecimal number of up to eight digits"))
 }
 
 fn read_reports(words: &mut Words) -> Result<u8, String> {
@@ -289,9 +282,15 @@ fn read_reports(words: &mut Words) -> Result<u8, String> {
     if words.takes("none") {
         return Ok(0);
     }
-    let mut reports = 0;
-    while !words.0.is_empty() {
-        reports |= 1 << words.choice(&["etcs", "no_brake", "consistent", "valid", "train"])?;
+    let mut reports = 1 << words.choice(&REPORTS)?;
+    while !words.is_empty() {
+        reports |= 1 << words.choice(&REPORTS)?;
     }
     Ok(reports)
+}
+
+fn read_bytes(words: &mut Words) -> Result<Vec<u8>, String> {
+    let text = words.next("the event's bytes")?.to_string() + &words.rest().concat();
+    let bytes = bytes_of_hex(&text).ok_or(format!("'{text}' is not bytes in hexadecimal, two digits each"))?;
+    check_size("the event", &bytes).map(|()| bytes)
 }

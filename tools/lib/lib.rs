@@ -1,4 +1,10 @@
-//! What the tools share: the scenario language, and what is recorded over many orders of events.
+//! What the tools share: the scenario language, the player and its lines, a scenario told in words, and what is
+//! recorded over many orders of events.
 
+pub mod answers;
 pub mod language;
+mod line;
+mod named;
 pub mod outcomes;
+pub mod player;
+pub mod story;

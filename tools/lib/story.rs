@@ -1,0 +1,180 @@
+//! A scenario told in words from the player's lines. The independent model makes the same calls beside it: it knows
+//! where each point stands and why a call is refused, and every answer must be its own too.
+
+use crate::answers::{read_answers, Answered};
+use crate::language::{Scenario, Step};
+use model::calls::{write_lines, MEMORY};
+use model::engine::{Answer, Engine, Standing};
+use model::events::LOAD;
+use model::packets::{split_packets, Content, Packet};
+use model::reasons::{reason, Names};
+use model::words::{hex, packet_in_words, place_of_number, DRIVER, STATES, STATE_NAMES};
+
+pub struct Story<'a> {
+    scenario: &'a Scenario,
+    model: Engine,
+    /// The journey in force.
+    journey: Option<&'a str>,
+    /// The states that were told in words.
+    known: [bool; 8],
+    accepted: usize,
+    refused: usize,
+    pub text: String,
+}
+
+impl<'a> Story<'a> {
+    pub fn of(scenario: &'a Scenario) -> Story<'a> {
+        let text = format!(
+            "{} events. Below each, the unit's answer and the packets that it writes for the recorder.\n\
+             Distances are in cm, speeds in cm/s; AD is the ETCS mode automatic driving.\n",
+            scenario.steps.len()
+        );
+        let (model, known) = (Engine::fresh(), [false; 8]);
+        Story { scenario, model, journey: None, known, accepted: 0, refused: 0, text }
+    }
+
+    /// Tells all of it; where there is an error, `text` has what was told so far.
+    pub fn tell(&mut self, lines: &str) -> Result<(), String> {
+        let answers = read_answers(lines)?;
+        let steps = &self.scenario.steps;
+        for (step, answered) in steps.iter().zip(&answers) {
+            self.text += &format!("\nline {}: {}\n", step.line, step.text);
+            self.tell_step(step, answered)?;
+        }
+        if let Some(more) = answers.get(steps.len()) {
+            return Err(format!("the player's line {} is an answer beyond the {} events", more.line, steps.len()));
+        }
+        if answers.len() < steps.len() {
+            return Err(format!("the player's lines end after {} of {} events", answers.len(), steps.len()));
+        }
+        let (accepted, refused) = (self.accepted, self.refused);
+        self.text += &format!("\n{accepted} events accepted, {refused} refused; ");
+        self.text += "the independent model answers the same\n";
+        Ok(())
+    }
+
+    fn tell_step(&mut self, step: &'a Step, answered: &Answered) -> Result<(), String> {
+        let reason = reason(&self.model, &step.call, &self.names(step));
+        let before: Vec<Standing> = self.model.standings().collect();
+        let mut out = [0; MEMORY];
+        let answer = self.model.call(&step.call, &mut out);
+        let packets = split_packets(&out[..answer.map_or(0, |answer| answer.bytes)]);
+        if answered.answer != answer || answered.packets != packets {
+            return Err(difference(answered, answer, &out));
+        }
+        match answer {
+            Err(number) => {
+                let reason = reason.map_or(String::new(), |(_, reason)| reason);
+                self.refused += 1;
+                self.text += &format!("    refused by {number} ({}): {reason}\n", place_of_number(number));
+            }
+            Ok(answer) => {
+                self.accepted += 1;
+                self.note_journey(step);
+                self.tell_answer(answer, &before, step.loads.is_some());
+                packets.into_iter().for_each(|packet| self.tell_packet(packet));
+            }
+        }
+        Ok(())
+    }
+
+    /// The names of a load's profiles; for another event those in force.
+    fn names(&self, step: &'a Step) -> StepNames<'a> {
+        let (journey, book) = match &step.loads {
+            Some((journey, book)) => (Some(journey.as_str()), Some(book.as_str())),
+            None if step.call.event.first() == Some(&LOAD) => (None, None),
+            None => (self.journey, None),
+        };
+        StepNames {
+            records: book.map_or(&[], |book| self.scenario.record_names(book)),
+            segments: journey.map_or(&[], |journey| self.scenario.segment_names(journey)),
+            points: journey.map_or(&[], |journey| self.scenario.point_names(journey)),
+        }
+    }
+
+    fn note_journey(&mut self, step: &'a Step) {
+        if let Some((journey, _)) = &step.loads {
+            self.journey = Some(journey);
+        }
+        if !self.model.now.loaded {
+            self.journey = None;
+        }
+    }
+
+    fn tell_answer(&mut self, answer: Answer, before: &[Standing], loads: bool) {
+        let k = usize::from(answer.state);
+        let first = !std::mem::replace(&mut self.known[k], true);
+        let name = if first { format!(" ({})", STATE_NAMES[k]) } else { String::new() };
+        let request = if answer.request { "AD requested" } else { "AD not requested" };
+        let points = self.points_in_words(before, loads);
+        self.text += &format!("    {}{name}, {request}{points}\n", STATES[k]);
+        if first {
+            self.text += &format!("        {}: {}\n", STATES[k], DRIVER[k]);
+        }
+    }
+
+    /// The points passed now or put behind by the load, and the one that is targeted or reached.
+    fn points_in_words(&self, before: &[Standing], loads: bool) -> String {
+        let Some(journey) = self.journey else { return String::new() };
+        let names = self.scenario.point_names(journey);
+        let after: Vec<Standing> = self.model.standings().collect();
+        let was_passed = |k: &usize| !loads && before.get(*k) == Some(&Standing::Passed);
+        let passed = (0..after.len()).filter(|k| after[*k] == Standing::Passed && !was_passed(k));
+        let passed: Vec<&str> = passed.map(|k| names[k].as_str()).collect();
+        let mut text = String::new();
+        if !passed.is_empty() {
+            text += &format!("; {}: {}", if loads { "put behind" } else { "passed" }, passed.join(", "));
+        }
+        let present = after.iter().position(|standing| *standing != Standing::Passed);
+        text + &match present {
+            Some(k) if after[k] == Standing::Reached => format!("; reached: {}", names[k]),
+            Some(k) => format!("; targeted: {}", names[k]),
+            None => "; no point left".into(),
+        }
+    }
+
+    fn tell_packet(&mut self, bytes: &[u8]) {
+        let name = |nidtp: u32| match Packet::read(bytes) {
+            Ok(Packet { content: Content::Point { nidc, .. }, .. }) => {
+                self.scenario.point_name_in(self.journey, nidc, nidtp)
+            }
+            _ => nidtp.to_string(),
+        };
+        let packet = packet_in_words(bytes, &name);
+        self.text += &format!("    {}\n        {packet}\n", hex(bytes));
+    }
+}
+
+fn difference(answered: &Answered, answer: Result<Answer, u8>, out: &[u8]) -> String {
+    let in_a_line = |answer: Result<Answer, u8>, out: &[u8]| {
+        let mut lines = String::new();
+        write_lines(answer, out, &mut lines);
+        lines.trim_end().replace('\n', " ")
+    };
+    let (found, expected) = (in_a_line(answered.answer, &answered.packets.concat()), in_a_line(answer, out));
+    format!("the player's line {} differs from the model\n  player {found}\n  model  {expected}", answered.line)
+}
+
+struct StepNames<'a> {
+    records: &'a [String],
+    segments: &'a [String],
+    points: &'a [String],
+}
+
+fn named(kind: &str, names: &[String], k: usize) -> String {
+    names.get(k).map_or(format!("{kind} {}", k + 1), |name| format!("{kind} {name}"))
+}
+
+impl Names for StepNames<'_> {
+    fn record(&self, k: usize) -> String {
+        named("record", self.records, k)
+    }
+
+    fn segment(&self, k: usize) -> String {
+        named("segment", self.segments, k)
+    }
+
+    fn point(&self, k: usize) -> String {
+        named("point", self.points, k)
+    }
+}
