@@ -1,0 +1,204 @@
+//! A scenario stepped through the proved engine: what each event gave, and what the picture shows after it.
+
+use crate::plan::{Front, Plan};
+use model::events::{read_event, Event, Position, UNDEFINED};
+use model::packets::split_packets;
+use model::words::packet_in_words;
+use proved::hollwern::{self, Engine, PacketFields, Shown};
+use std::ops::Range;
+use tools::language::{Scenario, Step};
+
+/// Output memory that is lent: enough for what any event writes.
+const MEMORY: usize = 4096;
+
+/// The names that the scenario gives to segments and points.
+pub struct Names<'a> {
+    scenario: &'a Scenario,
+    segments: Vec<(u16, u32, String)>,
+}
+
+impl Names<'_> {
+    pub fn of<'a>(scenario: &'a Scenario, text: &str) -> Names<'a> {
+        Names { scenario, segments: text.lines().filter_map(segment_named).collect() }
+    }
+
+    pub fn segment(&self, nidc: u16, nidsp: u32) -> String {
+        let named = self.segments.iter().find(|segment| (segment.0, segment.1) == (nidc, nidsp));
+        named.map_or(format!("{nidc}/{nidsp}"), |segment| segment.2.clone())
+    }
+
+    pub fn point(&self, _journey: &str, _nidc: u16, nidtp: u32) -> String {
+        self.scenario.point_name(nidtp)
+    }
+}
+
+/// What a line `segment NAME NID_C n NID_SP n ..` names.
+fn segment_named(line: &str) -> Option<(u16, u32, String)> {
+    let words: Vec<&str> = line.split_whitespace().collect();
+    match words[..] {
+        ["segment", name, "NID_C", nidc, "NID_SP", nidsp, ..] => {
+            Some((nidc.parse().ok()?, nidsp.parse().ok()?, name.into()))
+        }
+        _ => None,
+    }
+}
+
+/// What the latest accepted events since power off that carry them say, else fresh.
+#[derive(Clone, Copy, PartialEq)]
+pub struct Reported {
+    pub mode: u8,
+    pub lever: u8,
+    pub reports: u8,
+    pub length: u32,
+    pub speed: u16,
+    pub position: Position,
+    /// The last event was a position report.
+    pub now: bool,
+}
+
+impl Reported {
+    const FRESH: Reported = Reported {
+        mode: 0,
+        lever: 0,
+        reports: 0,
+        length: 0,
+        speed: 0,
+        position: Position { nidc: 0, nidsp: 0, offset: UNDEFINED },
+        now: false,
+    };
+
+    fn accept(&mut self, event: Event) {
+        match event {
+            Event::PowerOff => *self = Reported::FRESH,
+            Event::Mode(mode) => self.mode = mode,
+            Event::Lever(lever) => self.lever = lever,
+            Event::Reports(reports) => self.reports = reports,
+            Event::Length(length) => self.length = length,
+            Event::Report(position, speed) => (self.position, self.speed) = (position, speed),
+            _ => {}
+        }
+        self.now = matches!(event, Event::Report(..));
+    }
+}
+
+/// A packet that an event wrote.
+pub struct Written {
+    pub fields: PacketFields,
+    pub words: String,
+}
+
+/// What an event gave, and what holds after it.
+pub struct Moment {
+    /// Its number in the picture.
+    pub label: String,
+    pub line: usize,
+    pub text: String,
+    /// The number, if it was refused.
+    pub refused: Option<u8>,
+    pub shown: Shown,
+    pub reported: Reported,
+    pub packets: Vec<Written>,
+    /// The points that the driver skips, by NID_TP.
+    pub skips: Vec<u32>,
+    pub front: Front,
+}
+
+/// The events under one journey, or under none.
+pub struct Stretch {
+    pub plan: Option<Plan>,
+    pub moments: Range<usize>,
+}
+
+pub struct Ride {
+    pub moments: Vec<Moment>,
+    pub stretches: Vec<Stretch>,
+}
+
+impl Ride {
+    /// The steps through an engine, from where it is fresh.
+    pub fn of<'a>(mut engine: Engine, names: &Names, steps: impl Iterator<Item = &'a Step>) -> Ride {
+        let mut ride = Ride { moments: Vec::new(), stretches: vec![Stretch { plan: None, moments: 0..0 }] };
+        let (mut reported, mut skips) = (Reported::FRESH, Vec::new());
+        for step in steps {
+            let mut out = [0; MEMORY];
+            let answer = engine.step(&step.call.event, &step.call.journey, &step.call.book, &mut out);
+            let packets = if answer.accepted { read_packets(&out[..answer.bytes], names) } else { Vec::new() };
+            reported.now = false;
+            if let (true, Ok(event)) = (answer.accepted, read_event(&step.call.event)) {
+                reported.accept(event);
+                ride.turn(event, step, names);
+                follow_skips(&mut skips, event, &packets);
+            }
+            let moment = Moment {
+                label: (ride.moments.len() + 1).to_string(),
+                line: step.line,
+                text: step.text.clone(),
+                refused: (!answer.accepted).then_some(answer.number),
+                shown: engine.show(),
+                reported,
+                packets,
+                skips: skips.clone(),
+                front: ride.front(reported.position),
+            };
+            ride.add(moment);
+        }
+        ride.stretches.retain(|stretch| !stretch.moments.is_empty());
+        ride
+    }
+
+    /// A load begins a stretch, and so does power off where there was a journey.
+    fn turn(&mut self, event: Event, step: &Step, names: &Names) {
+        let at = self.moments.len();
+        let loaded = self.stretches.last().is_some_and(|stretch| stretch.plan.is_some());
+        let plan = match event {
+            Event::Load => Plan::of(&step.call, names, step.loads.clone().unwrap_or_default()),
+            Event::PowerOff if loaded => None,
+            _ => return,
+        };
+        self.stretches.push(Stretch { plan, moments: at..at });
+    }
+
+    fn front(&self, position: Position) -> Front {
+        let plan = self.stretches.last().and_then(|stretch| stretch.plan.as_ref());
+        plan.map_or(Front::Unknown("no journey is loaded"), |plan| plan.front(position))
+    }
+
+    fn add(&mut self, moment: Moment) {
+        self.moments.push(moment);
+        if let Some(stretch) = self.stretches.last_mut() {
+            stretch.moments.end += 1;
+        }
+    }
+
+    /// Without the first events.
+    pub fn without(mut self, first: usize) -> Ride {
+        self.moments.drain(..first);
+        for Stretch { moments, .. } in &mut self.stretches {
+            *moments = moments.start.saturating_sub(first)..moments.end.saturating_sub(first);
+        }
+        self.stretches.retain(|stretch| !stretch.moments.is_empty());
+        self
+    }
+}
+
+fn read_packets(bytes: &[u8], names: &Names) -> Vec<Written> {
+    let packet = |packet: &[u8]| Written {
+        fields: hollwern::read(packet),
+        words: packet_in_words(packet, &|nidtp| names.point("", 0, nidtp)),
+    };
+    split_packets(bytes).into_iter().map(packet).collect()
+}
+
+/// Driver skips as the packets tell of them: given by status 5, revoked by 6, cleared by a load and power off.
+fn follow_skips(skips: &mut Vec<u32>, event: Event, packets: &[Written]) {
+    if matches!(event, Event::Load | Event::PowerOff) {
+        skips.clear();
+    }
+    for packet in packets.iter().filter(|packet| packet.fields.kind == 62) {
+        match packet.fields.status {
+            5 => skips.push(packet.fields.nidtp),
+            6 => skips.retain(|&nidtp| nidtp != packet.fields.nidtp),
+            _ => {}
+        }
+    }
+}

@@ -1,0 +1,152 @@
+//! What the picture says in words.
+
+use crate::plan::{Plan, Point};
+use crate::ride::Moment;
+use model::words::{ALIGNMENTS, LEVERS, MODES, STATES, STATE_NAMES};
+use std::ops::Range;
+
+/// What the driver may do in each state: in a word or two, and at length.
+pub const DRIVER: [[&str; 2]; 8] = [
+    ["power on", "may power on"],
+    ["wait", "waits until the unit is configured"],
+    ["drive by hand", "drives by hand; engaging is not possible"],
+    ["drive by hand", "drives by hand; may engage once lever neutral, mode other and train conditions make it ready"],
+    ["press engage", "may press engage, or drive by hand"],
+    ["hands off", "hands off; brake, or leaving AD, disengages"],
+    ["take over: brake", "takes over: brake, or leave AD"],
+    ["drive by hand", "drives by hand; power off is all that is left"],
+];
+
+/// The table of numbers, so far as an event gets them.
+const REASONS: [&str; 16] = [
+    "event empty, of unknown kind or wrong length",
+    "field of the event out of range",
+    "no power",
+    "power is on already",
+    "fault: only power off is left",
+    "not in this state",
+    "book: bad map, range or length",
+    "book: a segment or, in one record, a timing point twice, or over 40 records",
+    "journey: bad map, range or length",
+    "journey: a segment twice",
+    "journey: index beyond, a timing point twice, not just one End of Journey, or a booked segment without the point",
+    "journey: index falls, or places do not rise",
+    "offset beyond the segment's length",
+    "no stop of that name",
+    "point reached or passed, skip already given, or none to revoke",
+    "output memory too short",
+];
+
+/// The reason of a refusal.
+pub fn reason(number: u8) -> &'static str {
+    REASONS.get(usize::from(number).wrapping_sub(1)).copied().unwrap_or("a number that no event gets")
+}
+
+pub fn grouped(number: i64) -> String {
+    let digits = number.unsigned_abs().to_string();
+    let mut text = String::from(if number < 0 { "-" } else { "" });
+    for (k, digit) in digits.chars().enumerate() {
+        if k > 0 && (digits.len() - k) % 3 == 0 {
+            text.push(',');
+        }
+        text.push(digit);
+    }
+    text
+}
+
+/// A distance in cm, told in metres.
+pub fn metres(distance: i64) -> String {
+    let sign = if distance < 0 { "-" } else { "" };
+    let (whole, rest) = (grouped((distance / 100).abs()), (distance % 100).abs());
+    let decimals = format!(".{rest:02}");
+    format!("{sign}{whole}{} m", if rest == 0 { "" } else { decimals.trim_end_matches('0') })
+}
+
+/// The number of letters that a width holds at a size of type.
+pub fn letters(width: f64, size: f64) -> usize {
+    (width / (0.55 * size)) as usize
+}
+
+/// Cut to so many letters, with a sign that it was.
+pub fn cut(text: &str, most: usize) -> String {
+    if text.chars().count() <= most {
+        return text.into();
+    }
+    text.chars().take(most.saturating_sub(1)).chain(['…']).collect()
+}
+
+/// Lines of so many letters at most, broken at blanks; `None` if a word is longer or the lines are too many.
+pub fn wrapped(text: &str, width: usize, most: usize) -> Option<Vec<String>> {
+    let mut lines: Vec<String> = Vec::new();
+    for word in text.split_whitespace() {
+        let letters = word.chars().count();
+        match lines.last_mut() {
+            _ if letters > width => return None,
+            Some(line) if line.chars().count() + 1 + letters <= width => *line += &format!(" {word}"),
+            _ => lines.push(word.into()),
+        }
+    }
+    (lines.len() <= most).then_some(lines)
+}
+
+pub fn state_in_words(state: u8) -> String {
+    let code = usize::from(state);
+    format!("{} {}: the driver {}", STATES[code], STATE_NAMES[code], DRIVER[code][1])
+}
+
+pub fn point_in_words(plan: &Plan, point: &Point) -> String {
+    let kind = if point.stop { "stop" } else { "passing point" };
+    let mut words = format!("{}, {kind}, NID_TP {}, alignment {}", point.name, point.nidtp, alignment(point));
+    match point.place {
+        Some(place) => words += &format!(", at {} from the journey's start, R {}", metres(place), metres(point.reach)),
+        None => words += &format!(", not placed: {} or a segment before it is not in the book", segment(plan, point)),
+    }
+    if point.trackside {
+        words += ", skipped by trackside";
+    }
+    if point.end {
+        words += ", End of Journey";
+    }
+    words
+}
+
+fn segment<'a>(plan: &'a Plan, point: &Point) -> &'a str {
+    &plan.segments[point.segment].name
+}
+
+fn alignment(point: &Point) -> &'static str {
+    ALIGNMENTS[usize::from(point.alignment)]
+}
+
+pub fn margin_in_words(point: &Point, train: u32, margin: &Range<i64>) -> String {
+    let taken = format!("train {}, alignment {}", metres(i64::from(train)), alignment(point));
+    if margin.is_empty() {
+        return format!("{} is passed when the front is beyond {} ({taken})", point.name, metres(margin.start));
+    }
+    let (from, to) = (metres(margin.start), metres(margin.end));
+    format!("{} is reached when the front stands from {from} to {to} ({taken}, R {})", point.name, metres(point.reach))
+}
+
+/// What the event gave, in lines: the answer, then the packets.
+pub fn moment_in_words(moment: &Moment) -> Vec<String> {
+    let mut lines = vec![answer_in_words(moment)];
+    lines.extend(moment.packets.iter().map(|packet| packet.words.clone()));
+    lines
+}
+
+pub fn answer_in_words(moment: &Moment) -> String {
+    if let Some(number) = moment.refused {
+        return format!("refused by {number}: {}", reason(number));
+    }
+    let code = usize::from(moment.shown.state);
+    let request = if moment.shown.request { "AD requested" } else { "AD not requested" };
+    format!("{} {} ({request})", STATES[code], STATE_NAMES[code])
+}
+
+/// All that holds after an event.
+pub fn column_in_words(moment: &Moment) -> String {
+    let mode = MODES[usize::from(moment.reported.mode)];
+    let lever = LEVERS[usize::from(moment.reported.lever)];
+    let head = format!("{} {} (line {})", moment.label, moment.text, moment.line);
+    format!("{head}\n{}\nmode {mode}, lever {lever}", moment_in_words(moment).join("\n"))
+}
