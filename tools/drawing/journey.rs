@@ -2,7 +2,7 @@
 //! packets 62 at the points that they tell of.
 
 use crate::plan::{Front, Plan, Point};
-use crate::ride::{Moment, Ride};
+use crate::ride::{Moment, Ride, Written};
 use crate::scale::{Marks, Scale};
 use crate::sheet::{middle, runs, Lane, COLUMN, GUTTER};
 use crate::svg::Svg;
@@ -10,10 +10,8 @@ use crate::words::{cut, letters, margin_in_words, metres, point_in_words};
 
 const ABOVE: f64 = 14.0;
 const BELOW: f64 = 20.0;
-/// Least gaps: below what has a name, to the edge of a margin or zone, and between whatever else differs.
-const NAME: f64 = 13.0;
-const EDGE: f64 = 6.0;
-const APART: f64 = 3.0;
+/// The least height of half a margin.
+const EDGE: f64 = 7.0;
 /// The width of the segments' names in the gutter.
 const SEGMENTS: f64 = 88.0;
 
@@ -58,24 +56,23 @@ impl<'a> Journey<'a> {
 /// The distances that matter in a stretch.
 fn marks(plan: &Plan, moments: &[Moment]) -> Marks {
     let mut marks = Marks::default();
-    marks.add(0, 0.0);
-    marks.add(plan.end, NAME);
-    for (start, segment) in plan.segments.iter().filter_map(|segment| Some((segment.start?, segment))) {
-        marks.add(start, NAME);
-        for (from, to) in &segment.zones {
-            marks.add(start + from, APART);
-            marks.add(start + to, EDGE);
-        }
+    marks.add_name(0);
+    marks.add_name(plan.end);
+    plan.segments.iter().filter_map(|segment| segment.start).for_each(|start| marks.add_name(start));
+    for (_, from, to) in plan.zones() {
+        marks.add(from);
+        marks.add_name((from + to) / 2);
+        marks.add(to);
     }
     for point in &plan.points {
-        point.place.into_iter().for_each(|place| marks.add(place, NAME));
-        for (_, _, (train, skipped)) in margin_runs(moments, point) {
+        point.place.into_iter().for_each(|place| marks.add_name(place));
+        for (_, _, (train, skipped, _)) in margin_runs(moments, point) {
             mark_margin(&mut marks, plan, point, train, skipped);
         }
     }
     for moment in moments {
         if let Front::At(front) = moment.front {
-            marks.add(front, APART);
+            marks.add(front);
         }
     }
     marks
@@ -84,17 +81,17 @@ fn marks(plan: &Plan, moments: &[Moment]) -> Marks {
 /// Its edges and its middle, so far as they are on placed segments.
 fn mark_margin(marks: &mut Marks, plan: &Plan, point: &Point, train: u32, skipped: bool) {
     let (Some(margin), Some(at)) = (point.margin(train, skipped), point.front_place(train)) else { return };
-    let gap = if margin.is_empty() { APART } else { EDGE };
-    for (distance, gap) in [(margin.start, APART), (at, gap), (margin.end, gap)] {
-        if (0..=plan.end).contains(&distance) {
-            marks.add(distance, gap);
-        }
+    let within = |distance: &i64| (0..=plan.end).contains(distance);
+    Some(margin.start).filter(within).into_iter().for_each(|start| marks.add(start));
+    for distance in [at, margin.end].into_iter().filter(|distance| within(distance) && !margin.is_empty()) {
+        marks.add_apart(distance, EDGE);
     }
 }
 
-/// Runs of moments with the same train length and driver skip.
-fn margin_runs(moments: &[Moment], point: &Point) -> Vec<(f64, f64, (u32, bool))> {
-    runs(moments, |moment| (moment.reported.length, moment.skips.contains(&point.nidtp)))
+/// Runs of moments with the same train length, driver skip and, whether it is passed.
+fn margin_runs(moments: &[Moment], point: &Point) -> Vec<(f64, f64, (u32, bool, bool))> {
+    let passed = |moment: &Moment| moment.shown.standings[point.index] == PASSED;
+    runs(moments, |moment| (moment.reported.length, moment.skips.contains(&point.nidtp), passed(moment)))
 }
 
 fn points_on(plan: &Plan, segment: usize) -> usize {
@@ -160,13 +157,10 @@ impl Panel<'_> {
     }
 
     fn draw_zones(&self, svg: &mut Svg, width: f64) {
-        for (start, segment) in self.plan.segments.iter().filter_map(|segment| Some((segment.start?, segment))) {
-            for (from, to) in &segment.zones {
-                let (from, to) = (start + from, start + to);
-                let title = format!("inhibition zone on {}: from {} to {}", segment.name, metres(from), metres(to));
-                let (top, low) = (self.y(to), self.y(from));
-                svg.titled(&title, |svg| svg.rect("zone", 0.0, top, width, (low - top).max(2.0)));
-            }
+        for (segment, from, to) in self.plan.zones() {
+            let title = format!("inhibition zone on {}: from {} to {}", segment.name, metres(from), metres(to));
+            let (top, low) = (self.y(to), self.y(from));
+            svg.titled(&title, |svg| svg.rect("zone", 0.0, top, width, (low - top).max(2.0)));
         }
     }
 
@@ -179,6 +173,9 @@ impl Panel<'_> {
         if unplaced_height(self.plan) == 0.0 {
             svg.text("segment", 6.0, self.y(self.plan.end) + 10.0, &metres(self.plan.end));
         }
+        for (_, from, to) in self.plan.zones() {
+            svg.text("passing", GUTTER - 6.0, self.y((from + to) / 2) + 3.5, "inhibition zone");
+        }
         for (k, point) in self.plan.points.iter().enumerate() {
             let mut name = cut(&point.name, 16);
             for (stands, word) in [(point.trackside, ", skipped"), (point.end, ", end")] {
@@ -190,19 +187,18 @@ impl Panel<'_> {
         }
     }
 
+    /// Of each point until it is passed; only the line where it passes if that is not the point's own.
     fn draw_margins(&self, svg: &mut Svg, moments: &[Moment]) {
         for point in &self.plan.points {
-            for (left, width, (train, skipped)) in margin_runs(moments, point) {
-                let Some(margin) = point.margin(train, skipped) else { continue };
-                if margin.end < 0 || margin.start > self.plan.end {
-                    continue;
-                }
-                let (top, low) = (self.y(margin.end.min(self.plan.end)), self.y(margin.start.max(0)));
+            for (left, width, (train, skipped, passed)) in margin_runs(moments, point) {
+                let margin = point.margin(train, skipped).filter(|margin| margin.end >= 0 && margin.start <= self.plan.end);
+                let Some(margin) = margin.filter(|_| !passed) else { continue };
+                let (top, low) = (self.y(margin.end), self.y(margin.start));
                 svg.titled(&margin_in_words(point, train, &margin), |svg| {
-                    if margin.is_empty() {
-                        svg.line("edge", (left, low), (left + width, low));
-                    } else {
+                    if !margin.is_empty() {
                         svg.rect("margin", left, top, width, low - top);
+                    } else if Some(margin.start) != point.place {
+                        svg.line("edge", (left, low), (left + width, low));
                     }
                 });
             }
@@ -271,16 +267,24 @@ impl Panel<'_> {
 
     fn draw_told(&self, svg: &mut Svg, moments: &[Moment]) {
         for (k, moment) in moments.iter().enumerate() {
-            for packet in moment.packets.iter().filter(|packet| packet.fields.kind == 62) {
-                let point = self.plan.points.iter().position(|point| point.nidtp == packet.fields.nidtp);
-                let Some(point) = point else { continue };
-                let (x, y, status) = (middle(k), self.line(point), packet.fields.status);
+            let told: Vec<(f64, &Written)> = moment.packets.iter().filter_map(|told| Some((self.told_at(told)?, told))).collect();
+            for (y, packet) in &told {
+                let (x, status) = (middle(k), packet.fields.status);
+                let crowded = told.iter().any(|(other, _)| (1.0..18.0).contains(&(y - other)));
                 svg.titled(&packet.words, |svg| {
-                    draw_status(svg, status, x, y);
-                    svg.text("told", x, y - 6.5, TOLD.get(usize::from(status)).unwrap_or(&""));
+                    draw_status(svg, status, x, *y);
+                    if !crowded {
+                        svg.text("told", x, y - 6.5, TOLD.get(usize::from(status)).unwrap_or(&""));
+                    }
                 });
             }
         }
+    }
+
+    /// The line of the point that a packet 62 tells of.
+    fn told_at(&self, packet: &Written) -> Option<f64> {
+        let point = |point: &Point| packet.fields.kind == 62 && point.nidtp == packet.fields.nidtp;
+        Some(self.line(self.plan.points.iter().position(point)?))
     }
 }
 

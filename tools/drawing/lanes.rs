@@ -1,10 +1,10 @@
 //! The lanes that tell what holds after each event: the event, the state, AD request, mode, lever, conditions; and the
 //! packets that it wrote.
 
-use crate::ride::{Moment, Ride, Written};
+use crate::ride::{Moment, Refusal, Ride, Written};
 use crate::sheet::{middle, runs, Lane, COLUMN};
 use crate::svg::Svg;
-use crate::words::{cut, letters, reason, state_in_words, wrapped, DRIVER};
+use crate::words::{cut, letters, state_in_words, wrapped, DRIVER};
 use model::words::{CONDITIONS, LEVERS, MODES, STATES, STATE_NAMES};
 
 /// The lines of the scenario, upwards, and their numbers.
@@ -28,11 +28,10 @@ impl Events {
     }
 }
 
-/// An event's text in two lines at most, as even as may be.
+/// An event's text in one line if it is short, else in two, as even as may be.
 fn in_two(text: &str) -> Vec<String> {
-    let letters = text.chars().count();
-    let fitting = (letters / 2..=24).find_map(|width| wrapped(text, width.max(12), 2));
-    fitting.unwrap_or_else(|| vec![cut(text, 24)])
+    let fits = |width: usize| wrapped(text, width, 2);
+    wrapped(text, 18, 1).or_else(|| (12..=24).find_map(fits)).unwrap_or_else(|| vec![cut(text, 24)])
 }
 
 impl Lane for Events {
@@ -66,13 +65,23 @@ impl Lane for Events {
 /// The state with what the driver may do.
 pub struct States;
 
-const STATE_HEIGHT: f64 = 74.0;
+const STATE_HEIGHT: f64 = 78.0;
+
+/// A wide run in parts, so that each part of a long picture has its words.
+fn parts(left: f64, width: f64) -> impl Iterator<Item = (f64, f64)> {
+    let count = (width / (12.0 * COLUMN)).floor().max(1.0);
+    (0..count as usize).map(move |k| (left + k as f64 * width / count, width / count))
+}
 
 fn draw_state(svg: &mut Svg, left: f64, width: f64, state: u8) {
-    let code = usize::from(state);
-    let (ink, inside) = (if matches!(state, 5 | 7) { "light" } else { "dark" }, width - 4.0);
-    svg.rect(&format!("state s{code}"), left + 1.0, 2.0, width - 2.0, STATE_HEIGHT - 6.0);
-    svg.rect(&format!("state p{code}"), left + 1.0, 2.0, width - 2.0, 8.0);
+    svg.rect(&format!("state s{state}"), left + 1.0, 2.0, width - 2.0, STATE_HEIGHT - 6.0);
+    svg.rect(&format!("state p{state}"), left + 1.0, 2.0, width - 2.0, 8.0);
+    parts(left, width).for_each(|(left, width)| draw_state_words(svg, left, width, state));
+}
+
+fn draw_state_words(svg: &mut Svg, left: f64, width: f64, state: u8) {
+    let (code, inside) = (usize::from(state), width - 4.0);
+    let ink = if matches!(state, 5 | 7) { "light" } else { "dark" };
     let at = left + width / 2.0;
     svg.text(&format!("code {ink}"), at, 25.0, STATES[code]);
     if STATE_NAMES[code].len() <= letters(inside, 9.0) {
@@ -123,7 +132,9 @@ impl Lane for Named {
             let name = self.names[usize::from(value)];
             svg.titled(&format!("{}: {name}", self.head), |svg| {
                 svg.rect(&format!("value v{value}"), left + 1.0, 2.0, width - 2.0, 14.0);
-                svg.text("inside", left + 4.0, 12.5, &cut(name, letters(width - 2.0, 8.0)));
+                for (left, width) in parts(left, width) {
+                    svg.text("inside", left + 4.0, 12.5, &cut(name, letters(width - 2.0, 8.0)));
+                }
             });
         }
     }
@@ -133,12 +144,19 @@ impl Lane for Named {
 pub struct Bar {
     head: String,
     thin: bool,
+    /// The class and the word where it does not.
+    not: (&'static str, &'static str),
     of: Box<dyn Fn(&Moment) -> bool>,
 }
 
 impl Bar {
-    fn new(head: &str, thin: bool, of: impl Fn(&Moment) -> bool + 'static) -> Box<dyn Lane> {
-        Box::new(Bar { head: head.into(), thin, of: Box::new(of) })
+    /// A condition: lacking where it does not hold.
+    fn condition(head: &str, of: impl Fn(&Moment) -> bool + 'static) -> Box<dyn Lane> {
+        Box::new(Bar { head: head.into(), thin: true, not: ("lacks", "lacking"), of: Box::new(of) })
+    }
+
+    fn request() -> Box<dyn Lane> {
+        Box::new(Bar { head: "AD request".into(), thin: false, not: ("idle", "no"), of: Box::new(|moment| moment.shown.request) })
     }
 }
 
@@ -154,7 +172,7 @@ impl Lane for Bar {
 
     fn columns(&self, _: usize, moments: &[Moment], svg: &mut Svg) {
         for (left, width, holds) in runs(moments, &self.of) {
-            let (class, says) = if holds { ("holds", "stands") } else { ("lacks", "lacking") };
+            let (class, says) = if holds { ("holds", "yes") } else { self.not };
             svg.titled(&format!("{}: {says}", self.head), |svg| {
                 svg.rect(class, left + 1.0, 2.0, width - 2.0, self.height() - 4.0);
             });
@@ -199,19 +217,19 @@ impl Lane for Speed {
 /// Request, mode, lever, and what O, T and N are made of.
 pub fn inputs() -> Vec<Box<dyn Lane>> {
     let mut lanes: Vec<Box<dyn Lane>> = vec![
-        Bar::new("AD requested", false, |moment| moment.shown.request),
+        Bar::request(),
         Box::new(Named { head: "ETCS mode", names: &MODES, of: |moment| moment.reported.mode }),
         Box::new(Named { head: "Lever", names: &LEVERS, of: |moment| moment.reported.lever }),
         Box::new(Speed),
         Box::new(Heading("Engaging needs")),
-        Bar::new("O all nine conditions", true, |moment| moment.shown.conditions == 0x1FF),
-        Bar::new("T train conditions", true, |moment| moment.reported.reports & 16 != 0),
-        Bar::new("N lever neutral", true, |moment| moment.reported.lever == 0),
+        Bar::condition("O all nine conditions", |moment| moment.shown.conditions == 0x1FF),
+        Bar::condition("T train conditions", |moment| moment.reported.reports & 16 != 0),
+        Bar::condition("N lever neutral", |moment| moment.reported.lever == 0),
         Box::new(Heading("Nine conditions")),
     ];
     for (k, name) in CONDITIONS.iter().enumerate() {
         let holds = move |moment: &Moment| moment.shown.conditions >> k & 1 == 1;
-        lanes.push(Bar::new(&format!("{k} {name}"), true, holds));
+        lanes.push(Bar::condition(&format!("{k} {name}"), holds));
     }
     lanes
 }
@@ -241,11 +259,11 @@ impl Packets {
     }
 }
 
-fn draw_refusal(svg: &mut Svg, k: usize, number: u8) {
-    svg.titled(&format!("refused by {number}: {}", reason(number)), |svg| {
+fn draw_refusal(svg: &mut Svg, k: usize, refusal: &Refusal) {
+    svg.titled(&refusal.in_words(), |svg| {
         svg.rect("refusal", k as f64 * COLUMN + 5.0, 5.0, COLUMN - 10.0, 26.0);
         svg.text("kind", middle(k), 14.0, "no");
-        svg.text("kind strong", middle(k), 27.0, &number.to_string());
+        svg.text("kind strong", middle(k), 27.0, &refusal.number.to_string());
     });
 }
 
@@ -264,8 +282,8 @@ impl Lane for Packets {
             for (row, packet) in moment.packets.iter().enumerate() {
                 self.draw(svg, k, row, packet);
             }
-            if let Some(number) = moment.refused {
-                draw_refusal(svg, k, number);
+            if let Some(refusal) = &moment.refused {
+                draw_refusal(svg, k, refusal);
             }
         }
     }

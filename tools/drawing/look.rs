@@ -7,8 +7,8 @@ pub const STYLE: &str = "
 text{font-family:'Liberation Sans',Arial,Helvetica,sans-serif;font-size:10px;fill:#0f172a}
 .title{font-size:18px;font-weight:700}.note{font-size:11px;fill:#334155}
 .head{font-size:11px;font-weight:700}.small,.thin{font-size:10px;fill:#334155}
-.journey{font-size:13px;font-weight:700}.event{font-size:10.5px}.number{font-size:9px;fill:#334155;text-anchor:middle}
-.column{fill:transparent;stroke:#e2e8f0;stroke-width:.6}.refused{fill:url(#refused)}
+.journey{font-size:13px;font-weight:700}.event{font-size:10.5px;paint-order:stroke;stroke:#fff;stroke-width:2px}.number{font-size:9px;fill:#334155;text-anchor:middle}
+.column{fill:transparent;stroke:#e2e8f0;stroke-width:.6}.refused{fill:url(#refused)}.later{fill:#e2e8f0}
 .gutter{fill:#fff}.load{stroke:#0f172a;stroke-width:2.4}
 .state{stroke:#0f172a;stroke-width:1}.code{font-size:13px;font-weight:700;text-anchor:middle}
 .doing{font-size:8.5px;text-anchor:middle}.dark{fill:#0f172a}.light{fill:#fff}
@@ -17,8 +17,8 @@ text{font-family:'Liberation Sans',Arial,Helvetica,sans-serif;font-size:10px;fil
 .p6{fill:url(#falling)}.p7{fill:url(#checks)}
 .value{stroke:#94a3b8;stroke-width:.6;fill:#f8fafc}.v1{fill:#cbd5e1}.v2{fill:#fda4af;stroke:#0f172a;stroke-width:1.2}
 .inside{font-size:9px;font-weight:700}.speed{font-size:9px;text-anchor:middle}
-.holds{fill:#334155}.lacks{fill:url(#lacks);stroke:#b91c1c;stroke-width:.6}
-.even{fill:#eef2ff}.odd{fill:#f8fafc}.unplaced{fill:url(#unplaced)}.boundary{stroke:#94a3b8;stroke-width:.8}
+.holds{fill:#334155}.idle{fill:#fff;stroke:#cbd5e1;stroke-width:.6}.lacks{fill:url(#lacks);stroke:#b91c1c;stroke-width:.6}
+.even{fill:#eef2ff}.odd{fill:#f8fafc}.unplaced{fill:url(#unplaced);stroke:#94a3b8;stroke-width:.6}.boundary{stroke:#94a3b8;stroke-width:.8}
 .zone{fill:url(#zone);stroke:#92400e;stroke-width:.6}
 .margin{fill:#7dd3fc;fill-opacity:.75;stroke:#0369a1;stroke-width:.6}.edge{stroke:#0369a1;stroke-width:.8;stroke-dasharray:1 2}
 .ahead{stroke:#475569;stroke-width:.9}.targeted{stroke:#1d4ed8;stroke-width:2.6}.reached{stroke:#9f1239;stroke-width:5}

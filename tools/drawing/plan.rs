@@ -20,6 +20,8 @@ pub struct Segment {
 }
 
 pub struct Point {
+    /// Which of the journey's points it is.
+    pub index: usize,
     pub name: String,
     pub nidtp: u32,
     pub segment: usize,
@@ -98,6 +100,7 @@ impl Plan {
         let segments: Vec<Segment> = route.segments().iter().enumerate().map(segment).collect();
         let end = segments[..placed].iter().map(|segment| segment.length).sum();
         let point = |(k, point): (usize, &route::Point)| Point {
+            index: k,
             name: names.point(&loads.0, segments[usize::from(point.segment)].nidc, point.nidtp),
             nidtp: point.nidtp,
             segment: usize::from(point.segment),
@@ -111,6 +114,12 @@ impl Plan {
         let points = route.points().iter().enumerate().map(point).collect();
         let (journey, book) = loads;
         Some(Plan { journey, book, operational: route.operational, segments, points, end })
+    }
+
+    /// The zones of placed segments: the segment, start and end.
+    pub fn zones(&self) -> impl Iterator<Item = (&Segment, i64, i64)> {
+        let placed = self.segments.iter().filter_map(|segment| Some((segment, segment.start?)));
+        placed.flat_map(|(segment, at)| segment.zones.iter().map(move |(from, to)| (segment, at + from, at + to)))
     }
 
     /// Of a position as it was reported.

@@ -7,6 +7,7 @@ use model::words::packet_in_words;
 use proved::hollwern::{self, Engine, PacketFields, Shown};
 use std::ops::Range;
 use tools::language::{Scenario, Step};
+use tools::refusals::row;
 
 /// Output memory that is lent: enough for what any event writes.
 const MEMORY: usize = 4096;
@@ -87,14 +88,30 @@ pub struct Written {
     pub words: String,
 }
 
+pub struct Refusal {
+    pub number: u8,
+    pub reason: String,
+}
+
+impl Refusal {
+    fn of(number: u8) -> Refusal {
+        Refusal { number, reason: row(number).into() }
+    }
+
+    pub fn in_words(&self) -> String {
+        format!("refused by {}: {}", self.number, self.reason)
+    }
+}
+
 /// What an event gave, and what holds after it.
 pub struct Moment {
     /// Its number in the picture.
     pub label: String,
     pub line: usize,
     pub text: String,
-    /// The number, if it was refused.
-    pub refused: Option<u8>,
+    /// It no longer matters to what the picture shows.
+    pub later: bool,
+    pub refused: Option<Refusal>,
     pub shown: Shown,
     pub reported: Reported,
     pub packets: Vec<Written>,
@@ -133,7 +150,8 @@ impl Ride {
                 label: (ride.moments.len() + 1).to_string(),
                 line: step.line,
                 text: step.text.clone(),
-                refused: (!answer.accepted).then_some(answer.number),
+                refused: (!answer.accepted).then(|| Refusal::of(answer.number)),
+                later: false,
                 shown: engine.show(),
                 reported,
                 packets,

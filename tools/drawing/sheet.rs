@@ -115,9 +115,12 @@ fn columns(stretch: usize, moments: &[Moment], height: f64, lanes: &[Box<dyn Lan
     let mut svg = Svg::default();
     for (k, moment) in moments.iter().enumerate() {
         let left = k as f64 * COLUMN;
-        let draw = |svg: &mut Svg| {
-            svg.rect(if moment.refused.is_some() { "column refused" } else { "column" }, left, 0.0, COLUMN, height);
+        let class = match (&moment.refused, moment.later) {
+            (Some(_), _) => "column refused",
+            (None, true) => "column later",
+            (None, false) => "column",
         };
+        let draw = |svg: &mut Svg| svg.rect(class, left, 0.0, COLUMN, height);
         let title = column_in_words(moment);
         if linked {
             svg.linked(&format!("#e{}", moment.label), |svg| svg.named(&format!("c{}", moment.label), &title, draw));

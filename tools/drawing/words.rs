@@ -7,40 +7,15 @@ use std::ops::Range;
 
 /// What the driver may do in each state: in a word or two, and at length.
 pub const DRIVER: [[&str; 2]; 8] = [
-    ["power on", "may power on"],
-    ["wait", "waits until the unit is configured"],
-    ["drive by hand", "drives by hand; engaging is not possible"],
-    ["drive by hand", "drives by hand; may engage once lever neutral, mode other and train conditions make it ready"],
-    ["press engage", "may press engage, or drive by hand"],
-    ["hands off", "hands off; brake, or leaving AD, disengages"],
-    ["take over: brake", "takes over: brake, or leave AD"],
-    ["drive by hand", "drives by hand; power off is all that is left"],
+    ["power on", "drive by hand; power on for the unit"],
+    ["wait", "drive by hand; wait until the unit is configured"],
+    ["drive by hand", "drive by hand; no engaging while conditions are lacking"],
+    ["drive by hand", "drive by hand; engaging waits for train conditions, lever neutral and mode other"],
+    ["press engage", "press engage, or drive by hand"],
+    ["hands off", "hands off; the lever at brake, or leaving AD, disengages"],
+    ["take over: brake", "take over by the lever at brake or by leaving AD"],
+    ["drive by hand", "drive by hand; only power off is left to the unit"],
 ];
-
-/// The table of numbers, so far as an event gets them.
-const REASONS: [&str; 16] = [
-    "event empty, of unknown kind or wrong length",
-    "field of the event out of range",
-    "no power",
-    "power is on already",
-    "fault: only power off is left",
-    "not in this state",
-    "book: bad map, range or length",
-    "book: a segment or, in one record, a timing point twice, or over 40 records",
-    "journey: bad map, range or length",
-    "journey: a segment twice",
-    "journey: index beyond, a timing point twice, not just one End of Journey, or a booked segment without the point",
-    "journey: index falls, or places do not rise",
-    "offset beyond the segment's length",
-    "no stop of that name",
-    "point reached or passed, skip already given, or none to revoke",
-    "output memory too short",
-];
-
-/// The reason of a refusal.
-pub fn reason(number: u8) -> &'static str {
-    REASONS.get(usize::from(number).wrapping_sub(1)).copied().unwrap_or("a number that no event gets")
-}
 
 pub fn grouped(number: i64) -> String {
     let digits = number.unsigned_abs().to_string();
@@ -91,7 +66,7 @@ pub fn wrapped(text: &str, width: usize, most: usize) -> Option<Vec<String>> {
 
 pub fn state_in_words(state: u8) -> String {
     let code = usize::from(state);
-    format!("{} {}: the driver {}", STATES[code], STATE_NAMES[code], DRIVER[code][1])
+    format!("{} {}: the driver may {}", STATES[code], STATE_NAMES[code], DRIVER[code][1])
 }
 
 pub fn point_in_words(plan: &Plan, point: &Point) -> String {
@@ -135,8 +110,8 @@ pub fn moment_in_words(moment: &Moment) -> Vec<String> {
 }
 
 pub fn answer_in_words(moment: &Moment) -> String {
-    if let Some(number) = moment.refused {
-        return format!("refused by {number}: {}", reason(number));
+    if let Some(refusal) = &moment.refused {
+        return refusal.in_words();
     }
     let code = usize::from(moment.shown.state);
     let request = if moment.shown.request { "AD requested" } else { "AD not requested" };
