@@ -38,10 +38,19 @@ struct Panel<'a> {
 
 impl<'a> Journey<'a> {
     pub fn of(ride: &'a Ride) -> Journey<'a> {
+        Journey::over(ride, 230.0)
+    }
+
+    pub fn low(ride: &'a Ride) -> Journey<'a> {
+        Journey::over(ride, 70.0)
+    }
+
+    /// `shared` of the height is shared out by length.
+    fn over(ride: &'a Ride, shared: f64) -> Journey<'a> {
         let stretches = || ride.stretches.iter().map(|stretch| (stretch, stretch.plan.as_ref()));
         let drawn = stretches().map(|(stretch, plan)| Some((plan?, marks(plan?, &ride.moments[stretch.moments.clone()]))));
         let drawn: Vec<Option<(&Plan, Marks)>> = drawn.collect();
-        let needed = drawn.iter().flatten().map(|(plan, marks)| unplaced_height(plan) + marks.height());
+        let needed = drawn.iter().flatten().map(|(plan, marks)| unplaced_height(plan) + marks.height() + shared);
         let inside = needed.fold(60.0, f64::max);
         let panel = |(plan, marks): (&'a Plan, Marks)| Panel {
             plan,

@@ -9,7 +9,7 @@ text{font-family:'Liberation Sans',Arial,Helvetica,sans-serif;font-size:10px;fil
 .head{font-size:11px;font-weight:700}.small,.thin{font-size:10px;fill:#334155}
 .journey{font-size:13px;font-weight:700}.event{font-size:10.5px;paint-order:stroke;stroke:#fff;stroke-width:2px}.number{font-size:9px;fill:#334155;text-anchor:middle}
 .column{fill:transparent;stroke:#e2e8f0;stroke-width:.6}.refused{fill:url(#refused)}.later{fill:#e2e8f0}
-.gutter{fill:#fff}.load{stroke:#0f172a;stroke-width:2.4}
+.strip{stroke:#0f172a;stroke-width:1}.gutter{fill:#fff}.load{stroke:#0f172a;stroke-width:2.4}
 .state{stroke:#0f172a;stroke-width:1}.code{font-size:13px;font-weight:700;text-anchor:middle}
 .doing{font-size:8.5px;text-anchor:middle}.dark{fill:#0f172a}.light{fill:#fff}
 .s0{fill:#fff}.s1{fill:#e2e8f0}.s2{fill:#fecaca}.s3{fill:#fef3c7}.s4{fill:#bfdbfe}.s5{fill:#166534}.s6{fill:#fdba74}.s7{fill:#111}

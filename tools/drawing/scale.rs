@@ -3,9 +3,6 @@
 
 use std::collections::{BTreeMap, BTreeSet};
 
-/// Shared out by length.
-const SHARED: f64 = 230.0;
-
 /// Least gaps: between whatever differs, and between what has a name.
 const APART: f64 = 3.0;
 const NAME: f64 = 13.0;
@@ -45,9 +42,9 @@ impl Marks {
         gaps.into_iter().collect()
     }
 
-    /// The height that they need.
+    /// The height that they need at least.
     pub fn height(&self) -> f64 {
-        SHARED + self.wide_gaps().iter().map(|(_, gap)| gap).sum::<f64>()
+        self.wide_gaps().iter().map(|(_, gap)| gap).sum::<f64>()
     }
 
     /// Over this height, which is enough.

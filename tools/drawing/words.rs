@@ -4,6 +4,7 @@ use crate::plan::{Plan, Point};
 use crate::ride::Moment;
 use model::words::{ALIGNMENTS, LEVERS, MODES, STATES, STATE_NAMES};
 use std::ops::Range;
+use tools::outcomes::grouped;
 
 /// What the driver may do in each state: in a word or two, and at length.
 pub const DRIVER: [[&str; 2]; 8] = [
@@ -17,22 +18,10 @@ pub const DRIVER: [[&str; 2]; 8] = [
     ["drive by hand", "drive by hand; only power off is left to the unit"],
 ];
 
-pub fn grouped(number: i64) -> String {
-    let digits = number.unsigned_abs().to_string();
-    let mut text = String::from(if number < 0 { "-" } else { "" });
-    for (k, digit) in digits.chars().enumerate() {
-        if k > 0 && (digits.len() - k) % 3 == 0 {
-            text.push(',');
-        }
-        text.push(digit);
-    }
-    text
-}
-
 /// A distance in cm, told in metres.
 pub fn metres(distance: i64) -> String {
     let sign = if distance < 0 { "-" } else { "" };
-    let (whole, rest) = (grouped((distance / 100).abs()), (distance % 100).abs());
+    let (whole, rest) = (grouped((distance / 100).unsigned_abs()), (distance % 100).abs());
     let decimals = format!(".{rest:02}");
     format!("{sign}{whole}{} m", if rest == 0 { "" } else { decimals.trim_end_matches('0') })
 }
