@@ -1,4 +1,5 @@
-//! `draw SCENARIO OUT.svg`: a scenario's run as a picture. `draw SCENARIO OUT.html`: the same picture, the words beside it.
+//! `draw SCENARIO OUT.svg`: a scenario's run as a picture.
+//! `draw SCENARIO OUT.html`: the same picture, the words beside it.
 
 use drawing::page::{page, picture};
 use drawing::ride::{Names, Ride};

@@ -1,7 +1,7 @@
-//! `orders [--draw OUT.svg] SCENARIO`: every order of up to ten events. The scenario has a line `orders [POINT ..]`: what
-//! stands before it is the fixed beginning, the events below come in every order, and what is recorded of those points is
-//! told (none: of all). Each step goes through the proved engine by its C interface and is compared with the model; shared
-//! beginnings are stepped once. `--draw` draws the shortest order of each kind of recording.
+//! `orders [--draw OUT.svg] SCENARIO`: every order of up to ten events. The scenario has a line `orders [POINT ..]`:
+//! what stands before it is the fixed beginning, the events below come in every order, and what is recorded of those
+//! points is told (none: of all). Each step goes through the proved engine by its C interface and is compared with the
+//! model; shared beginnings are stepped once. `--draw` draws the shortest order of each kind of recording.
 
 use drawing::ride::{Names, Ride};
 use drawing::strips::{picture, Strip};
@@ -157,19 +157,21 @@ impl Task<'_> {
     }
 
     fn picture(&self, kinds: &[(String, &Kind)]) -> String {
-        let orders: u64 = kinds.iter().map(|(_, kind)| kind.orders).sum();
+        let orders = grouped(kinds.iter().map(|(_, kind)| kind.orders).sum());
         let strip = |(words, kind): &(String, &Kind)| Strip {
             heading: words.clone(),
-            note: format!("{} of {} orders; this one: {}", grouped(kind.orders), grouped(orders), kind.order_in_words()),
+            note: format!("{} of {orders} orders; this one: {}", grouped(kind.orders), kind.order_in_words()),
             ride: self.ride(kind),
         };
         let strips: Vec<Strip> = kinds.iter().take(SHOWN).map(strip).collect();
         let name = Path::new(self.file).file_name().map_or(self.file.into(), |name| name.to_string_lossy());
-        let title = format!("{name}: {} orders of {} events", grouped(orders), self.events.len());
-        let shown = if strips.len() < kinds.len() { format!(", the {SHOWN} commonest") } else { String::new() };
+        let title = format!("{name}: {orders} orders of {} events", self.events.len());
+        let most = if strips.len() < kinds.len() { format!(", the {SHOWN} commonest") } else { String::new() };
         let notes = [
-            format!("{} kinds of recordings of these points{shown}, each by its shortest order: where all is recorded first.", kinds.len()),
-            "The first column is the last event of the fixed beginning. Grey columns record nothing more of these points.".into(),
+            format!("{} kinds of recordings of these points{most}.", kinds.len()),
+            "Each is shown by its shortest order: the one in which all is recorded after the fewest events.".into(),
+            "The first column is the last event of the fixed beginning; grey columns record nothing more of the points."
+                .into(),
         ];
         picture(&title, &notes, &strips)
     }

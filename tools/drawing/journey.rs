@@ -48,7 +48,8 @@ impl<'a> Journey<'a> {
     /// `shared` of the height is shared out by length.
     fn over(ride: &'a Ride, shared: f64) -> Journey<'a> {
         let stretches = || ride.stretches.iter().map(|stretch| (stretch, stretch.plan.as_ref()));
-        let drawn = stretches().map(|(stretch, plan)| Some((plan?, marks(plan?, &ride.moments[stretch.moments.clone()]))));
+        let drawn =
+            stretches().map(|(stretch, plan)| Some((plan?, marks(plan?, &ride.moments[stretch.moments.clone()]))));
         let drawn: Vec<Option<(&Plan, Marks)>> = drawn.collect();
         let needed = drawn.iter().flatten().map(|(plan, marks)| unplaced_height(plan) + marks.height() + shared);
         let inside = needed.fold(60.0, f64::max);
@@ -151,7 +152,9 @@ impl Panel<'_> {
         for (k, segment) in self.plan.segments.iter().enumerate() {
             let (top, low) = self.ends(k);
             let title = match segment.start {
-                Some(start) => format!("{}: from {} to {}", segment.name, metres(start), metres(start + segment.length)),
+                Some(start) => {
+                    format!("{}: from {} to {}", segment.name, metres(start), metres(start + segment.length))
+                }
                 None => format!("{}: not placed, since it or a segment before it is not in the book", segment.name),
             };
             let class = match segment.start {
@@ -200,7 +203,8 @@ impl Panel<'_> {
     fn draw_margins(&self, svg: &mut Svg, moments: &[Moment]) {
         for point in &self.plan.points {
             for (left, width, (train, skipped, passed)) in margin_runs(moments, point) {
-                let margin = point.margin(train, skipped).filter(|margin| margin.end >= 0 && margin.start <= self.plan.end);
+                let margin =
+                    point.margin(train, skipped).filter(|margin| margin.end >= 0 && margin.start <= self.plan.end);
                 let Some(margin) = margin.filter(|_| !passed) else { continue };
                 let (top, low) = (self.y(margin.end), self.y(margin.start));
                 svg.titled(&margin_in_words(point, train, &margin), |svg| {
@@ -276,7 +280,8 @@ impl Panel<'_> {
 
     fn draw_told(&self, svg: &mut Svg, moments: &[Moment]) {
         for (k, moment) in moments.iter().enumerate() {
-            let told: Vec<(f64, &Written)> = moment.packets.iter().filter_map(|told| Some((self.told_at(told)?, told))).collect();
+            let told: Vec<(f64, &Written)> =
+                moment.packets.iter().filter_map(|told| Some((self.told_at(told)?, told))).collect();
             for (y, packet) in &told {
                 let (x, status) = (middle(k), packet.fields.status);
                 let crowded = told.iter().any(|(other, _)| (1.0..18.0).contains(&(y - other)));

@@ -156,13 +156,22 @@ impl Bar {
     }
 
     fn request() -> Box<dyn Lane> {
-        Box::new(Bar { head: "AD request".into(), thin: false, not: ("idle", "no"), of: Box::new(|moment| moment.shown.request) })
+        Box::new(Bar {
+            head: "AD request".into(),
+            thin: false,
+            not: ("idle", "no"),
+            of: Box::new(|moment| moment.shown.request),
+        })
     }
 }
 
 impl Lane for Bar {
     fn height(&self) -> f64 {
-        if self.thin { 12.0 } else { 18.0 }
+        if self.thin {
+            12.0
+        } else {
+            18.0
+        }
     }
 
     fn label(&self, svg: &mut Svg) {
@@ -246,7 +255,11 @@ impl Packets {
 
     /// The height of one.
     fn step(&self) -> f64 {
-        if self.most > 8 { 10.0 } else { 16.0 }
+        if self.most > 8 {
+            10.0
+        } else {
+            16.0
+        }
     }
 
     fn draw(&self, svg: &mut Svg, k: usize, row: usize, packet: &Written) {

@@ -7,27 +7,34 @@ pub const STYLE: &str = "
 text{font-family:'Liberation Sans',Arial,Helvetica,sans-serif;font-size:10px;fill:#0f172a}
 .title{font-size:18px;font-weight:700}.note{font-size:11px;fill:#334155}
 .head{font-size:11px;font-weight:700}.small,.thin{font-size:10px;fill:#334155}
-.journey{font-size:13px;font-weight:700}.event{font-size:10.5px;paint-order:stroke;stroke:#fff;stroke-width:2px}.number{font-size:9px;fill:#334155;text-anchor:middle}
+.journey{font-size:13px;font-weight:700}.event{font-size:10.5px;paint-order:stroke;stroke:#fff;stroke-width:2px}
+.number{font-size:9px;fill:#334155;text-anchor:middle}
 .column{fill:transparent;stroke:#e2e8f0;stroke-width:.6}.refused{fill:url(#refused)}.later{fill:#e2e8f0}
 .strip{stroke:#0f172a;stroke-width:1}.gutter{fill:#fff}.load{stroke:#0f172a;stroke-width:2.4}
 .state{stroke:#0f172a;stroke-width:1}.code{font-size:13px;font-weight:700;text-anchor:middle}
 .doing{font-size:8.5px;text-anchor:middle}.dark{fill:#0f172a}.light{fill:#fff}
-.s0{fill:#fff}.s1{fill:#e2e8f0}.s2{fill:#fecaca}.s3{fill:#fef3c7}.s4{fill:#bfdbfe}.s5{fill:#166534}.s6{fill:#fdba74}.s7{fill:#111}
+.s0{fill:#fff}.s1{fill:#e2e8f0}.s2{fill:#fecaca}.s3{fill:#fef3c7}.s4{fill:#bfdbfe}.s5{fill:#166534}.s6{fill:#fdba74}
+.s7{fill:#111}
 .p0{fill:#fff}.p1{fill:url(#dots)}.p2{fill:url(#rising)}.p3{fill:url(#upright)}.p4{fill:url(#level)}.p5{fill:#052e16}
 .p6{fill:url(#falling)}.p7{fill:url(#checks)}
 .value{stroke:#94a3b8;stroke-width:.6;fill:#f8fafc}.v1{fill:#cbd5e1}.v2{fill:#fda4af;stroke:#0f172a;stroke-width:1.2}
 .inside{font-size:9px;font-weight:700}.speed{font-size:9px;text-anchor:middle}
-.holds{fill:#334155}.idle{fill:#fff;stroke:#cbd5e1;stroke-width:.6}.lacks{fill:url(#lacks);stroke:#b91c1c;stroke-width:.6}
-.even{fill:#eef2ff}.odd{fill:#f8fafc}.unplaced{fill:url(#unplaced);stroke:#94a3b8;stroke-width:.6}.boundary{stroke:#94a3b8;stroke-width:.8}
+.holds{fill:#334155}.idle{fill:#fff;stroke:#cbd5e1;stroke-width:.6}
+.lacks{fill:url(#lacks);stroke:#b91c1c;stroke-width:.6}
+.even{fill:#eef2ff}.odd{fill:#f8fafc}.unplaced{fill:url(#unplaced);stroke:#94a3b8;stroke-width:.6}
+.boundary{stroke:#94a3b8;stroke-width:.8}
 .zone{fill:url(#zone);stroke:#92400e;stroke-width:.6}
-.margin{fill:#7dd3fc;fill-opacity:.75;stroke:#0369a1;stroke-width:.6}.edge{stroke:#0369a1;stroke-width:.8;stroke-dasharray:1 2}
-.ahead{stroke:#475569;stroke-width:.9}.targeted{stroke:#1d4ed8;stroke-width:2.6}.reached{stroke:#9f1239;stroke-width:5}
-.core{stroke:#fff;stroke-width:1.6}.passed{stroke:#475569;stroke-width:.9;stroke-dasharray:1 3}.dashes{stroke-dasharray:7 4}
+.margin{fill:#7dd3fc;fill-opacity:.75;stroke:#0369a1;stroke-width:.6}
+.edge{stroke:#0369a1;stroke-width:.8;stroke-dasharray:1 2}
+.ahead{stroke:#475569;stroke-width:.9}.targeted{stroke:#1d4ed8;stroke-width:2.6}
+.reached{stroke:#9f1239;stroke-width:5}
+.core{stroke:#fff;stroke-width:1.6}.passed{stroke:#475569;stroke-width:.9;stroke-dasharray:1 3}
+.dashes{stroke-dasharray:7 4}
 .aim{fill:#1d4ed8}
 .way{fill:none;stroke:#000;stroke-width:1.8;stroke-linejoin:round}.front{fill:#000}
 .unknown{font-size:12px;font-weight:700;text-anchor:middle}
 .segment{font-size:9px;fill:#334155}.stop{font-weight:700;text-anchor:end}.passing{text-anchor:end}
-.stop,.passing,.segment,.told{paint-order:stroke;stroke:#fff;stroke-width:2.6px;stroke-linejoin:round}
+.stop,.passing,.segment,.told,.unknown{paint-order:stroke;stroke:#fff;stroke-width:2.6px;stroke-linejoin:round}
 .told{font-size:8px;font-weight:700;text-anchor:middle}
 .mark{stroke:#fff;stroke-width:.8}.stopped{fill:#9f1239}.departed{fill:#166534}.mark.passing{fill:#1d4ed8}
 .cross{stroke:#6b21a8;stroke-width:2.4}.ring{fill:#fff;stroke:#6b21a8;stroke-width:2}
@@ -55,9 +62,11 @@ pub fn patterns() -> String {
     text += &stripes("refused", 7.0, -45, "none", "#fca5a5", 1.6);
     text += &stripes("unplaced", 9.0, 60, "#fff", "#94a3b8", 1.6);
     text += "<pattern id=\"dots\" width=\"4\" height=\"4\" patternUnits=\"userSpaceOnUse\">\
-             <rect width=\"4\" height=\"4\" fill=\"#fff\"/><circle cx=\"2\" cy=\"2\" r=\".9\" fill=\"#334155\"/></pattern>\n";
+             <rect width=\"4\" height=\"4\" fill=\"#fff\"/><circle cx=\"2\" cy=\"2\" r=\".9\" fill=\"#334155\"/>\
+             </pattern>\n";
     text += "<pattern id=\"checks\" width=\"6\" height=\"6\" patternUnits=\"userSpaceOnUse\">\
-             <rect width=\"6\" height=\"6\" fill=\"#fff\"/><path d=\"M0 0H3V3H0ZM3 3H6V6H3Z\" fill=\"#000\"/></pattern>\n";
+             <rect width=\"6\" height=\"6\" fill=\"#fff\"/><path d=\"M0 0H3V3H0ZM3 3H6V6H3Z\" fill=\"#000\"/>\
+             </pattern>\n";
     text + "</defs>\n"
 }
 

@@ -28,7 +28,8 @@ pub fn lanes(ride: &Ride) -> Vec<Box<dyn Lane + '_>> {
 pub fn document(title: &str, width: f64, height: f64, drawing: &Svg) -> String {
     let (width, height) = (pixels(width), pixels(height));
     format!(
-        "<svg xmlns=\"http://www.w3.org/2000/svg\" width=\"{width}\" height=\"{height}\" viewBox=\"0 0 {width} {height}\">\n\
+        "<svg xmlns=\"http://www.w3.org/2000/svg\" width=\"{width}\" height=\"{height}\" \
+         viewBox=\"0 0 {width} {height}\">\n\
          <title>{}</title>\n<style>{STYLE}</style>\n{}<rect width=\"100%\" height=\"100%\" fill=\"#fff\"/>\n{}</svg>\n",
         escaped(title),
         patterns(),
@@ -91,13 +92,15 @@ fn stretch(gutter: &Option<Part>, columns: &Part, height: f64) -> String {
 pub fn page(title: &str, ride: &Ride) -> String {
     let sheet = Sheet::of(ride, &lanes(ride), true);
     let title = escaped(title);
-    let stretches: String = sheet.stretches.iter().map(|(gutter, columns)| stretch(gutter, columns, sheet.height)).collect();
+    let stretches: String =
+        sheet.stretches.iter().map(|(gutter, columns)| stretch(gutter, columns, sheet.height)).collect();
     let legend = Part { width: 880.0, svg: legend(880.0) };
     let words: String = ride.moments.iter().map(told).collect();
     format!(
         "<!DOCTYPE html>\n<html lang=\"en\"><head><meta charset=\"utf-8\"/><title>{title}</title>\n\
          <style>{STYLE}{PAGE}</style></head><body>\n\
-         <header><h1>{title}</h1><p>{}</p><p>Click a column to read of it, and an event's name to see its column.</p></header>\n\
+         <header><h1>{title}</h1><p>{}</p>\
+         <p>Click a column to read of it, and an event's name to see its column.</p></header>\n\
          <main><div class=\"picture\"><svg width=\"0\" height=\"0\" style=\"position:absolute\">{}</svg>\n\
          <div class=\"sheet\">{}{stretches}</div>\n<div class=\"legend\">{}</div></div>\n\
          <div class=\"words\"><ol>\n{words}</ol></div></main></body></html>\n",

@@ -133,7 +133,9 @@ impl Plan {
         };
         let (segment, offset) = (&self.segments[k], i64::from(position.offset));
         match segment.start {
-            _ if segment.booked && offset > segment.length => Front::Unknown("the offset is beyond its segment's length"),
+            _ if segment.booked && offset > segment.length => {
+                Front::Unknown("the offset is beyond its segment's length")
+            }
             Some(start) => Front::At(start + offset),
             None => Front::On(k),
         }

@@ -132,33 +132,32 @@ pub struct Ride {
 }
 
 impl Ride {
-    /// The steps through an engine, from where it is fresh.
+    /// The steps through an engine that is fresh.
     pub fn of<'a>(mut engine: Engine, names: &Names, steps: impl Iterator<Item = &'a Step>) -> Ride {
         let mut ride = Ride { moments: Vec::new(), stretches: vec![Stretch { plan: None, moments: 0..0 }] };
         let (mut reported, mut skips) = (Reported::FRESH, Vec::new());
         for step in steps {
             let mut out = [0; MEMORY];
             let answer = engine.step(&step.call.event, &step.call.journey, &step.call.book, &mut out);
-            let packets = if answer.accepted { read_packets(&out[..answer.bytes], names) } else { Vec::new() };
+            let packets = read_packets(&out[..if answer.accepted { answer.bytes } else { 0 }], names);
             reported.now = false;
             if let (true, Ok(event)) = (answer.accepted, read_event(&step.call.event)) {
                 reported.accept(event);
                 ride.turn(event, step, names);
                 follow_skips(&mut skips, event, &packets);
             }
-            let moment = Moment {
+            ride.add(Moment {
                 label: (ride.moments.len() + 1).to_string(),
                 line: step.line,
                 text: step.text.clone(),
-                refused: (!answer.accepted).then(|| Refusal::of(answer.number)),
                 later: false,
+                refused: (!answer.accepted).then(|| Refusal::of(answer.number)),
                 shown: engine.show(),
                 reported,
                 packets,
                 skips: skips.clone(),
                 front: ride.front(reported.position),
-            };
-            ride.add(moment);
+            });
         }
         ride.stretches.retain(|stretch| !stretch.moments.is_empty());
         ride

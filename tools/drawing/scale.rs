@@ -1,5 +1,5 @@
-//! Distances as heights. What differs is drawn apart: each gap between two distances that matter has a least height, the
-//! rest of the height is shared out by length. So above and below are always right, lengths only about.
+//! Distances as heights. What differs is drawn apart: each gap between two distances that matter has a least height,
+//! the rest of the height is shared out by length. So above and below are always right, lengths only about.
 
 use std::collections::{BTreeMap, BTreeSet};
 
@@ -71,7 +71,9 @@ impl Scale {
     pub fn height(&self, distance: i64) -> f64 {
         let k = self.stops.partition_point(|stop| stop.0 < distance);
         match (k.checked_sub(1).map(|k| self.stops[k]), self.stops.get(k)) {
-            (Some((from, low)), Some(&(to, high))) => low + (high - low) * (distance - from) as f64 / (to - from) as f64,
+            (Some((from, low)), Some(&(to, high))) => {
+                low + (high - low) * (distance - from) as f64 / (to - from) as f64
+            }
             (Some((_, low)), None) => low,
             (None, Some(&(_, high))) => high,
             (None, None) => 0.0,

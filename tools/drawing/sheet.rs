@@ -1,5 +1,5 @@
-//! The parts of a picture: lanes one under the other; the held labels on the left, then a stretch for each journey, with
-//! a gutter for the names of its segments and points where it begins.
+//! The parts of a picture: lanes one under the other; the held labels on the left, then a stretch for each journey,
+//! with a gutter for the names of its segments and points where it begins.
 
 use crate::ride::{Moment, Ride, Stretch};
 use crate::svg::Svg;

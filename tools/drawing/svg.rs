@@ -28,7 +28,11 @@ pub fn escaped(text: &str) -> String {
 pub fn pixels(value: f64) -> String {
     let text = format!("{value:.1}");
     let text = text.strip_suffix(".0").unwrap_or(&text);
-    if text == "-0" { "0".into() } else { text.into() }
+    if text == "-0" {
+        "0".into()
+    } else {
+        text.into()
+    }
 }
 
 fn attributes(pairs: &[(&str, f64)]) -> String {

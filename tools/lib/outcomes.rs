@@ -37,7 +37,7 @@ impl Outcome {
     fn in_words(&self, points: &[String]) -> String {
         let point = |(k, name): (usize, &String)| {
             let kinds: Vec<&str> = (0..KINDS.len()).filter(|&kind| self.has(kind, k)).map(|kind| KINDS[kind]).collect();
-            format!("{name} {}", kinds.join(", "))
+            format!("{name} {}", kinds.join(" and "))
         };
         points.iter().enumerate().map(point).collect::<Vec<_>>().join("; ")
     }
@@ -227,7 +227,8 @@ impl Outcomes {
             1 => "one kind of recording".into(),
             count => format!("{} kinds of recordings", grouped(count as u64)),
         };
-        let mut text = format!("\n{count} of these points together; in the shortest order of each all is recorded before |\n");
+        let mut text =
+            format!("\n{count} of these points together, each with its shortest order: all is recorded before |\n");
         for (words, kind) in kinds.iter().take(SHOWN) {
             text += &format!("  {words}: {} orders; {}\n", grouped(kind.orders), kind.order_in_words());
         }
