@@ -12,7 +12,7 @@ use proved::pair::{Memory, Pair};
 use std::hash::{DefaultHasher, Hash, Hasher};
 use std::path::Path;
 use tools::language::{Scenario, Step};
-use tools::outcomes::{grouped, Kind, Outcome, Outcomes, MOST, SHOWN};
+use tools::outcomes::{grouped, orders_in_words, Kind, Outcome, Outcomes, MOST, SHOWN};
 use tools::refusals::row;
 
 const USAGE: &str = "usage: tools/orders [--draw OUT.svg] [SCENARIO]";
@@ -157,15 +157,15 @@ impl Task<'_> {
     }
 
     fn picture(&self, kinds: &[(String, &Kind)]) -> String {
-        let orders = grouped(kinds.iter().map(|(_, kind)| kind.orders).sum());
+        let orders = orders_in_words(kinds.iter().map(|(_, kind)| kind.orders).sum());
         let strip = |(words, kind): &(String, &Kind)| Strip {
             heading: words.clone(),
-            note: format!("{} of {orders} orders; this one: {}", grouped(kind.orders), kind.order_in_words()),
+            note: format!("{} of {orders}; this one: {}", grouped(kind.orders), kind.order_in_words()),
             ride: self.ride(kind),
         };
         let strips: Vec<Strip> = kinds.iter().take(SHOWN).map(strip).collect();
         let name = Path::new(self.file).file_name().map_or(self.file.into(), |name| name.to_string_lossy());
-        let title = format!("{name}: {orders} orders of {} events", self.events.len());
+        let title = format!("{name}: {orders} of {} events", self.events.len());
         let most = if strips.len() < kinds.len() { format!(", the {SHOWN} commonest") } else { String::new() };
         let notes = [
             format!("{} kinds of recordings of these points{most}.", kinds.len()),

@@ -133,7 +133,7 @@ impl Lane for Named {
             svg.titled(&format!("{}: {name}", self.head), |svg| {
                 svg.rect(&format!("value v{value}"), left + 1.0, 2.0, width - 2.0, 14.0);
                 for (left, width) in parts(left, width) {
-                    svg.text("inside", left + 4.0, 12.5, &cut(name, letters(width - 2.0, 8.0)));
+                    svg.text("inside", left + 3.0, 12.5, &cut(name, letters(width - 2.0, 8.0)));
                 }
             });
         }

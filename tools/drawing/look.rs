@@ -18,10 +18,10 @@ text{font-family:'Liberation Sans',Arial,Helvetica,sans-serif;font-size:10px;fil
 .p0{fill:#fff}.p1{fill:url(#dots)}.p2{fill:url(#rising)}.p3{fill:url(#upright)}.p4{fill:url(#level)}.p5{fill:#052e16}
 .p6{fill:url(#falling)}.p7{fill:url(#checks)}
 .value{stroke:#94a3b8;stroke-width:.6;fill:#f8fafc}.v1{fill:#cbd5e1}.v2{fill:#fda4af;stroke:#0f172a;stroke-width:1.2}
-.inside{font-size:9px;font-weight:700}.speed{font-size:9px;text-anchor:middle}
+.inside{font-size:8.5px}.speed{font-size:9px;text-anchor:middle}
 .holds{fill:#334155}.idle{fill:#fff;stroke:#cbd5e1;stroke-width:.6}
 .lacks{fill:url(#lacks);stroke:#b91c1c;stroke-width:.6}
-.even{fill:#eef2ff}.odd{fill:#f8fafc}.unplaced{fill:url(#unplaced);stroke:#94a3b8;stroke-width:.6}
+.even,.odd{fill:#e0e7ff;fill-opacity:.55}.odd{fill:#f1f5f9}.unplaced{fill:url(#unplaced);stroke:#94a3b8;stroke-width:.6}
 .boundary{stroke:#94a3b8;stroke-width:.8}
 .zone{fill:url(#zone);stroke:#92400e;stroke-width:.6}
 .margin{fill:#7dd3fc;fill-opacity:.75;stroke:#0369a1;stroke-width:.6}

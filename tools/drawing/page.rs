@@ -66,6 +66,7 @@ main{display:grid;grid-template-columns:minmax(0,1fr) 25rem;height:calc(100vh - 
 .labels{position:sticky;left:0;z-index:2;padding-left:14px}.stretch{display:flex}
 .held{position:sticky;left:164px;z-index:1;border-right:1px solid #94a3b8}
 .column:hover{fill:#0f172a;fill-opacity:.06}g:target>.column{fill:#facc15;fill-opacity:.35}
+.event,.number,.speed{pointer-events:none}
 .legend{padding:8px 14px;position:sticky;left:0;width:max-content}
 ol{list-style:none;margin:0;padding:0}li{padding:6px 12px;border-bottom:1px solid #e2e8f0}li:target{background:#fef08a}
 li a{color:inherit;font-weight:700}li div{margin-left:14px;overflow-wrap:anywhere;font-size:12px}

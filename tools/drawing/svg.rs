@@ -64,6 +64,9 @@ impl Svg {
     }
 
     pub fn polyline(&mut self, class: &str, points: &[(f64, f64)]) {
+        if points.len() < 2 {
+            return;
+        }
         self.text += &format!("<polyline class=\"{class}\" points=\"{}\"/>\n", list(points));
     }
 

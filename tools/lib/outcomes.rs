@@ -35,6 +35,9 @@ impl Outcome {
 
     /// Of each point, by its name.
     fn in_words(&self, points: &[String]) -> String {
+        if points.is_empty() {
+            return "no point to record of".into();
+        }
         let point = |(k, name): (usize, &String)| {
             let kinds: Vec<&str> = (0..KINDS.len()).filter(|&kind| self.has(kind, k)).map(|kind| KINDS[kind]).collect();
             format!("{name} {}", kinds.join(" and "))
@@ -125,6 +128,10 @@ pub fn grouped(number: u64) -> String {
     text
 }
 
+pub fn orders_in_words(orders: u64) -> String {
+    format!("{} {}", grouped(orders), if orders == 1 { "order" } else { "orders" })
+}
+
 fn numbers(events: &[usize]) -> String {
     events.iter().map(|k| (k + 1).to_string()).collect::<Vec<_>>().join(" ")
 }
@@ -147,7 +154,7 @@ impl Class {
     }
 
     fn in_words(&self, kind: &str, events: usize) -> String {
-        let mut text = format!("  {kind}: {} orders", grouped(self.orders));
+        let mut text = format!("  {kind}: {}", orders_in_words(self.orders));
         let pairs = self.pairs(events).join(", ");
         if self.orders == factorial(events) {
             text += ", all";
@@ -223,14 +230,12 @@ impl Outcomes {
 
     fn kinds_in_words(&self, points: &[String]) -> String {
         let kinds = self.kinds(points);
-        let count = match kinds.len() {
-            1 => "one kind of recording".into(),
-            count => format!("{} kinds of recordings", grouped(count as u64)),
-        };
+        let count = if kinds.len() == 1 { "1 kind".into() } else { format!("{} kinds", grouped(kinds.len() as u64)) };
         let mut text =
-            format!("\n{count} of these points together, each with its shortest order: all is recorded before |\n");
+            format!("\n{count} of recordings of these points together; the shortest order of each records all ");
+        text += "before |\n";
         for (words, kind) in kinds.iter().take(SHOWN) {
-            text += &format!("  {words}: {} orders; {}\n", grouped(kind.orders), kind.order_in_words());
+            text += &format!("  {words}: {}; {}\n", orders_in_words(kind.orders), kind.order_in_words());
         }
         if kinds.len() > SHOWN {
             text += &format!("  and {} more, none of them commoner\n", grouped((kinds.len() - SHOWN) as u64));
@@ -251,17 +256,17 @@ impl Outcomes {
         for (k, event) in events.iter().enumerate() {
             text += &format!("{:2} {event}\n", k + 1);
         }
-        let orders = grouped(self.orders);
-        text += &format!("\n{orders} orders, every step as the independent model has it\n");
+        let orders = orders_in_words(self.orders);
+        text += &format!("\n{orders}, every step as the independent model has it\n");
         let ended =
             (0..8).filter(|&k| self.states[k] > 0).map(|k| format!("{} {}", STATES[k], grouped(self.states[k])));
         text += &format!("end states: {}\n", ended.collect::<Vec<_>>().join(", "));
         text += &format!("distinct recordings: {}", grouped(self.distinct_recordings() as u64));
         text += " (so many different sequences of packets, byte for byte, come out of all orders)\n";
         for ((event, number), orders) in &self.refusals {
-            let (reason, orders) = (row(*number), grouped(*orders));
+            let (reason, orders) = (row(*number), orders_in_words(*orders));
             let event = format!("event {} ({})", event + 1, events[*event]);
-            text += &format!("{event} is refused by {number} ({reason}) in {orders} orders\n");
+            text += &format!("{event} is refused by {number} ({reason}) in {orders}\n");
         }
         for (name, classes) in points.iter().zip(&self.points) {
             text += &format!("\n{name} is recorded as\n");
@@ -269,6 +274,9 @@ impl Outcomes {
                 text += &class.in_words(kind, self.events);
             }
         }
-        text + &self.kinds_in_words(points)
+        if !points.is_empty() {
+            text += &self.kinds_in_words(points);
+        }
+        text
     }
 }
