@@ -1,8 +1,9 @@
 //! `draw SCENARIO OUT.svg`: a scenario's run as a picture.
 //! `draw SCENARIO OUT.html`: the same picture, the words beside it.
 
+use drawing::names::Names;
 use drawing::page::{page, picture};
-use drawing::ride::{Names, Ride};
+use drawing::ride::Ride;
 use proved::hollwern::Engine;
 use std::path::Path;
 use tools::language::Scenario;

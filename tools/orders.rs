@@ -3,7 +3,8 @@
 //! points is told (none: of all). Each step goes through the proved engine by its C interface and is compared with the
 //! model; shared beginnings are stepped once. `--draw` draws the shortest order of each kind of recording.
 
-use drawing::ride::{Names, Ride};
+use drawing::names::Names;
+use drawing::ride::Ride;
 use drawing::strips::{picture, Strip};
 use model::packets::{split_packets, Content, Packet};
 use model::values::Journey;

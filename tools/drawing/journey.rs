@@ -1,12 +1,12 @@
 //! The journey from below to above: segments, zones, points with their margins and standings, the front's way, and the
 //! packets 62 at the points that they tell of.
 
-use crate::plan::{Front, Plan, Point};
+use crate::plan::{Front, Plan, Point, PASSED, REACHED, TARGETED};
 use crate::ride::{Moment, Ride, Written};
 use crate::scale::{Marks, Scale};
 use crate::sheet::{middle, runs, Lane, COLUMN, GUTTER};
 use crate::svg::Svg;
-use crate::words::{cut, letters, margin_in_words, metres, point_in_words};
+use crate::words::{cut, letters, margin_in_words, metres, point_in_words, segment_in_words};
 
 const ABOVE: f64 = 14.0;
 const BELOW: f64 = 20.0;
@@ -17,11 +17,6 @@ const SEGMENTS: f64 = 88.0;
 
 /// What packet 62 tells, at its point, by its status.
 const TOLD: [&str; 7] = ["passed", "stopped", "departed", "", "", "skip", "revoked"];
-
-/// Where a point stands.
-const TARGETED: u8 = 1;
-const REACHED: u8 = 2;
-const PASSED: u8 = 3;
 
 pub struct Journey<'a> {
     panels: Vec<Option<Panel<'a>>>,
@@ -151,12 +146,7 @@ impl Panel<'_> {
     fn draw_segments(&self, svg: &mut Svg, width: f64) {
         for (k, segment) in self.plan.segments.iter().enumerate() {
             let (top, low) = self.ends(k);
-            let title = match segment.start {
-                Some(start) => {
-                    format!("{}: from {} to {}", segment.name, metres(start), metres(start + segment.length))
-                }
-                None => format!("{}: not placed, since it or a segment before it is not in the book", segment.name),
-            };
+            let title = segment_in_words(segment);
             let class = match segment.start {
                 None => "unplaced",
                 Some(_) if k % 2 == 0 => "even",
@@ -189,10 +179,9 @@ impl Panel<'_> {
             svg.text("passing", GUTTER - 6.0, self.y((from + to) / 2) + 3.5, "inhibition zone");
         }
         for (k, point) in self.plan.points.iter().enumerate() {
-            let mut name = cut(&point.name, 16);
-            for (stands, word) in [(point.trackside, ", skipped"), (point.end, ", end")] {
-                name += if stands { word } else { "" };
-            }
+            let skipped = if point.trackside { ", skipped" } else { "" };
+            let words = format!("{skipped}{}", if point.end { ", end" } else { "" });
+            let name = cut(&point.name, 22 - words.len()) + &words;
             svg.titled(&point_in_words(self.plan, point), |svg| {
                 svg.text(if point.stop { "stop" } else { "passing" }, GUTTER - 6.0, self.line(k) + 3.5, &name);
             });
@@ -206,12 +195,15 @@ impl Panel<'_> {
                 let margin =
                     point.margin(train, skipped).filter(|margin| margin.end >= 0 && margin.start <= self.plan.end);
                 let Some(margin) = margin.filter(|_| !passed) else { continue };
-                let (top, low) = (self.y(margin.end), self.y(margin.start));
+                let (top, low, line) = (self.y(margin.end), self.y(margin.start), self.line(point.index));
                 svg.titled(&margin_in_words(point, train, &margin), |svg| {
                     if !margin.is_empty() {
                         svg.rect("margin", left, top, width, low - top);
-                    } else if Some(margin.start) != point.place {
+                    } else if low != line {
                         svg.line("edge", (left, low), (left + width, low));
+                    }
+                    if low < line {
+                        svg.line("edge", (left + 2.0, low), (left + 2.0, line));
                     }
                 });
             }

@@ -1,5 +1,6 @@
 //! A load's journey by its book: where segments, zones and points lie from the journey's start.
 
+use crate::names::Names;
 use model::calls::Call;
 use model::engine::behind_front;
 use model::events::{Position, UNDEFINED};
@@ -46,6 +47,11 @@ pub struct Plan {
     pub end: i64,
 }
 
+/// Where a point stands, as the engine shows it.
+pub const TARGETED: u8 = 1;
+pub const REACHED: u8 = 2;
+pub const PASSED: u8 = 3;
+
 /// Where the train's front is.
 #[derive(Clone, Copy, PartialEq, Debug)]
 pub enum Front {
@@ -89,7 +95,7 @@ impl Segment {
 
 impl Plan {
     /// `None` for profiles that a load refuses.
-    pub fn of(call: &Call, names: &super::ride::Names, loads: (String, String)) -> Option<Plan> {
+    pub fn of(call: &Call, names: &Names, loads: (String, String)) -> Option<Plan> {
         let records = read_book(&call.book)?;
         let mut route = Route::EMPTY;
         route.read(&call.journey, &Book::read(&call.book).ok()?).ok()?;

@@ -1,48 +1,18 @@
 //! A scenario stepped through the proved engine: what each event gave, and what the picture shows after it.
 
+use crate::names::Names;
 use crate::plan::{Front, Plan};
+use crate::words::points_in_words;
 use model::events::{read_event, Event, Position, UNDEFINED};
 use model::packets::split_packets;
 use model::words::packet_in_words;
 use proved::hollwern::{self, Engine, PacketFields, Shown};
 use std::ops::Range;
-use tools::language::{Scenario, Step};
+use tools::language::Step;
 use tools::refusals::row;
 
 /// Output memory that is lent: enough for what any event writes.
 const MEMORY: usize = 4096;
-
-/// The names that the scenario gives to segments and points.
-pub struct Names<'a> {
-    scenario: &'a Scenario,
-    segments: Vec<(u16, u32, String)>,
-}
-
-impl Names<'_> {
-    pub fn of<'a>(scenario: &'a Scenario, text: &str) -> Names<'a> {
-        Names { scenario, segments: text.lines().filter_map(segment_named).collect() }
-    }
-
-    pub fn segment(&self, nidc: u16, nidsp: u32) -> String {
-        let named = self.segments.iter().find(|segment| (segment.0, segment.1) == (nidc, nidsp));
-        named.map_or(format!("{nidc}/{nidsp}"), |segment| segment.2.clone())
-    }
-
-    pub fn point(&self, _journey: &str, _nidc: u16, nidtp: u32) -> String {
-        self.scenario.point_name(nidtp)
-    }
-}
-
-/// What a line `segment NAME NID_C n NID_SP n ..` names.
-fn segment_named(line: &str) -> Option<(u16, u32, String)> {
-    let words: Vec<&str> = line.split_whitespace().collect();
-    match words[..] {
-        ["segment", name, "NID_C", nidc, "NID_SP", nidsp, ..] => {
-            Some((nidc.parse().ok()?, nidsp.parse().ok()?, name.into()))
-        }
-        _ => None,
-    }
-}
 
 /// What the latest accepted events since power off that carry them say, else fresh.
 #[derive(Clone, Copy, PartialEq)]
@@ -113,6 +83,8 @@ pub struct Moment {
     pub later: bool,
     pub refused: Option<Refusal>,
     pub shown: Shown,
+    /// The points that it passed or put behind, and the one that is targeted or reached.
+    pub points: String,
     pub reported: Reported,
     pub packets: Vec<Written>,
     /// The points that the driver skips, by NID_TP.
@@ -146,13 +118,15 @@ impl Ride {
                 ride.turn(event, step, names);
                 follow_skips(&mut skips, event, &packets);
             }
+            let shown = engine.show();
             ride.add(Moment {
                 label: (ride.moments.len() + 1).to_string(),
                 line: step.line,
                 text: step.text.clone(),
                 later: false,
                 refused: (!answer.accepted).then(|| Refusal::of(answer.number)),
-                shown: engine.show(),
+                shown,
+                points: ride.points_in_words(&shown),
                 reported,
                 packets,
                 skips: skips.clone(),
@@ -178,6 +152,12 @@ impl Ride {
     fn front(&self, position: Position) -> Front {
         let plan = self.stretches.last().and_then(|stretch| stretch.plan.as_ref());
         plan.map_or(Front::Unknown("no journey is loaded"), |plan| plan.front(position))
+    }
+
+    fn points_in_words(&self, shown: &Shown) -> String {
+        let Some(Stretch { plan: Some(plan), moments }) = self.stretches.last() else { return String::new() };
+        let before = self.moments.last().filter(|_| !moments.is_empty());
+        points_in_words(plan, before.map(|moment| &moment.shown), shown)
     }
 
     fn add(&mut self, moment: Moment) {

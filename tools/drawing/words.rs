@@ -1,8 +1,9 @@
 //! What the picture says in words.
 
-use crate::plan::{Plan, Point};
+use crate::plan::{Plan, Point, Segment, PASSED, REACHED};
 use crate::ride::Moment;
 use model::words::{ALIGNMENTS, LEVERS, MODES, STATES, STATE_NAMES};
+use proved::hollwern::Shown;
 use std::ops::Range;
 use tools::outcomes::grouped;
 
@@ -58,12 +59,22 @@ pub fn state_in_words(state: u8) -> String {
     format!("{} {}: the driver may {}", STATES[code], STATE_NAMES[code], DRIVER[code][1])
 }
 
+pub fn segment_in_words(segment: &Segment) -> String {
+    let name = &segment.name;
+    if let Some(start) = segment.start {
+        return format!("{name}: from {} to {}", metres(start), metres(start + segment.length));
+    }
+    let zone = |&(from, to): &(i64, i64)| format!("; an inhibition zone from {} to {} of it", metres(from), metres(to));
+    let zones: String = segment.zones.iter().map(zone).collect();
+    format!("{name}: not placed, since it or a segment before it is not in the book{zones}")
+}
+
 pub fn point_in_words(plan: &Plan, point: &Point) -> String {
     let kind = if point.stop { "stop" } else { "passing point" };
     let mut words = format!("{}, {kind}, NID_TP {}, alignment {}", point.name, point.nidtp, alignment(point));
     match point.place {
         Some(place) => words += &format!(", at {} from the journey's start, R {}", metres(place), metres(point.reach)),
-        None => words += &format!(", not placed: {} or a segment before it is not in the book", segment(plan, point)),
+        None => words += &format!(", not placed, as {} is not", plan.segments[point.segment].name),
     }
     if point.trackside {
         words += ", skipped by trackside";
@@ -72,10 +83,6 @@ pub fn point_in_words(plan: &Plan, point: &Point) -> String {
         words += ", End of Journey";
     }
     words
-}
-
-fn segment<'a>(plan: &'a Plan, point: &Point) -> &'a str {
-    &plan.segments[point.segment].name
 }
 
 fn alignment(point: &Point) -> &'static str {
@@ -91,6 +98,24 @@ pub fn margin_in_words(point: &Point, train: u32, margin: &Range<i64>) -> String
     format!("{} is reached when the front stands from {from} to {to} ({taken}, R {})", point.name, metres(point.reach))
 }
 
+/// The points that were passed or, by a load (nothing stands before it), put behind; and the one that is targeted or
+/// reached.
+pub fn points_in_words(plan: &Plan, before: Option<&Shown>, now: &Shown) -> String {
+    let passed = |k: usize| now.standings[k] == PASSED && before.is_none_or(|before| before.standings[k] != PASSED);
+    let points = || plan.points.iter().map(|point| (now.standings[point.index], point));
+    let names: Vec<&str> = points().filter(|(_, point)| passed(point.index)).map(|(_, point)| &*point.name).collect();
+    let mut words = String::new();
+    if !names.is_empty() {
+        words += &format!("; {}: {}", if before.is_some() { "passed" } else { "put behind" }, names.join(", "));
+    }
+    words += &match points().find(|(standing, _)| *standing != PASSED) {
+        Some((REACHED, point)) => format!("; reached: {}", point.name),
+        Some((_, point)) => format!("; targeted: {}", point.name),
+        None => "; no point left".into(),
+    };
+    words
+}
+
 /// What the event gave, in lines: the answer, then the packets.
 pub fn moment_in_words(moment: &Moment) -> Vec<String> {
     let mut lines = vec![answer_in_words(moment)];
@@ -104,7 +129,7 @@ pub fn answer_in_words(moment: &Moment) -> String {
     }
     let code = usize::from(moment.shown.state);
     let request = if moment.shown.request { "AD requested" } else { "AD not requested" };
-    format!("{} {} ({request})", STATES[code], STATE_NAMES[code])
+    format!("{} {}, {request}{}", STATES[code], STATE_NAMES[code], moment.points)
 }
 
 /// All that holds after an event.
