@@ -10,6 +10,9 @@ use crate::words::{cut, letters, margin_in_words, metres, point_in_words, segmen
 
 const ABOVE: f64 = 14.0;
 const BELOW: f64 = 20.0;
+/// The height that is shared out by length.
+const HIGH: f64 = 230.0;
+const LOW: f64 = 70.0;
 /// The least height of half a margin.
 const EDGE: f64 = 7.0;
 /// The width of the segments' names in the gutter.
@@ -33,14 +36,14 @@ struct Panel<'a> {
 
 impl<'a> Journey<'a> {
     pub fn of(ride: &'a Ride) -> Journey<'a> {
-        Journey::over(ride, 230.0)
+        Journey::over(ride, HIGH)
     }
 
     pub fn low(ride: &'a Ride) -> Journey<'a> {
-        Journey::over(ride, 70.0)
+        Journey::over(ride, LOW)
     }
 
-    /// `shared` of the height is shared out by length.
+    /// So much of the height is shared out by length.
     fn over(ride: &'a Ride, shared: f64) -> Journey<'a> {
         let stretches = || ride.stretches.iter().map(|stretch| (stretch, stretch.plan.as_ref()));
         let drawn =
@@ -93,7 +96,7 @@ fn mark_margin(marks: &mut Marks, plan: &Plan, point: &Point, train: u32, skippe
     }
 }
 
-/// Runs of moments with the same train length, driver skip and, whether it is passed.
+/// Runs of moments with the same train length, driver skip, and standing so far as it is passed or not.
 fn margin_runs(moments: &[Moment], point: &Point) -> Vec<(f64, f64, (u32, bool, bool))> {
     let passed = |moment: &Moment| moment.shown.standings[point.index] == PASSED;
     runs(moments, |moment| (moment.reported.length, moment.skips.contains(&point.nidtp), passed(moment)))
@@ -134,13 +137,11 @@ impl Panel<'_> {
     /// The line of a point; without a place, somewhere on its segment.
     fn line(&self, k: usize) -> f64 {
         let point = &self.plan.points[k];
-        point.place.map_or_else(
-            || {
-                let before = self.plan.points[..k].iter().filter(|other| other.segment == point.segment).count();
-                self.ends(point.segment).1 - 10.0 - 14.0 * before as f64
-            },
-            |place| self.y(place),
-        )
+        if let Some(place) = point.place {
+            return self.y(place);
+        }
+        let before = self.plan.points[..k].iter().filter(|other| other.segment == point.segment).count();
+        self.ends(point.segment).1 - 10.0 - 14.0 * before as f64
     }
 
     fn draw_segments(&self, svg: &mut Svg, width: f64) {
@@ -196,7 +197,7 @@ impl Panel<'_> {
                     point.margin(train, skipped).filter(|margin| margin.end >= 0 && margin.start <= self.plan.end);
                 let Some(margin) = margin.filter(|_| !passed) else { continue };
                 let (top, low, line) = (self.y(margin.end), self.y(margin.start), self.line(point.index));
-                svg.titled(&margin_in_words(point, train, &margin), |svg| {
+                svg.titled(&margin_in_words(point, train, skipped, &margin), |svg| {
                     if !margin.is_empty() {
                         svg.rect("margin", left, top, width, low - top);
                     } else if low != line {
@@ -213,7 +214,7 @@ impl Panel<'_> {
     fn draw_points(&self, svg: &mut Svg, moments: &[Moment]) {
         for (k, point) in self.plan.points.iter().enumerate() {
             let y = self.line(k);
-            let solid = |moment: &Moment| point.stop && !point.trackside && !moment.skips.contains(&point.nidtp);
+            let solid = |moment: &Moment| point.is_served(moment.skips.contains(&point.nidtp));
             for (left, width, (standing, solid)) in runs(moments, |moment| (moment.shown.standings[k], solid(moment))) {
                 let (says, class) = match standing {
                     TARGETED => ("targeted", "targeted"),

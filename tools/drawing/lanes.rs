@@ -1,8 +1,8 @@
 //! The lanes that tell what holds after each event: the event, the state, AD request, mode, lever, conditions; and the
 //! packets that it wrote.
 
-use crate::ride::{Moment, Refusal, Ride, Written};
-use crate::sheet::{middle, runs, Lane, COLUMN};
+use crate::ride::{Moment, Refusal, Ride, Stretch, Written};
+use crate::sheet::{middle, runs, Lane, COLUMN, GUTTER};
 use crate::svg::Svg;
 use crate::words::{cut, letters, state_in_words, wrapped, DRIVER};
 use model::words::{CONDITIONS, LEVERS, MODES, STATES, STATE_NAMES};
@@ -10,15 +10,14 @@ use model::words::{CONDITIONS, LEVERS, MODES, STATES, STATE_NAMES};
 /// The lines of the scenario, upwards, and their numbers.
 pub struct Events {
     /// What each journey's load names, a line each.
-    pub loads: Vec<Vec<String>>,
+    loads: Vec<Vec<String>>,
 }
 
 impl Events {
     pub fn of(ride: &Ride) -> Events {
-        let load = |stretch: &crate::ride::Stretch| match &stretch.plan {
+        let load = |stretch: &Stretch| match &stretch.plan {
             None => Vec::new(),
             Some(plan) => vec![
-                format!("load {} {}", plan.journey, plan.book),
                 format!("journey {}", plan.journey),
                 format!("book {}", plan.book),
                 format!("NID_OPERATIONAL {:08X}", plan.operational),
@@ -44,9 +43,9 @@ impl Lane for Events {
     }
 
     fn gutter(&self, stretch: usize, svg: &mut Svg) {
-        for (k, line) in self.loads[stretch].iter().enumerate().skip(1) {
-            let class = if k == 1 { "journey" } else { "small" };
-            svg.text(class, 10.0, 2.0 + 15.0 * k as f64, &cut(line, letters(172.0, if k == 1 { 13.0 } else { 10.0 })));
+        for (k, line) in self.loads[stretch].iter().enumerate() {
+            let (class, size) = if k == 0 { ("journey", 13.0) } else { ("small", 10.0) };
+            svg.text(class, 10.0, 17.0 + 15.0 * k as f64, &cut(line, letters(GUTTER - 18.0, size)));
         }
     }
 

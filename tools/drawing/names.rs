@@ -17,7 +17,8 @@ impl Names<'_> {
         named.map_or(format!("{nidc}/{nidsp}"), |segment| segment.2.clone())
     }
 
-    pub fn point(&self, _journey: &str, _nidc: u16, nidtp: u32) -> String {
+    /// Of a point in a journey.
+    pub fn point(&self, _journey: Option<&str>, _nidc: u16, nidtp: u32) -> String {
         self.scenario.point_name(nidtp)
     }
 }

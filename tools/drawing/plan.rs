@@ -69,10 +69,16 @@ impl Point {
         Some(self.place? + i64::from(behind_front(train, self.alignment)))
     }
 
-    /// Where the front must stand for the point to be reached or, skipped or not a stop, may be without passing it.
+    /// It is a stop that neither trackside nor the driver skips.
+    pub fn is_served(&self, skipped: bool) -> bool {
+        self.stop && !self.trackside && !skipped
+    }
+
+    /// Where the front must stand for a stop that is served to be reached; for another point, where it may be without
+    /// passing it.
     pub fn margin(&self, train: u32, skipped: bool) -> Option<Range<i64>> {
         let at = self.front_place(train)?;
-        let reach = if self.stop && !self.trackside && !skipped { self.reach } else { 0 };
+        let reach = if self.is_served(skipped) { self.reach } else { 0 };
         Some(at - reach..at + reach)
     }
 }
@@ -107,7 +113,7 @@ impl Plan {
         let end = segments[..placed].iter().map(|segment| segment.length).sum();
         let point = |(k, point): (usize, &route::Point)| Point {
             index: k,
-            name: names.point(&loads.0, segments[usize::from(point.segment)].nidc, point.nidtp),
+            name: names.point(Some(&loads.0), segments[usize::from(point.segment)].nidc, point.nidtp),
             nidtp: point.nidtp,
             segment: usize::from(point.segment),
             place: (k < usize::from(route.placed_points)).then_some(i64::from(point.place)),

@@ -3,6 +3,7 @@
 use crate::names::Names;
 use crate::plan::{Front, Plan};
 use crate::words::points_in_words;
+use model::calls::MEMORY;
 use model::events::{read_event, Event, Position, UNDEFINED};
 use model::packets::split_packets;
 use model::words::packet_in_words;
@@ -10,9 +11,6 @@ use proved::hollwern::{self, Engine, PacketFields, Shown};
 use std::ops::Range;
 use tools::language::Step;
 use tools::refusals::row;
-
-/// Output memory that is lent: enough for what any event writes.
-const MEMORY: usize = 4096;
 
 /// What the latest accepted events since power off that carry them say, else fresh.
 #[derive(Clone, Copy, PartialEq)]
@@ -111,12 +109,16 @@ impl Ride {
         for step in steps {
             let mut out = [0; MEMORY];
             let answer = engine.step(&step.call.event, &step.call.journey, &step.call.book, &mut out);
-            let packets = read_packets(&out[..if answer.accepted { answer.bytes } else { 0 }], names);
+            let (mut packets, mut refused) = (Vec::new(), None);
             reported.now = false;
-            if let (true, Ok(event)) = (answer.accepted, read_event(&step.call.event)) {
-                reported.accept(event);
-                ride.turn(event, step, names);
-                follow_skips(&mut skips, event, &packets);
+            match read_event(&step.call.event) {
+                Ok(event) if answer.accepted => {
+                    reported.accept(event);
+                    ride.turn(event, step, names);
+                    packets = ride.read_packets(&out[..answer.bytes], names);
+                    follow_skips(&mut skips, event, &packets);
+                }
+                _ => refused = Some(Refusal::of(answer.number)),
             }
             let shown = engine.show();
             ride.add(Moment {
@@ -124,7 +126,7 @@ impl Ride {
                 line: step.line,
                 text: step.text.clone(),
                 later: false,
-                refused: (!answer.accepted).then(|| Refusal::of(answer.number)),
+                refused,
                 shown,
                 points: ride.points_in_words(&shown),
                 reported,
@@ -149,9 +151,24 @@ impl Ride {
         self.stretches.push(Stretch { plan, moments: at..at });
     }
 
+    /// The journey in force.
+    fn plan(&self) -> Option<&Plan> {
+        self.stretches.last()?.plan.as_ref()
+    }
+
+    /// The packets that an event wrote, by the proved reader.
+    fn read_packets(&self, bytes: &[u8], names: &Names) -> Vec<Written> {
+        let journey = self.plan().map(|plan| plan.journey.as_str());
+        let packet = |packet: &[u8]| {
+            let fields = hollwern::read(packet);
+            let words = packet_in_words(packet, &|nidtp| names.point(journey, fields.nidc, nidtp));
+            Written { fields, words }
+        };
+        split_packets(bytes).into_iter().map(packet).collect()
+    }
+
     fn front(&self, position: Position) -> Front {
-        let plan = self.stretches.last().and_then(|stretch| stretch.plan.as_ref());
-        plan.map_or(Front::Unknown("no journey is loaded"), |plan| plan.front(position))
+        self.plan().map_or(Front::Unknown("no journey is loaded"), |plan| plan.front(position))
     }
 
     fn points_in_words(&self, shown: &Shown) -> String {
@@ -176,14 +193,6 @@ impl Ride {
         self.stretches.retain(|stretch| !stretch.moments.is_empty());
         self
     }
-}
-
-fn read_packets(bytes: &[u8], names: &Names) -> Vec<Written> {
-    let packet = |packet: &[u8]| Written {
-        fields: hollwern::read(packet),
-        words: packet_in_words(packet, &|nidtp| names.point("", 0, nidtp)),
-    };
-    split_packets(bytes).into_iter().map(packet).collect()
 }
 
 /// Driver skips as the packets tell of them: given by status 5, revoked by 6, cleared by a load and power off.

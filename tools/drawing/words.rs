@@ -89,13 +89,13 @@ fn alignment(point: &Point) -> &'static str {
     ALIGNMENTS[usize::from(point.alignment)]
 }
 
-pub fn margin_in_words(point: &Point, train: u32, margin: &Range<i64>) -> String {
+pub fn margin_in_words(point: &Point, train: u32, skipped: bool, margin: &Range<i64>) -> String {
+    let (name, from, to) = (&point.name, metres(margin.start), metres(margin.end));
     let taken = format!("train {}, alignment {}", metres(i64::from(train)), alignment(point));
-    if margin.is_empty() {
-        return format!("{} is passed when the front is beyond {} ({taken})", point.name, metres(margin.start));
+    if !point.is_served(skipped) {
+        return format!("{name} is passed when the front is beyond {from} ({taken})");
     }
-    let (from, to) = (metres(margin.start), metres(margin.end));
-    format!("{} is reached when the front stands from {from} to {to} ({taken}, R {})", point.name, metres(point.reach))
+    format!("{name} is reached when the front stands from {from} to {to} ({taken}, R {})", metres(point.reach))
 }
 
 /// The points that were passed or, by a load (nothing stands before it), put behind; and the one that is targeted or
