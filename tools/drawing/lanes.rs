@@ -61,6 +61,25 @@ impl Lane for Events {
     }
 }
 
+/// The numbers of the events once more.
+pub struct Numbers;
+
+impl Lane for Numbers {
+    fn height(&self) -> f64 {
+        14.0
+    }
+
+    fn label(&self, svg: &mut Svg) {
+        svg.text("small", 0.0, 10.0, "event");
+    }
+
+    fn columns(&self, _: usize, moments: &[Moment], svg: &mut Svg) {
+        for (k, moment) in moments.iter().enumerate() {
+            svg.text("number", middle(k), 10.0, &moment.label);
+        }
+    }
+}
+
 /// The state with what the driver may do.
 pub struct States;
 

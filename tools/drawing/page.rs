@@ -1,10 +1,10 @@
 //! The picture as a file of its own, and as a page with the words beside it.
 
 use crate::journey::Journey;
-use crate::lanes::{inputs, Events, Packets, States};
+use crate::lanes::{inputs, Events, Numbers, Packets, States};
 use crate::look::{legend, legend_height, patterns, STYLE};
 use crate::ride::{Moment, Ride};
-use crate::sheet::{Lane, Part, Sheet};
+use crate::sheet::{Lane, Part, Sheet, LABELS};
 use crate::svg::{escaped, pixels, Svg};
 use crate::words::moment_in_words;
 
@@ -21,6 +21,7 @@ pub fn lanes(ride: &Ride) -> Vec<Box<dyn Lane + '_>> {
     lanes.extend(inputs());
     lanes.push(Box::new(Journey::of(ride)));
     lanes.push(Box::new(Packets::of(ride)));
+    lanes.push(Box::new(Numbers));
     lanes
 }
 
@@ -64,7 +65,7 @@ main{display:grid;grid-template-columns:minmax(0,1fr) 25rem;height:calc(100vh - 
 .picture,.words{overflow:auto}.words{border-left:1px solid #94a3b8}
 .sheet{display:flex;width:max-content}.sheet svg{display:block;flex:none;background:#fff}
 .labels{position:sticky;left:0;z-index:2;padding-left:14px}.stretch{display:flex}
-.held{position:sticky;left:164px;z-index:1;border-right:1px solid #94a3b8}
+.held{position:sticky;z-index:1;border-right:1px solid #94a3b8}
 .column:hover{fill:#0f172a;fill-opacity:.06}g:target>.column{fill:#facc15;fill-opacity:.35}
 .event,.number,.speed{pointer-events:none}
 .legend{padding:8px 14px;position:sticky;left:0;width:max-content}
@@ -99,12 +100,13 @@ pub fn page(title: &str, ride: &Ride) -> String {
     let words: String = ride.moments.iter().map(told).collect();
     format!(
         "<!DOCTYPE html>\n<html lang=\"en\"><head><meta charset=\"utf-8\"/><title>{title}</title>\n\
-         <style>{STYLE}{PAGE}</style></head><body>\n\
+         <style>{STYLE}{PAGE}.held{{left:{}px}}</style></head><body>\n\
          <header><h1>{title}</h1><p>{}</p>\
          <p>Click a column to read of it, and an event's name to see its column.</p></header>\n\
          <main><div class=\"picture\"><svg width=\"0\" height=\"0\" style=\"position:absolute\">{}</svg>\n\
          <div class=\"sheet\">{}{stretches}</div>\n<div class=\"legend\">{}</div></div>\n\
          <div class=\"words\"><ol>\n{words}</ol></div></main></body></html>\n",
+        pixels(LABELS + EDGE),
         NOTES.join(" "),
         patterns(),
         inline(&sheet.labels, sheet.height, "labels"),
