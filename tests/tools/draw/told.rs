@@ -1,5 +1,5 @@
-//! What the independent model says of a scenario. `told answers SCENARIO`: a line for each event, R and the number, or the
-//! state and whether AD is requested. `told packets SCENARIO`: every packet in words.
+//! What the independent model says of a scenario. `told answers SCENARIO`: a line for each event, R and the number, or
+//! the state and whether AD is requested. `told packets SCENARIO`: every packet in words.
 
 use model::calls::MEMORY;
 use model::engine::Engine;
