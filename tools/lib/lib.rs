@@ -7,4 +7,5 @@ mod line;
 mod named;
 pub mod outcomes;
 pub mod player;
+pub mod refusals;
 pub mod story;

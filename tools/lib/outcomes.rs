@@ -1,17 +1,20 @@
 //! What comes of every order of some events, counted and told in words.
 
+use crate::refusals::row;
 use model::words::STATES;
-use std::collections::BTreeMap;
+use std::collections::{BTreeMap, HashMap};
 
 /// So many events at most.
 pub const MOST: usize = 10;
+/// So many kinds of recordings are told or drawn at most.
+pub const SHOWN: usize = 40;
 
 /// What may be recorded of a point, by the status in packet 62; the last is that none of these was.
 const KINDS: [&str; 4] = ["passed", "stopped", "departed", "never passed, stopped or departed"];
 const NEVER: usize = 3;
 
 /// What was recorded of each point, a bit for each.
-#[derive(Clone, Copy, Default, PartialEq, Eq)]
+#[derive(Clone, Copy, Default, PartialEq, Eq, Hash)]
 pub struct Outcome([u64; NEVER]);
 
 impl Outcome {
@@ -28,6 +31,35 @@ impl Outcome {
         } else {
             recorded(kind)
         }
+    }
+
+    /// Of each point, by its name.
+    fn in_words(&self, points: &[String]) -> String {
+        if points.is_empty() {
+            return "no point to record of".into();
+        }
+        let point = |(k, name): (usize, &String)| {
+            let kinds: Vec<&str> = (0..KINDS.len()).filter(|&kind| self.has(kind, k)).map(|kind| KINDS[kind]).collect();
+            format!("{name} {}", kinds.join(" and "))
+        };
+        points.iter().enumerate().map(point).collect::<Vec<_>>().join("; ")
+    }
+}
+
+/// The orders that record the same of all the points.
+pub struct Kind {
+    pub orders: u64,
+    /// One of them: the first found of those in which all is recorded after the fewest events.
+    pub order: Vec<usize>,
+    /// After so many of its events.
+    pub recorded: usize,
+}
+
+impl Kind {
+    /// All is recorded before the bar.
+    pub fn order_in_words(&self) -> String {
+        let (first, rest) = self.order.split_at(self.recorded);
+        format!("{} | {}", numbers(first), numbers(rest)).trim().into()
     }
 }
 
@@ -52,6 +84,7 @@ pub struct Outcomes {
     /// Orders in which an event is refused by a number.
     refusals: BTreeMap<(usize, u8), u64>,
     points: Vec<[Class; KINDS.len()]>,
+    kinds: HashMap<Outcome, Kind>,
 }
 
 fn factorial(n: usize) -> u64 {
@@ -83,7 +116,7 @@ fn orders_with(always: &Before, events: usize) -> u64 {
 }
 
 /// A number with its thousands apart.
-fn grouped(number: u64) -> String {
+pub fn grouped(number: u64) -> String {
     let digits = number.to_string();
     let mut text = String::new();
     for (k, digit) in digits.chars().enumerate() {
@@ -93,6 +126,10 @@ fn grouped(number: u64) -> String {
         text.push(digit);
     }
     text
+}
+
+pub fn orders_in_words(orders: u64) -> String {
+    format!("{} {}", grouped(orders), if orders == 1 { "order" } else { "orders" })
 }
 
 fn numbers(events: &[usize]) -> String {
@@ -117,7 +154,7 @@ impl Class {
     }
 
     fn in_words(&self, kind: &str, events: usize) -> String {
-        let mut text = format!("  {kind}: {} orders", grouped(self.orders));
+        let mut text = format!("  {kind}: {}", orders_in_words(self.orders));
         let pairs = self.pairs(events).join(", ");
         if self.orders == factorial(events) {
             text += ", all";
@@ -134,8 +171,8 @@ impl Class {
 impl Outcomes {
     pub fn new(events: usize, points: usize) -> Outcomes {
         let none = [Class::NONE; KINDS.len()];
-        let (recordings, refusals) = (Vec::new(), BTreeMap::new());
-        Outcomes { events, orders: 0, states: [0; 8], recordings, refusals, points: vec![none; points] }
+        let (recordings, refusals, kinds) = (Vec::new(), BTreeMap::new(), HashMap::new());
+        Outcomes { events, orders: 0, states: [0; 8], recordings, refusals, points: vec![none; points], kinds }
     }
 
     /// The last event of the path was stepped.
@@ -155,11 +192,23 @@ impl Outcomes {
         }
     }
 
-    /// An order has ended.
-    pub fn end(&mut self, path: &[usize], state: u8, recording: u64, outcome: Outcome) {
+    /// An order has ended; the last change of the outcome came with so many of its events.
+    pub fn end(&mut self, path: &[usize], state: u8, recording: u64, (outcome, recorded): (Outcome, usize)) {
         self.orders += 1;
         self.states[usize::from(state)] += 1;
         self.recordings.push(recording);
+        self.end_points(path, outcome);
+        let kind = self.kinds.entry(outcome).or_insert_with(|| Kind { orders: 0, order: path.to_vec(), recorded });
+        kind.orders += 1;
+        if recorded < kind.recorded {
+            (kind.order, kind.recorded) = (path.to_vec(), recorded);
+        }
+        if self.orders % 100_000 == 0 {
+            eprint!("\r{} of {} orders", grouped(self.orders), grouped(factorial(self.events)));
+        }
+    }
+
+    fn end_points(&mut self, path: &[usize], outcome: Outcome) {
         let before = before(path);
         for (point, classes) in self.points.iter_mut().enumerate() {
             for (kind, class) in classes.iter_mut().enumerate().filter(|(kind, _)| outcome.has(*kind, point)) {
@@ -170,9 +219,28 @@ impl Outcomes {
                 }
             }
         }
-        if self.orders % 100_000 == 0 {
-            eprint!("\r{} of {} orders", grouped(self.orders), grouped(factorial(self.events)));
+    }
+
+    /// What is recorded of the points together, in words, and its orders: the commonest first.
+    pub fn kinds(&self, points: &[String]) -> Vec<(String, &Kind)> {
+        let mut kinds: Vec<_> = self.kinds.iter().map(|(outcome, kind)| (outcome.in_words(points), kind)).collect();
+        kinds.sort_by(|(_, one), (_, other)| other.orders.cmp(&one.orders).then_with(|| one.order.cmp(&other.order)));
+        kinds
+    }
+
+    fn kinds_in_words(&self, points: &[String]) -> String {
+        let kinds = self.kinds(points);
+        let count = if kinds.len() == 1 { "1 kind".into() } else { format!("{} kinds", grouped(kinds.len() as u64)) };
+        let mut text =
+            format!("\n{count} of recordings of these points together; the shortest order of each records all ");
+        text += "before |\n";
+        for (words, kind) in kinds.iter().take(SHOWN) {
+            text += &format!("  {words}: {}; {}\n", orders_in_words(kind.orders), kind.order_in_words());
         }
+        if kinds.len() > SHOWN {
+            text += &format!("  and {} more, none of them commoner\n", grouped((kinds.len() - SHOWN) as u64));
+        }
+        text
     }
 
     fn distinct_recordings(&self) -> usize {
@@ -188,20 +256,26 @@ impl Outcomes {
         for (k, event) in events.iter().enumerate() {
             text += &format!("{:2} {event}\n", k + 1);
         }
-        let orders = grouped(self.orders);
-        text += &format!("\n{orders} orders, every step as the independent model has it\n");
+        let orders = orders_in_words(self.orders);
+        text += &format!("\n{orders}, every step as the independent model has it\n");
         let ended =
             (0..8).filter(|&k| self.states[k] > 0).map(|k| format!("{} {}", STATES[k], grouped(self.states[k])));
         text += &format!("end states: {}\n", ended.collect::<Vec<_>>().join(", "));
-        text += &format!("distinct recordings: {}\n", grouped(self.distinct_recordings() as u64));
+        text += &format!("distinct recordings: {}", grouped(self.distinct_recordings() as u64));
+        text += " (so many different sequences of packets, byte for byte, come out of all orders)\n";
         for ((event, number), orders) in &self.refusals {
-            text += &format!("event {} is refused by {number} in {} orders\n", event + 1, grouped(*orders));
+            let (reason, orders) = (row(*number), orders_in_words(*orders));
+            let event = format!("event {} ({})", event + 1, events[*event]);
+            text += &format!("{event} is refused by {number} ({reason}) in {orders}\n");
         }
         for (name, classes) in points.iter().zip(&self.points) {
             text += &format!("\n{name} is recorded as\n");
             for (kind, class) in KINDS.iter().zip(classes).filter(|(_, class)| class.orders > 0) {
                 text += &class.in_words(kind, self.events);
             }
+        }
+        if !points.is_empty() {
+            text += &self.kinds_in_words(points);
         }
         text
     }
