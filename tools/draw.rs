@@ -1,7 +1,6 @@
 //! `draw SCENARIO OUT.svg`: a scenario's run as a picture.
 //! `draw SCENARIO OUT.html`: the same picture, the words beside it.
 
-use drawing::names::Names;
 use drawing::page::{page, picture};
 use drawing::ride::Ride;
 use proved::hollwern::Engine;
@@ -29,7 +28,7 @@ fn run(arguments: &[String]) -> Result<(), Failure> {
     if read.steps.is_empty() {
         return Err((format!("draw: {scenario} has no event: there is nothing to draw"), 1));
     }
-    let ride = Ride::of(Engine::fresh(), &Names::of(&read, &text), read.steps.iter());
+    let ride = Ride::of(Engine::fresh(), &read, read.steps.iter());
     let name = Path::new(scenario).file_name().map_or(scenario.into(), |name| name.to_string_lossy());
     std::fs::write(out, draw(&format!("{name}, event by event"), &ride)).map_err(failed(out))
 }

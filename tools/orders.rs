@@ -3,17 +3,17 @@
 //! points is told (none: of all). Each step goes through the proved engine by its C interface and is compared with the
 //! model; shared beginnings are stepped once. `--draw` draws the shortest order of each kind of recording.
 
-use drawing::names::Names;
 use drawing::ride::Ride;
 use drawing::strips::{picture, Strip};
 use model::packets::{split_packets, Content, Packet};
 use model::values::Journey;
+use model::words::grouped;
 use proved::hollwern::Engine;
 use proved::pair::{Memory, Pair};
 use std::hash::{DefaultHasher, Hash, Hasher};
 use std::path::Path;
 use tools::language::{Scenario, Step};
-use tools::outcomes::{grouped, orders_in_words, Kind, Outcome, Outcomes, MOST, SHOWN};
+use tools::outcomes::{orders_in_words, Kind, Outcome, Outcomes, MOST, SHOWN};
 use tools::refusals::row;
 
 const USAGE: &str = "usage: tools/orders [--draw OUT.svg] [SCENARIO]";
@@ -123,7 +123,6 @@ fn read(text: &str) -> Result<(Scenario, usize, Vec<String>), String> {
 /// A scenario with its fixed beginning and the events that are ordered.
 struct Task<'a> {
     file: &'a str,
-    text: &'a str,
     scenario: &'a Scenario,
     beginning: &'a [Step],
     events: &'a [Step],
@@ -146,9 +145,8 @@ impl Task<'_> {
     /// The order of a kind as it is drawn, from the last event of the beginning on.
     fn ride(&self, kind: &Kind) -> Ride {
         let steps = self.beginning.iter().chain(kind.order.iter().map(|&k| &self.events[k]));
-        let names = Names::of(self.scenario, self.text);
         let before = self.beginning.len().min(1);
-        let mut ride = Ride::of(Engine::fresh(), &names, steps).without(self.beginning.len() - before);
+        let mut ride = Ride::of(Engine::fresh(), self.scenario, steps).without(self.beginning.len() - before);
         ride.moments.iter_mut().take(before).for_each(|moment| moment.label = "·".into());
         for (at, (moment, k)) in ride.moments.iter_mut().skip(before).zip(&kind.order).enumerate() {
             moment.label = (k + 1).to_string();
@@ -186,7 +184,7 @@ fn run(file: &str, draw: Option<&str>) -> Result<(), String> {
     if events.is_empty() || events.len() > MOST {
         return Err(format!("{file}: {} events below 'orders'; 1 to {MOST} can be ordered", events.len()));
     }
-    let task = Task { file, text: &text, scenario: &scenario, beginning, events };
+    let task = Task { file, scenario: &scenario, beginning, events };
     let points = points_of(&scenario, &names).map_err(|error| format!("{file}, line {line}: {error}"))?;
     let outcomes = Outcomes::new(events.len(), points.len());
     let mut orders = Orders { events, points, memory: Memory::new(), path: Vec::new(), outcomes };

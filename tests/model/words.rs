@@ -9,16 +9,19 @@ pub const STATES: [&str; 8] = ["NP", "CO", "NA", "AV", "RE", "EG", "DE", "FA"];
 /// The states in words.
 pub const STATE_NAMES: [&str; 8] =
     ["no power", "configuration", "not available", "available", "ready", "engaged", "disengaging", "failure"];
-/// What the driver may do in each state, and what the unit waits for.
-pub const DRIVER: [&str; 8] = [
-    "the driver drives; the unit is off",
-    "the driver drives; the unit waits to be configured",
-    "the driver drives; the unit waits for the conditions that are lacking",
-    "the driver drives; for ready the unit waits for train conditions, the lever at neutral and ETCS out of AD",
-    "the driver drives, and may press engage",
-    "the unit drives; the driver may take over by the lever at brake or by leaving AD",
-    "conditions were lost; the driver takes over by the lever at brake or by leaving AD",
-    "the driver drives; only power off is left to the unit",
+/// What the driver may do in each state: in a word or two, and at length.
+pub const DRIVER: [[&str; 2]; 8] = [
+    ["power on", "drive by hand; the unit takes no part"],
+    ["wait", "drive by hand; the unit waits to be configured"],
+    ["drive by hand", "drive by hand; the unit waits for the conditions that are lacking"],
+    [
+        "drive by hand",
+        "drive by hand; for ready the unit waits for train conditions, the lever at neutral and ETCS out of AD",
+    ],
+    ["press engage", "drive by hand, or press engage"],
+    ["hands off", "leave driving to the ATO, or take over by the lever at brake or by leaving AD"],
+    ["take over: brake", "take over by the lever at brake or by leaving AD"],
+    ["drive by hand", "drive by hand; only power off is left to the unit"],
 ];
 pub const MODES: [&str; 2] = ["other", "AD"];
 pub const LEVERS: [&str; 3] = ["neutral", "traction", "brake"];
@@ -199,12 +202,17 @@ fn content_in_words(content: &Content, name: &dyn Fn(u32) -> String) -> String {
     }
 }
 
-/// A packet given by its bytes, in words.
-pub fn packet_in_words(bytes: &[u8], name: &dyn Fn(u32) -> String) -> String {
+/// A packet given by its bytes, in words: its content and, in brackets, its header.
+pub fn packet_lines(bytes: &[u8], name: &dyn Fn(u32) -> String) -> Vec<String> {
     match Packet::read(bytes) {
-        Err(number) => format!("{} refused by {number}", hex(bytes)),
+        Err(number) => vec![format!("{} refused by {number}", hex(bytes))],
         Ok(packet) => {
-            format!("{} [{}]", content_in_words(&packet.content, name), header_in_words(&packet.header))
+            vec![content_in_words(&packet.content, name), format!("[{}]", header_in_words(&packet.header))]
         }
     }
+}
+
+/// The same in one line.
+pub fn packet_in_words(bytes: &[u8], name: &dyn Fn(u32) -> String) -> String {
+    packet_lines(bytes, name).join(" ")
 }

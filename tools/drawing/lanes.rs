@@ -4,8 +4,8 @@
 use crate::ride::{Moment, Refusal, Ride, Stretch, Written};
 use crate::sheet::{middle, runs, Lane, COLUMN, GUTTER};
 use crate::svg::Svg;
-use crate::words::{cut, letters, state_in_words, wrapped, DRIVER};
-use model::words::{CONDITIONS, LEVERS, MODES, STATES, STATE_NAMES};
+use crate::words::{cut, letters, state_in_words, wrapped};
+use model::words::{CONDITIONS, DRIVER, LEVERS, MODES, STATES, STATE_NAMES};
 
 /// The lines of the scenario, upwards, and their numbers.
 pub struct Events {

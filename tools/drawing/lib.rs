@@ -3,7 +3,6 @@
 pub mod journey;
 pub mod lanes;
 pub mod look;
-pub mod names;
 pub mod page;
 pub mod plan;
 pub mod ride;

@@ -1,12 +1,12 @@
 //! A load's journey by its book: where segments, zones and points lie from the journey's start.
 
-use crate::names::Names;
 use model::calls::Call;
 use model::engine::behind_front;
 use model::events::{Position, UNDEFINED};
 use model::route::{self, Book, Route};
 use model::values::{read_book, Record};
 use std::ops::Range;
+use tools::language::Scenario;
 
 pub struct Segment {
     pub name: String,
@@ -99,21 +99,26 @@ impl Segment {
     }
 }
 
+/// Its name, else its place from 1.
+fn named(names: &[String], k: usize) -> String {
+    names.get(k).map_or((k + 1).to_string(), String::clone)
+}
+
 impl Plan {
     /// `None` for profiles that a load refuses.
-    pub fn of(call: &Call, names: &Names, loads: (String, String)) -> Option<Plan> {
+    pub fn of(call: &Call, scenario: &Scenario, loads: (String, String)) -> Option<Plan> {
         let records = read_book(&call.book)?;
         let mut route = Route::EMPTY;
         route.read(&call.journey, &Book::read(&call.book).ok()?).ok()?;
         let placed = usize::from(route.placed_segments);
         let segment = |(k, segment): (usize, &route::Segment)| {
-            Segment::of(segment, k < placed, &records, names.segment(segment.nidc, segment.nidsp))
+            Segment::of(segment, k < placed, &records, named(scenario.segment_names(&loads.0), k))
         };
         let segments: Vec<Segment> = route.segments().iter().enumerate().map(segment).collect();
         let end = segments[..placed].iter().map(|segment| segment.length).sum();
         let point = |(k, point): (usize, &route::Point)| Point {
             index: k,
-            name: names.point(Some(&loads.0), segments[usize::from(point.segment)].nidc, point.nidtp),
+            name: named(scenario.point_names(&loads.0), k),
             nidtp: point.nidtp,
             segment: usize::from(point.segment),
             place: (k < usize::from(route.placed_points)).then_some(i64::from(point.place)),

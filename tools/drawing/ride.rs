@@ -1,16 +1,15 @@
 //! A scenario stepped through the proved engine: what each event gave, and what the picture shows after it.
 
-use crate::names::Names;
 use crate::plan::{Front, Plan};
 use crate::words::points_in_words;
 use model::calls::MEMORY;
 use model::events::{read_event, Event, Position, UNDEFINED};
-use model::packets::split_packets;
-use model::words::packet_in_words;
+use model::reasons::reason;
+use model::words::{packet_in_words, place_of_number};
 use proved::hollwern::{self, Engine, PacketFields, Shown};
 use std::ops::Range;
-use tools::language::Step;
-use tools::refusals::row;
+use tools::language::{Scenario, Step};
+use tools::story::StepNames;
 
 /// What the latest accepted events since power off that carry them say, else fresh.
 #[derive(Clone, Copy, PartialEq)]
@@ -62,12 +61,8 @@ pub struct Refusal {
 }
 
 impl Refusal {
-    fn of(number: u8) -> Refusal {
-        Refusal { number, reason: row(number).into() }
-    }
-
     pub fn in_words(&self) -> String {
-        format!("refused by {}: {}", self.number, self.reason)
+        format!("refused by {} ({}): {}", self.number, place_of_number(self.number), self.reason)
     }
 }
 
@@ -103,22 +98,27 @@ pub struct Ride {
 
 impl Ride {
     /// The steps through an engine that is fresh.
-    pub fn of<'a>(mut engine: Engine, names: &Names, steps: impl Iterator<Item = &'a Step>) -> Ride {
+    pub fn of<'a>(mut engine: Engine, scenario: &Scenario, steps: impl Iterator<Item = &'a Step>) -> Ride {
         let mut ride = Ride { moments: Vec::new(), stretches: vec![Stretch { plan: None, moments: 0..0 }] };
-        let (mut reported, mut skips) = (Reported::FRESH, Vec::new());
+        let (mut reported, mut skips, mut model) = (Reported::FRESH, Vec::new(), model::engine::Engine::fresh());
         for step in steps {
             let mut out = [0; MEMORY];
+            let reason = reason(&model, &step.call, &StepNames::of(scenario, ride.journey(), step));
+            let _ = model.call(&step.call, &mut [0; MEMORY]);
             let answer = engine.step(&step.call.event, &step.call.journey, &step.call.book, &mut out);
             let (mut packets, mut refused) = (Vec::new(), None);
             reported.now = false;
             match read_event(&step.call.event) {
                 Ok(event) if answer.accepted => {
                     reported.accept(event);
-                    ride.turn(event, step, names);
-                    packets = ride.read_packets(&out[..answer.bytes], names);
+                    ride.turn(event, step, scenario);
+                    packets = ride.read_packets(&out[..answer.bytes], scenario);
                     follow_skips(&mut skips, event, &packets);
                 }
-                _ => refused = Some(Refusal::of(answer.number)),
+                _ => {
+                    let reason = reason.map_or(String::new(), |(_, reason)| reason);
+                    refused = Some(Refusal { number: answer.number, reason });
+                }
             }
             let shown = engine.show();
             ride.add(Moment {
@@ -140,11 +140,11 @@ impl Ride {
     }
 
     /// A load begins a stretch, and so does power off where there was a journey.
-    fn turn(&mut self, event: Event, step: &Step, names: &Names) {
+    fn turn(&mut self, event: Event, step: &Step, scenario: &Scenario) {
         let at = self.moments.len();
         let loaded = self.stretches.last().is_some_and(|stretch| stretch.plan.is_some());
         let plan = match event {
-            Event::Load => Plan::of(&step.call, names, step.loads.clone().unwrap_or_default()),
+            Event::Load => Plan::of(&step.call, scenario, step.loads.clone().unwrap_or_default()),
             Event::PowerOff if loaded => None,
             _ => return,
         };
@@ -156,15 +156,18 @@ impl Ride {
         self.stretches.last()?.plan.as_ref()
     }
 
+    fn journey(&self) -> Option<&str> {
+        Some(&self.plan()?.journey)
+    }
+
     /// The packets that an event wrote, by the proved reader.
-    fn read_packets(&self, bytes: &[u8], names: &Names) -> Vec<Written> {
-        let journey = self.plan().map(|plan| plan.journey.as_str());
+    fn read_packets(&self, bytes: &[u8], scenario: &Scenario) -> Vec<Written> {
         let packet = |packet: &[u8]| {
             let fields = hollwern::read(packet);
-            let words = packet_in_words(packet, &|nidtp| names.point(journey, fields.nidc, nidtp));
+            let words = packet_in_words(packet, &|nidtp| scenario.point_name_in(self.journey(), fields.nidc, nidtp));
             Written { fields, words }
         };
-        split_packets(bytes).into_iter().map(packet).collect()
+        hollwern::packets(bytes).map(packet).collect()
     }
 
     fn front(&self, position: Position) -> Front {

@@ -2,22 +2,9 @@
 
 use crate::plan::{Plan, Point, Segment, PASSED, REACHED};
 use crate::ride::Moment;
-use model::words::{ALIGNMENTS, LEVERS, MODES, STATES, STATE_NAMES};
+use model::words::{grouped, ALIGNMENTS, DRIVER, LEVERS, MODES, STATES, STATE_NAMES};
 use proved::hollwern::Shown;
 use std::ops::Range;
-use tools::outcomes::grouped;
-
-/// What the driver may do in each state: in a word or two, and at length.
-pub const DRIVER: [[&str; 2]; 8] = [
-    ["power on", "drive by hand; power on for the unit"],
-    ["wait", "drive by hand; wait until the unit is configured"],
-    ["drive by hand", "drive by hand; no engaging while conditions are lacking"],
-    ["drive by hand", "drive by hand; engaging waits for train conditions, lever neutral and mode other"],
-    ["press engage", "press engage, or drive by hand"],
-    ["hands off", "hands off; the lever at brake, or leaving AD, disengages"],
-    ["take over: brake", "take over by the lever at brake or by leaving AD"],
-    ["drive by hand", "drive by hand; only power off is left to the unit"],
-];
 
 /// A distance in cm, told in metres.
 pub fn metres(distance: i64) -> String {

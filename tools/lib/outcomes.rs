@@ -1,7 +1,7 @@
 //! What comes of every order of some events, counted and told in words.
 
 use crate::refusals::row;
-use model::words::STATES;
+use model::words::{grouped, STATES};
 use std::collections::{BTreeMap, HashMap};
 
 /// So many events at most.
@@ -113,19 +113,6 @@ fn orders_with(always: &Before, events: usize) -> u64 {
         }
     }
     ways[ways.len() - 1]
-}
-
-/// A number with its thousands apart.
-pub fn grouped(number: u64) -> String {
-    let digits = number.to_string();
-    let mut text = String::new();
-    for (k, digit) in digits.chars().enumerate() {
-        if k > 0 && (digits.len() - k) % 3 == 0 {
-            text.push(',');
-        }
-        text.push(digit);
-    }
-    text
 }
 
 pub fn orders_in_words(orders: u64) -> String {

@@ -8,7 +8,7 @@ use model::engine::{Answer, Engine, Standing};
 use model::events::LOAD;
 use model::packets::{split_packets, Content, Packet};
 use model::reasons::{reason, Names};
-use model::words::{hex, packet_in_words, place_of_number, DRIVER, STATES, STATE_NAMES};
+use model::words::{hex, packet_lines, place_of_number, DRIVER, STATES, STATE_NAMES};
 
 pub struct Story<'a> {
     scenario: &'a Scenario,
@@ -54,7 +54,7 @@ impl<'a> Story<'a> {
     }
 
     fn tell_step(&mut self, step: &'a Step, answered: &Answered) -> Result<(), String> {
-        let reason = reason(&self.model, &step.call, &self.names(step));
+        let reason = reason(&self.model, &step.call, &StepNames::of(self.scenario, self.journey, step));
         let before: Vec<Standing> = self.model.standings().collect();
         let mut out = [0; MEMORY];
         let answer = self.model.call(&step.call, &mut out);
@@ -78,20 +78,6 @@ impl<'a> Story<'a> {
         Ok(())
     }
 
-    /// The names of a load's profiles; for another event those in force.
-    fn names(&self, step: &'a Step) -> StepNames<'a> {
-        let (journey, book) = match &step.loads {
-            Some((journey, book)) => (Some(journey.as_str()), Some(book.as_str())),
-            None if step.call.event.first() == Some(&LOAD) => (None, None),
-            None => (self.journey, None),
-        };
-        StepNames {
-            records: book.map_or(&[], |book| self.scenario.record_names(book)),
-            segments: journey.map_or(&[], |journey| self.scenario.segment_names(journey)),
-            points: journey.map_or(&[], |journey| self.scenario.point_names(journey)),
-        }
-    }
-
     fn note_journey(&mut self, step: &'a Step) {
         if let Some((journey, _)) = &step.loads {
             self.journey = Some(journey);
@@ -109,7 +95,7 @@ impl<'a> Story<'a> {
         let points = self.points_in_words(before, loads);
         self.text += &format!("    {}{name}, {request}{points}\n", STATES[k]);
         if first {
-            self.text += &format!("        {}: {}\n", STATES[k], DRIVER[k]);
+            self.text += &format!("        {}: the driver may {}\n", STATES[k], DRIVER[k][1]);
         }
     }
 
@@ -140,8 +126,8 @@ impl<'a> Story<'a> {
             }
             _ => nidtp.to_string(),
         };
-        let packet = packet_in_words(bytes, &name);
-        self.text += &format!("    {}\n        {packet}\n", hex(bytes));
+        self.text += &format!("    {}\n", hex(bytes));
+        packet_lines(bytes, &name).iter().for_each(|line| self.text += &format!("        {line}\n"));
     }
 }
 
@@ -155,10 +141,26 @@ fn difference(answered: &Answered, answer: Result<Answer, u8>, out: &[u8]) -> St
     format!("the player's line {} differs from the model\n  player {found}\n  model  {expected}", answered.line)
 }
 
-struct StepNames<'a> {
+/// The names of a load's profiles; for another event those of the journey in force.
+pub struct StepNames<'a> {
     records: &'a [String],
     segments: &'a [String],
     points: &'a [String],
+}
+
+impl<'a> StepNames<'a> {
+    pub fn of(scenario: &'a Scenario, journey: Option<&str>, step: &Step) -> StepNames<'a> {
+        let (journey, book) = match &step.loads {
+            Some((journey, book)) => (Some(journey.as_str()), Some(book.as_str())),
+            None if step.call.event.first() == Some(&LOAD) => (None, None),
+            None => (journey, None),
+        };
+        StepNames {
+            records: book.map_or(&[], |book| scenario.record_names(book)),
+            segments: journey.map_or(&[], |journey| scenario.segment_names(journey)),
+            points: journey.map_or(&[], |journey| scenario.point_names(journey)),
+        }
+    }
 }
 
 fn named(kind: &str, names: &[String], k: usize) -> String {

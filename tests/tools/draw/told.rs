@@ -3,7 +3,7 @@
 
 use model::calls::MEMORY;
 use model::engine::Engine;
-use model::packets::split_packets;
+use model::packets::{split_packets, Content, Packet};
 use model::words::{packet_in_words, STATES};
 use tools::language::Scenario;
 
@@ -12,13 +12,20 @@ fn main() {
     let [_, what, file] = &arguments[..] else { panic!("told answers SCENARIO, or told packets SCENARIO") };
     let text = std::fs::read_to_string(file).expect("a file");
     let scenario = Scenario::read(&text).expect("a scenario");
-    let (mut engine, mut out) = (Engine::fresh(), [0; MEMORY]);
+    let (mut engine, mut out, mut journey) = (Engine::fresh(), [0; MEMORY], None);
     for step in &scenario.steps {
         let answer = engine.call(&step.call, &mut out);
+        if let (Ok(_), Some((name, _))) = (&answer, &step.loads) {
+            journey = Some(name.as_str());
+        }
+        let name = |packet: &[u8], nidtp: u32| match Packet::read(packet) {
+            Ok(Packet { content: Content::Point { nidc, .. }, .. }) => scenario.point_name_in(journey, nidc, nidtp),
+            _ => nidtp.to_string(),
+        };
         match answer {
             Ok(answer) if what == "packets" => {
                 for packet in split_packets(&out[..answer.bytes]) {
-                    println!("{}", packet_in_words(packet, &|nidtp| scenario.point_name(nidtp)));
+                    println!("{}", packet_in_words(packet, &|nidtp| name(packet, nidtp)));
                 }
             }
             Err(number) if what == "answers" => println!("R {number}"),

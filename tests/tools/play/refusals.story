@@ -9,9 +9,10 @@ line 127: load Day B1
 
 line 128: power on
     CO (configuration), AD not requested
-        CO: the driver drives; the unit waits to be configured
+        CO: the driver may drive by hand; the unit waits to be configured
     4400000000000000FFFFFF0000FFFFFFFF0801
-        68 state CO: lacking: 0 ETCS conditions, 1 no emergency brake, 2 End of Journey not reached, 3 last point not passed, 4 profiles to the target, 5 no inconsistency, 6 located in the journey, 8 data valid [NID_C 0 NID_SP 0 offset undefined speed 0 NID_OPERATIONAL FFFFFFFF]
+        68 state CO: lacking: 0 ETCS conditions, 1 no emergency brake, 2 End of Journey not reached, 3 last point not passed, 4 profiles to the target, 5 no inconsistency, 6 located in the journey, 8 data valid
+        [NID_C 0 NID_SP 0 offset undefined speed 0 NID_OPERATIONAL FFFFFFFF]
 
 line 129: power on
     refused by 4 (power): power is on already, the state is CO
@@ -148,15 +149,18 @@ line 175: skip Shed
 line 176: load Day Line
     CO, AD not requested; targeted: Shed
     4100000000000000FFFFFF0000FFFFFFFF040040002328000054600100
-        65 journey taken: NID_C 1024, NID_ATOTS 16384, date 9000, seconds 21600, counter 1, status 0 [NID_C 0 NID_SP 0 offset undefined speed 0 NID_OPERATIONAL FFFFFFFF]
+        65 journey taken: NID_C 1024, NID_ATOTS 16384, date 9000, seconds 21600, counter 1, status 0
+        [NID_C 0 NID_SP 0 offset undefined speed 0 NID_OPERATIONAL FFFFFFFF]
     4400000000000000FFFFFF0000FFFFFFFF09C1
-        68 state CO: lacking: 0 ETCS conditions, 1 no emergency brake, 5 no inconsistency, 6 located in the journey, 8 data valid [NID_C 0 NID_SP 0 offset undefined speed 0 NID_OPERATIONAL FFFFFFFF]
+        68 state CO: lacking: 0 ETCS conditions, 1 no emergency brake, 5 no inconsistency, 6 located in the journey, 8 data valid
+        [NID_C 0 NID_SP 0 offset undefined speed 0 NID_OPERATIONAL FFFFFFFF]
 
 line 177: configured
     NA (not available), AD not requested; targeted: Shed
-        NA: the driver drives; the unit waits for the conditions that are lacking
+        NA: the driver may drive by hand; the unit waits for the conditions that are lacking
     4400000000000000FFFFFF0000FFFFFFFF09C2
-        68 state NA: lacking: 0 ETCS conditions, 1 no emergency brake, 5 no inconsistency, 6 located in the journey, 8 data valid [NID_C 0 NID_SP 0 offset undefined speed 0 NID_OPERATIONAL FFFFFFFF]
+        68 state NA: lacking: 0 ETCS conditions, 1 no emergency brake, 5 no inconsistency, 6 located in the journey, 8 data valid
+        [NID_C 0 NID_SP 0 offset undefined speed 0 NID_OPERATIONAL FFFFFFFF]
 
 line 178: configured
     refused by 6 (state): configured is taken in CO alone, the state is NA
@@ -167,9 +171,11 @@ line 179: position Depot 100001 speed 0
 line 180: position Depot 59850 speed 0
     NA, AD not requested; reached: Shed
     3E0011000001F40000E9CA0000FFFFFFFF001100001B590900
-        62 Shed stopped: NID_C 17, NID_TP 7001, Q_EOJ_REACHED 1 (End of Journey ahead), alignment front, stopping data 0 [NID_C 17 NID_SP 500 offset 59850 speed 0 NID_OPERATIONAL FFFFFFFF]
+        62 Shed stopped: NID_C 17, NID_TP 7001, Q_EOJ_REACHED 1 (End of Journey ahead), alignment front, stopping data 0
+        [NID_C 17 NID_SP 500 offset 59850 speed 0 NID_OPERATIONAL FFFFFFFF]
     440011000001F40000E9CA0000FFFFFFFF0DC2
-        68 state NA: lacking: 0 ETCS conditions, 1 no emergency brake, 5 no inconsistency, 8 data valid [NID_C 17 NID_SP 500 offset 59850 speed 0 NID_OPERATIONAL FFFFFFFF]
+        68 state NA: lacking: 0 ETCS conditions, 1 no emergency brake, 5 no inconsistency, 8 data valid
+        [NID_C 17 NID_SP 500 offset 59850 speed 0 NID_OPERATIONAL FFFFFFFF]
 
 line 181: skip Bridge
     refused by 14 (skip): point Bridge is a passing point, no stop
@@ -186,7 +192,8 @@ line 184: revoke Mill
 line 185: skip Mill
     NA, AD not requested; reached: Shed
     3E0011000001F40000E9CA0000FFFFFFFF001100001B5B2900
-        62 Mill skipped by the driver: NID_C 17, NID_TP 7003, Q_EOJ_REACHED 1 (End of Journey ahead), alignment front, stopping data 0 [NID_C 17 NID_SP 500 offset 59850 speed 0 NID_OPERATIONAL FFFFFFFF]
+        62 Mill skipped by the driver: NID_C 17, NID_TP 7003, Q_EOJ_REACHED 1 (End of Journey ahead), alignment front, stopping data 0
+        [NID_C 17 NID_SP 500 offset 59850 speed 0 NID_OPERATIONAL FFFFFFFF]
 
 line 186: skip Mill
     refused by 15 (skip): the driver skips point Mill already
@@ -194,23 +201,27 @@ line 186: skip Mill
 line 187: revoke Mill
     NA, AD not requested; reached: Shed
     3E0011000001F40000E9CA0000FFFFFFFF001100001B5B3100
-        62 Mill driver skip revoked: NID_C 17, NID_TP 7003, Q_EOJ_REACHED 1 (End of Journey ahead), alignment front, stopping data 0 [NID_C 17 NID_SP 500 offset 59850 speed 0 NID_OPERATIONAL FFFFFFFF]
+        62 Mill driver skip revoked: NID_C 17, NID_TP 7003, Q_EOJ_REACHED 1 (End of Journey ahead), alignment front, stopping data 0
+        [NID_C 17 NID_SP 500 offset 59850 speed 0 NID_OPERATIONAL FFFFFFFF]
 
 line 188: position Depot 60500 speed 100
     NA, AD not requested; passed: Shed; targeted: Bridge
     3E0011000001F40000EC540064FFFFFFFF001100001B591100
-        62 Shed departed: NID_C 17, NID_TP 7001, Q_EOJ_REACHED 1 (End of Journey ahead), alignment front, stopping data 0 [NID_C 17 NID_SP 500 offset 60500 speed 100 NID_OPERATIONAL FFFFFFFF]
+        62 Shed departed: NID_C 17, NID_TP 7001, Q_EOJ_REACHED 1 (End of Journey ahead), alignment front, stopping data 0
+        [NID_C 17 NID_SP 500 offset 60500 speed 100 NID_OPERATIONAL FFFFFFFF]
     440011000001F40000EC540064FFFFFFFF0DC2
-        68 state NA: lacking: 0 ETCS conditions, 1 no emergency brake, 5 no inconsistency, 8 data valid [NID_C 17 NID_SP 500 offset 60500 speed 100 NID_OPERATIONAL FFFFFFFF]
+        68 state NA: lacking: 0 ETCS conditions, 1 no emergency brake, 5 no inconsistency, 8 data valid
+        [NID_C 17 NID_SP 500 offset 60500 speed 100 NID_OPERATIONAL FFFFFFFF]
 
 line 189: revoke Shed
     refused by 15 (skip): point Shed is passed
 
 line 190: fault
     FA (failure), AD not requested; targeted: Bridge
-        FA: the driver drives; only power off is left to the unit
+        FA: the driver may drive by hand; only power off is left to the unit
     440011000001F40000EC540064FFFFFFFF0DC7
-        68 state FA: lacking: 0 ETCS conditions, 1 no emergency brake, 5 no inconsistency, 8 data valid [NID_C 17 NID_SP 500 offset 60500 speed 100 NID_OPERATIONAL FFFFFFFF]
+        68 state FA: lacking: 0 ETCS conditions, 1 no emergency brake, 5 no inconsistency, 8 data valid
+        [NID_C 17 NID_SP 500 offset 60500 speed 100 NID_OPERATIONAL FFFFFFFF]
 
 line 191: load Day B1
     refused by 5 (power): there is a fault: only power off is taken
@@ -220,9 +231,10 @@ line 192: power on
 
 line 193: power off
     NP (no power), AD not requested
-        NP: the driver drives; the unit is off
+        NP: the driver may drive by hand; the unit takes no part
     4400000000000000FFFFFF0000FFFFFFFF0800
-        68 state NP: lacking: 0 ETCS conditions, 1 no emergency brake, 2 End of Journey not reached, 3 last point not passed, 4 profiles to the target, 5 no inconsistency, 6 located in the journey, 8 data valid [NID_C 0 NID_SP 0 offset undefined speed 0 NID_OPERATIONAL FFFFFFFF]
+        68 state NP: lacking: 0 ETCS conditions, 1 no emergency brake, 2 End of Journey not reached, 3 last point not passed, 4 profiles to the target, 5 no inconsistency, 6 located in the journey, 8 data valid
+        [NID_C 0 NID_SP 0 offset undefined speed 0 NID_OPERATIONAL FFFFFFFF]
 
 line 194: power off
     refused by 3 (power): there is no power: only power on is taken
