@@ -7,7 +7,7 @@ use proved::hollwern::Engine;
 use std::path::Path;
 use tools::language::Scenario;
 
-const USAGE: &str = "usage: tools/draw SCENARIO OUT.svg, or tools/draw SCENARIO OUT.html";
+const USAGE: &str = "usage: tools/draw SCENARIO OUT.svg|OUT.html";
 
 /// What went wrong, and the status to end with.
 type Failure = (String, i32);
