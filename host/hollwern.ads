@@ -1,5 +1,7 @@
---  The calls of hollwern.h for a host in Ada. What each promises, and what it asks of the host, stands there. An engine
---  is all zero as declared; the arrays of bytes give the pointers. For x86-64 Linux only.
+--  The calls of hollwern.h for a host in Ada 2012 or later. What each promises, and what it asks of the host, stands
+--  there. An engine is all zero as declared; the arrays of bytes give the pointers; for nothing to lend, one of range
+--  1 .. 0. For x86-64 Linux only. A host is built by
+--  gnatmake -IPREFIX/share/hollwern HOST.adb -largs -LPREFIX/lib -lhollwern
 with Interfaces; use Interfaces;
 with Interfaces.C; use Interfaces.C;
 private with System;
@@ -13,10 +15,22 @@ package Hollwern is
 
    --  Bytes of an engine.
    Engine_Size : constant := 3_456;
-   --  The most bytes that an event writes.
+   --  No event writes more bytes than this.
    Bytes_Most : constant := 1_669;
    --  The most points of a journey.
    Points_Most : constant := 64;
+   --  The most segments of a journey.
+   Segments_Most : constant := 40;
+   --  The most records of a book.
+   Records_Most : constant := 40;
+   --  The most points of a record.
+   Record_Points_Most : constant := 16;
+   --  The most zones of a record.
+   Zones_Most : constant := 4;
+   --  The most bytes of a journey that is not refused.
+   Journey_Bytes_Most : constant := 768;
+   --  The most bytes of a book that is not refused.
+   Book_Bytes_Most : constant := 8_200;
    --  Bytes of stack that a load takes.
    Stack_Load : constant := 31_744;
    --  Bytes of stack that any other call takes.
@@ -59,6 +73,20 @@ package Hollwern is
    Unknown_Nidc : constant := 1_024;
    --  NID_ATOTS where the journey has none.
    No_Atots : constant := 16_384;
+
+   --  Bit maps of a record, a journey and a journey's point: the bits that must be 1, together, and those that may be.
+   Record_Map : constant := 7;
+   Record_Points : constant := 8;
+   Record_Zones : constant := 16;
+   Journey_Map : constant := 26;
+   Journey_Operational : constant := 1;
+   Journey_Atots : constant := 4;
+   Point_Map : constant := 3;
+   Point_Alignment : constant := 4;
+   Point_Stopping : constant := 8;
+   Point_Stop : constant := 16;
+   Point_Skipped : constant := 32;
+   Point_End : constant := 64;
 
    --  A journey's points and packet 62: what of the train counts at the point.
    Alignment_Front : constant := 0;

@@ -3,16 +3,18 @@
  * For x86-64 Linux only: the toolchain writes the archive, libhollwern.a, for nothing else.
  *
  * The host keeps an engine in its own memory, hands over each event as bytes and gets the packets for the recorder as
- * bytes. docs/INTERFACE.md has the layouts of events, journeys, books and packets, a worked call, and all application
- * conditions. Each promise of a call is proved: crates/host/src/lib.rt has it as a contract.
+ * bytes. INTERFACE.md (docs/, installed in share/doc/hollwern) has the layouts of events, journeys, books and packets,
+ * a session worked in hexadecimal, and all application conditions. Each promise of a call is proved: in the repository,
+ * crates/host/src/lib.rt has it as a contract.
  *
  * What the host must keep to:
  * - No pointer is null, also where its count is 0: for nothing to lend, pass any valid pointer, as the event's, and 0.
- *   Behind each pointer stand as many bytes as its count says, all of them set.
- * - During a call nobody else writes what is lent, nor touches the engine and `out` of hollwern_step at all; and these
- *   two overlap neither each other nor anything else that is lent.
- * - Before the first hollwern_fresh an engine's memory is all zero (static storage, calloc, memset, `= {0}`). From then
- *   on these calls alone change it; hollwern_fresh may be called again on any engine that they left.
+ *   Behind each pointer stand as many bytes as its count says, all of them set to something, also those of `out`.
+ * - During a call nobody else writes what is lent, nor touches `out` or the engine of hollwern_fresh and hollwern_step
+ *   at all; and these overlap neither each other nor anything else that is lent.
+ * - Before the first hollwern_fresh an engine's memory is all zero (static storage, calloc, memset, `= {0}`): the calls
+ *   take for granted that each flag in it is 0 or 1. The other calls come after it. From then on these calls alone
+ *   change the engine; hollwern_fresh may be called again on any engine that they left.
  * - There is stack enough: HOLLWERN_STACK_LOAD.
  * Everything else is refused by number: any bytes, of any length, may be lent as event, journey, book and packet.
  *
@@ -41,11 +43,21 @@
 
 /* Bytes of an engine; its alignment is 4. */
 #define HOLLWERN_ENGINE_SIZE 3456
-/* The most bytes that an event writes, and the most points of a journey. */
+/* No event writes more bytes than this. */
 #define HOLLWERN_BYTES_MOST 1669
+/* The most points and segments of a journey, records of a book, points and zones of a record; and so the most bytes of
+ * a journey and of a book that is not refused. */
 #define HOLLWERN_POINTS_MOST 64
+#define HOLLWERN_SEGMENTS_MOST 40
+#define HOLLWERN_RECORDS_MOST 40
+#define HOLLWERN_RECORD_POINTS_MOST 16
+#define HOLLWERN_ZONES_MOST 4
+#define HOLLWERN_JOURNEY_BYTES_MOST 768
+#define HOLLWERN_BOOK_BYTES_MOST 8200
 /* Bytes of stack that a load (kind 11) takes, and any other call. Not proved, but the frames of the archive's functions
- * and 128 bytes for memcpy and memset, rounded up to 1,024: tests/copies reads them and fails where these differ. */
+ * and 128 bytes for memcpy and memset, rounded up to 1,024: a test of the repository reads them and fails where these
+ * differ. A program that binds memcpy and memset only at their first use runs the dynamic linker on the same stack
+ * then, some 3 KiB more where it was measured: bind them before (-Wl,-z,now or -static), or provide for it. */
 #define HOLLWERN_STACK_LOAD 31744
 #define HOLLWERN_STACK_OTHER 10240
 
@@ -86,6 +98,20 @@
 #define HOLLWERN_UNKNOWN_NIDC 1024
 #define HOLLWERN_NO_ATOTS 16384
 
+/* Bit maps of a record, a journey and a journey's point: the bits that must be 1, together, and those that may be. */
+#define HOLLWERN_RECORD_MAP 7
+#define HOLLWERN_RECORD_POINTS 8
+#define HOLLWERN_RECORD_ZONES 16
+#define HOLLWERN_JOURNEY_MAP 26
+#define HOLLWERN_JOURNEY_OPERATIONAL 1
+#define HOLLWERN_JOURNEY_ATOTS 4
+#define HOLLWERN_POINT_MAP 3
+#define HOLLWERN_POINT_ALIGNMENT 4
+#define HOLLWERN_POINT_STOPPING 8
+#define HOLLWERN_POINT_STOP 16
+#define HOLLWERN_POINT_SKIPPED 32 /* by trackside; with STOP only */
+#define HOLLWERN_POINT_END 64     /* End of Journey */
+
 /* A journey's points and packet 62: what of the train counts at the point. */
 #define HOLLWERN_ALIGNMENT_FRONT 0
 #define HOLLWERN_ALIGNMENT_MIDDLE 1
@@ -108,7 +134,7 @@
 #define HOLLWERN_CONDITION_LAST_AHEAD 8    /* last point not passed */
 #define HOLLWERN_CONDITION_PROFILES 16     /* first point not passed is placed, or none is left */
 #define HOLLWERN_CONDITION_NO_INCONSISTENCY 32
-#define HOLLWERN_CONDITION_LOCATED 64      /* in a segment of the journey */
+#define HOLLWERN_CONDITION_LOCATED 64      /* offset defined, in a segment of the journey */
 #define HOLLWERN_CONDITION_OUTSIDE 128     /* of the inhibition zones */
 #define HOLLWERN_CONDITION_DATA_VALID 256
 #define HOLLWERN_ALL_CONDITIONS 511
@@ -158,7 +184,7 @@ typedef struct hollwern_engine {
 } hollwern_engine;
 
 /* What hollwern_step answers. Accepted: `number` 0, state, request (whether AD is requested) and bytes written.
- * Refused: `number`, all else 0. */
+ * Refused: `number`; all else is 0 and means nothing, state and request stay as last answered. */
 typedef struct hollwern_answer {
     bool accepted;
     uint8_t number;

@@ -1,5 +1,8 @@
 //! The calls of hollwern.h for a host in Rust, edition 2021 or 2024, with or without std. What each promises stands
 //! there; what it asks of the host's memory, the borrows give. For x86-64 Linux only.
+//!
+//! A host has `#[path = "PREFIX/share/hollwern/hollwern.rs"] mod hollwern;` and is built by
+//! `rustc -L PREFIX/lib -l static=hollwern HOST.rs`.
 #![allow(dead_code)]
 
 #[cfg(not(all(target_arch = "x86_64", target_os = "linux", target_pointer_width = "64")))]
@@ -13,10 +16,22 @@ pub const VERSION: u32 = VERSION_MAJOR * 65_536 + VERSION_MINOR * 256 + VERSION_
 
 /// Bytes of an engine.
 pub const ENGINE_SIZE: usize = 3_456;
-/// The most bytes that an event writes.
+/// No event writes more bytes than this.
 pub const BYTES_MOST: usize = 1_669;
 /// The most points of a journey.
 pub const POINTS_MOST: usize = 64;
+/// The most segments of a journey.
+pub const SEGMENTS_MOST: usize = 40;
+/// The most records of a book.
+pub const RECORDS_MOST: usize = 40;
+/// The most points of a record.
+pub const RECORD_POINTS_MOST: usize = 16;
+/// The most zones of a record.
+pub const ZONES_MOST: usize = 4;
+/// The most bytes of a journey that is not refused.
+pub const JOURNEY_BYTES_MOST: usize = 768;
+/// The most bytes of a book that is not refused.
+pub const BOOK_BYTES_MOST: usize = 8_200;
 /// Bytes of stack that a load takes.
 pub const STACK_LOAD: usize = 31_744;
 /// Bytes of stack that any other call takes.
@@ -59,6 +74,20 @@ pub const NO_OPERATIONAL: u32 = 4_294_967_295;
 pub const UNKNOWN_NIDC: u16 = 1_024;
 /// NID_ATOTS where the journey has none.
 pub const NO_ATOTS: u16 = 16_384;
+
+// Bit maps of a record, a journey and a journey's point: the bits that must be 1, together, and those that may be.
+pub const RECORD_MAP: u8 = 7;
+pub const RECORD_POINTS: u8 = 8;
+pub const RECORD_ZONES: u8 = 16;
+pub const JOURNEY_MAP: u8 = 26;
+pub const JOURNEY_OPERATIONAL: u8 = 1;
+pub const JOURNEY_ATOTS: u8 = 4;
+pub const POINT_MAP: u8 = 3;
+pub const POINT_ALIGNMENT: u8 = 4;
+pub const POINT_STOPPING: u8 = 8;
+pub const POINT_STOP: u8 = 16;
+pub const POINT_SKIPPED: u8 = 32;
+pub const POINT_END: u8 = 64;
 
 // A journey's points and packet 62: what of the train counts at the point.
 pub const ALIGNMENT_FRONT: u8 = 0;
@@ -236,13 +265,18 @@ pub fn packets(written: &[u8]) -> impl Iterator<Item = &[u8]> {
 }
 
 impl Engine {
+    /// All zero, as for a `static`: to be made fresh before any other call.
+    pub const fn zeroed() -> Engine {
+        Engine { opaque: [0; ENGINE_SIZE / 4] }
+    }
+
     pub fn fresh() -> Engine {
-        let mut e = Engine { opaque: [0; ENGINE_SIZE / 4] };
+        let mut e = Engine::zeroed();
         e.make_fresh();
         e
     }
 
-    /// Fresh again, where it is kept.
+    /// Fresh, where it is kept.
     pub fn make_fresh(&mut self) {
         unsafe { hollwern_fresh(self) }
     }

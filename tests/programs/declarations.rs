@@ -2,13 +2,14 @@
 //! the proved code; an engine takes the bytes that they say, none of them padding. Every difference is named, and it
 //! fails.
 
+use inputs::sizes::largest;
 use proved::declarations::layout::Layout;
 use proved::declarations::Declared;
 use std::collections::{BTreeMap, BTreeSet};
 use std::fmt::Debug;
 
 /// Constants of the header by the beginning of their names, the crate that has them, and how they begin there.
-const CONSTANTS: [(&str, &str, &str); 10] = [
+const CONSTANTS: [(&str, &str, &str); 14] = [
     ("VERSION_", "host", ""),
     ("KIND_", "event", ""),
     ("STATUS_", "event_packets", ""),
@@ -18,6 +19,10 @@ const CONSTANTS: [(&str, &str, &str); 10] = [
     ("NO_ATOTS", "journey", "NO_ATOTS"),
     ("UNKNOWN_NIDC", "packets", "UNKNOWN_NIDC"),
     ("POINTS_MOST", "engine_value", "MAX_POINTS"),
+    ("SEGMENTS_MOST", "engine_value", "MAX_SEGMENTS"),
+    ("RECORDS_MOST", "engine_value", "MAX_SEGMENTS"),
+    ("RECORD_POINTS_MOST", "segment_record", "MAX_RECORD_POINTS"),
+    ("ZONES_MOST", "engine_value", "MAX_ZONES"),
     ("ALL_CONDITIONS", "conditions", "ALL_CONDITIONS"),
 ];
 /// Structs of the header and the crate that has them.
@@ -89,6 +94,13 @@ impl Differences {
         let proved = stated.and_then(|line| line.rsplit_once(" ≤ ")?.1.parse().ok());
         self.compare(BYTES_PROVED, "BYTES_MOST", header.constants.get("BYTES_MOST").copied(), proved);
     }
+
+    fn check_profiles_most(&mut self, header: &Declared) {
+        let call = largest().load();
+        for (name, bytes) in [("JOURNEY_BYTES_MOST", call.journey), ("BOOK_BYTES_MOST", call.book)] {
+            self.compare("the largest load", name, header.constants.get(name).copied(), Some(bytes.len() as _));
+        }
+    }
 }
 
 /// The crate's file and what it declares; it may count by the constants of `engine_value`.
@@ -107,6 +119,7 @@ fn main() {
     differences.compare_with_proved(&header);
     differences.check_engine(&header);
     differences.check_bytes_most(&header);
+    differences.check_profiles_most(&header);
     if differences.0.is_empty() {
         let Declared { constants, structs, calls } = header;
         let counts = format!("{} constants, {} structs, {} calls", constants.len(), structs.len(), calls.len());
