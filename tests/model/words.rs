@@ -14,10 +14,7 @@ pub const DRIVER: [[&str; 2]; 8] = [
     ["power on", "drive by hand; the unit takes no part"],
     ["wait", "drive by hand; the unit waits to be configured"],
     ["drive by hand", "drive by hand; the unit waits for the conditions that are lacking"],
-    [
-        "drive by hand",
-        "drive by hand; for ready the unit waits for train conditions, the lever at neutral and ETCS out of AD",
-    ],
+    ["drive by hand", "drive by hand; for ready the unit waits for train conditions, lever neutral and mode other"],
     ["press engage", "drive by hand, or press engage"],
     ["hands off", "leave driving to the ATO, or take over by the lever at brake or by leaving AD"],
     ["take over: brake", "take over by the lever at brake or by leaving AD"],
