@@ -12,31 +12,35 @@ const USAGE: &str = "usage: tools/draw SCENARIO OUT.svg|OUT.html";
 /// What went wrong, and the status to end with.
 type Failure = (String, i32);
 
-fn failed(file: &str) -> impl Fn(std::io::Error) -> Failure + '_ {
-    move |error| (format!("draw: {file}: {error}"), 1)
+fn wrong_use(what: &str) -> Failure {
+    (format!("{what}{USAGE}"), 2)
+}
+
+fn failed(error: String) -> Failure {
+    (error, 1)
 }
 
 fn run(arguments: &[String]) -> Result<(), Failure> {
-    let [scenario, out] = arguments else { return Err((format!("draw: {USAGE}"), 2)) };
+    let [scenario, out] = arguments else { return Err(wrong_use("")) };
     let draw = match Path::new(out).extension().and_then(|extension| extension.to_str()) {
         Some("svg") => picture,
         Some("html") => page,
-        _ => return Err((format!("draw: {out} ends neither in .svg nor in .html; {USAGE}"), 2)),
+        _ => return Err(wrong_use(&format!("{out} ends neither in .svg nor in .html; "))),
     };
-    let text = std::fs::read_to_string(scenario).map_err(failed(scenario))?;
-    let read = Scenario::read(&text).map_err(|error| (format!("draw: {scenario}, {error}"), 1))?;
+    let read = Scenario::read_file(scenario).map_err(failed)?;
     if read.steps.is_empty() {
-        return Err((format!("draw: {scenario} has no event: there is nothing to draw"), 1));
+        return Err(failed(format!("{scenario} has no event: there is nothing to draw")));
     }
     let ride = Ride::of(Engine::fresh(), &read, read.steps.iter());
     let name = Path::new(scenario).file_name().map_or(scenario.into(), |name| name.to_string_lossy());
-    std::fs::write(out, draw(&format!("{name}, event by event"), &ride)).map_err(failed(out))
+    let drawing = draw(&format!("{name}, event by event"), &ride);
+    std::fs::write(out, drawing).map_err(|error| failed(format!("{out}: {error}")))
 }
 
 fn main() {
     let arguments: Vec<String> = std::env::args().skip(1).collect();
     if let Err((error, status)) = run(&arguments) {
-        eprintln!("{error}");
+        eprintln!("draw: {error}");
         std::process::exit(status);
     }
 }
