@@ -9,38 +9,37 @@ use tools::language::Scenario;
 
 const USAGE: &str = "usage: tools/draw SCENARIO OUT.svg|OUT.html";
 
-/// What went wrong, and the status to end with.
-type Failure = (String, i32);
+/// A titled run as a file.
+type Draw = fn(&str, &Ride) -> String;
 
-fn wrong_use(what: &str) -> Failure {
-    (format!("{what}{USAGE}"), 2)
-}
-
-fn failed(error: String) -> Failure {
-    (error, 1)
-}
-
-fn run(arguments: &[String]) -> Result<(), Failure> {
-    let [scenario, out] = arguments else { return Err(wrong_use("")) };
-    let draw = match Path::new(out).extension().and_then(|extension| extension.to_str()) {
-        Some("svg") => picture,
-        Some("html") => page,
-        _ => return Err(wrong_use(&format!("{out} ends neither in .svg nor in .html; "))),
-    };
-    let read = Scenario::read_file(scenario).map_err(failed)?;
-    if read.steps.is_empty() {
-        return Err(failed(format!("{scenario} has no event: there is nothing to draw")));
+/// The scenario, the file to draw to, and how.
+fn arguments(given: &[String]) -> Result<(&str, &str, Draw), String> {
+    let [scenario, out] = given else { return Err(USAGE.into()) };
+    match Path::new(out).extension().and_then(|extension| extension.to_str()) {
+        Some("svg") => Ok((scenario, out, picture)),
+        Some("html") => Ok((scenario, out, page)),
+        _ => Err(format!("{out} ends neither in .svg nor in .html; {USAGE}")),
     }
-    let ride = Ride::of(Engine::fresh(), &read, read.steps.iter());
-    let name = Path::new(scenario).file_name().map_or(scenario.into(), |name| name.to_string_lossy());
-    let drawing = draw(&format!("{name}, event by event"), &ride);
-    std::fs::write(out, drawing).map_err(|error| failed(format!("{out}: {error}")))
+}
+
+fn run(file: &str, out: &str, draw: Draw) -> Result<(), String> {
+    let scenario = Scenario::read_file(file)?;
+    if scenario.steps.is_empty() {
+        return Err(format!("{file} has no event: there is nothing to draw"));
+    }
+    let ride = Ride::of(Engine::fresh(), &scenario, scenario.steps.iter());
+    let name = Path::new(file).file_name().map_or(file.into(), |name| name.to_string_lossy());
+    std::fs::write(out, draw(&format!("{name}, event by event"), &ride)).map_err(|error| format!("{out}: {error}"))
 }
 
 fn main() {
-    let arguments: Vec<String> = std::env::args().skip(1).collect();
-    if let Err((error, status)) = run(&arguments) {
+    let given: Vec<String> = std::env::args().skip(1).collect();
+    let failed = |error: String, status: i32| {
         eprintln!("draw: {error}");
         std::process::exit(status);
+    };
+    match arguments(&given) {
+        Err(error) => failed(error, 2),
+        Ok((file, out, draw)) => run(file, out, draw).unwrap_or_else(|error| failed(error, 1)),
     }
 }

@@ -20,8 +20,8 @@ const DECLARATIONS: [&str; 3] = ["host/hollwern.h", "host/hollwern.rs", "host/ho
 const STACK_UNIT: usize = 1024;
 /// More than this program's own frames and memcpy take of a painted stack.
 const CALLER: usize = 512;
-/// The functions that a load alone calls, by the beginning of their names. The compiler makes most of them part of their
-/// callers, so that the archive may have but one; any that it has must not count for other events.
+/// The functions that a load alone calls, by the beginning of their names. The compiler makes most of them part of
+/// their callers, so that the archive may have but one; any that it has must not count for other events.
 const OF_LOAD: [&str; 6] = ["effects::load", "segment_record::", "book::", "journey::", "journey_rows::", "route::"];
 
 static COPIED: AtomicUsize = AtomicUsize::new(0);

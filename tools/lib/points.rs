@@ -7,8 +7,8 @@ pub const TARGETED: u8 = Standing::Targeted as u8;
 pub const REACHED: u8 = Standing::Reached as u8;
 pub const PASSED: u8 = Standing::Passed as u8;
 
-/// The points that an event passed or, by a load (nothing stands before it), put behind; and the one that is targeted or
-/// reached. Standings go by the order of the names.
+/// The points that an event passed or, by a load (nothing stands before it), put behind; and the one that is targeted
+/// or reached. Standings go by the order of the names.
 pub fn points_in_words(names: &[impl AsRef<str>], before: Option<&[u8]>, now: &[u8]) -> String {
     let points = || names.iter().map(AsRef::as_ref).zip(now.iter().copied()).enumerate();
     let was_passed = |k: usize| before.and_then(|before| before.get(k)) == Some(&PASSED);
