@@ -72,12 +72,8 @@ pub struct Figures {
 
 impl Figures {
     /// The numbers of the events once more.
-    pub const NUMBERS: Figures = Figures {
-        height: 14.0,
-        label: ("small", "event"),
-        class: "number",
-        of: |moment| Some(moment.label.clone()),
-    };
+    pub const NUMBERS: Figures =
+        Figures { height: 14.0, label: ("small", "event"), class: "number", of: |moment| Some(moment.label.clone()) };
 
     /// The speed, where it was reported.
     const SPEED: Figures = Figures {
