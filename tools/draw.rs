@@ -9,34 +9,37 @@ use tools::language::Scenario;
 
 const USAGE: &str = "usage: tools/draw SCENARIO OUT.svg|OUT.html";
 
-/// What went wrong, and the status to end with.
-type Failure = (String, i32);
+/// A titled run as a file.
+type Draw = fn(&str, &Ride) -> String;
 
-fn failed(file: &str) -> impl Fn(std::io::Error) -> Failure + '_ {
-    move |error| (format!("draw: {file}: {error}"), 1)
+/// The scenario, the file to draw to, and how.
+fn arguments(given: &[String]) -> Result<(&str, &str, Draw), String> {
+    let [scenario, out] = given else { return Err(USAGE.into()) };
+    match Path::new(out).extension().and_then(|extension| extension.to_str()) {
+        Some("svg") => Ok((scenario, out, picture)),
+        Some("html") => Ok((scenario, out, page)),
+        _ => Err(format!("{out} ends neither in .svg nor in .html; {USAGE}")),
+    }
 }
 
-fn run(arguments: &[String]) -> Result<(), Failure> {
-    let [scenario, out] = arguments else { return Err((format!("draw: {USAGE}"), 2)) };
-    let draw = match Path::new(out).extension().and_then(|extension| extension.to_str()) {
-        Some("svg") => picture,
-        Some("html") => page,
-        _ => return Err((format!("draw: {out} ends neither in .svg nor in .html; {USAGE}"), 2)),
-    };
-    let text = std::fs::read_to_string(scenario).map_err(failed(scenario))?;
-    let read = Scenario::read(&text).map_err(|error| (format!("draw: {scenario}, {error}"), 1))?;
-    if read.steps.is_empty() {
-        return Err((format!("draw: {scenario} has no event: there is nothing to draw"), 1));
+fn run(file: &str, out: &str, draw: Draw) -> Result<(), String> {
+    let scenario = Scenario::read_file(file)?;
+    if scenario.steps.is_empty() {
+        return Err(format!("{file} has no event: there is nothing to draw"));
     }
-    let ride = Ride::of(Engine::fresh(), &read, read.steps.iter());
-    let name = Path::new(scenario).file_name().map_or(scenario.into(), |name| name.to_string_lossy());
-    std::fs::write(out, draw(&format!("{name}, event by event"), &ride)).map_err(failed(out))
+    let ride = Ride::of(Engine::fresh(), &scenario, scenario.steps.iter());
+    let name = Path::new(file).file_name().map_or(file.into(), |name| name.to_string_lossy());
+    std::fs::write(out, draw(&format!("{name}, event by event"), &ride)).map_err(|error| format!("{out}: {error}"))
 }
 
 fn main() {
-    let arguments: Vec<String> = std::env::args().skip(1).collect();
-    if let Err((error, status)) = run(&arguments) {
-        eprintln!("{error}");
+    let given: Vec<String> = std::env::args().skip(1).collect();
+    let failed = |error: String, status: i32| {
+        eprintln!("draw: {error}");
         std::process::exit(status);
+    };
+    match arguments(&given) {
+        Err(error) => failed(error, 2),
+        Ok((file, out, draw)) => run(file, out, draw).unwrap_or_else(|error| failed(error, 1)),
     }
 }

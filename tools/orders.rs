@@ -12,7 +12,7 @@ use proved::hollwern::Engine;
 use proved::pair::{Memory, Pair};
 use std::hash::{DefaultHasher, Hash, Hasher};
 use std::path::Path;
-use tools::language::{Scenario, Step};
+use tools::language::{read_text, Scenario, Step};
 use tools::outcomes::{orders_in_words, Kind, Outcome, Outcomes, MOST, SHOWN};
 use tools::refusals::row;
 
@@ -178,8 +178,7 @@ impl Task<'_> {
 
 /// Tells of every order; draws where there is a file to draw to.
 fn run(file: &str, draw: Option<&str>) -> Result<(), String> {
-    let text = std::fs::read_to_string(file).map_err(|error| format!("{file}: {error}"))?;
-    let (scenario, line, names) = read(&text).map_err(|error| format!("{file}, {error}"))?;
+    let (scenario, line, names) = read(&read_text(file)?).map_err(|error| format!("{file}, {error}"))?;
     let (beginning, events) = scenario.steps.split_at(scenario.steps.partition_point(|step| step.line < line));
     if events.is_empty() || events.len() > MOST {
         return Err(format!("{file}: {} events below 'orders'; 1 to {MOST} can be ordered", events.len()));

@@ -11,12 +11,6 @@ use tools::story::Story;
 const USAGE: &str = "usage: scenario play PLAYER FILE, scenario encode FILE, \
                      or scenario explain FILE with the player's lines on standard input";
 
-fn read_scenario(file: &str) -> Result<Scenario, String> {
-    let text = std::fs::read(file).map_err(|error| format!("{file}: {error}"))?;
-    let text = String::from_utf8(text).map_err(|_| format!("{file}: it is no text"))?;
-    Scenario::read(&text).map_err(|error| format!("{file}, {error}"))
-}
-
 fn calls(scenario: &Scenario) -> Vec<Call> {
     scenario.steps.iter().map(|step| step.call.clone()).collect()
 }
@@ -38,15 +32,15 @@ fn tell(scenario: &Scenario, lines: &str) -> Result<(), String> {
 fn run(arguments: &[&str]) -> Result<(), String> {
     match *arguments {
         ["play", player, file] => {
-            let scenario = read_scenario(file)?;
+            let scenario = Scenario::read_file(file)?;
             tell(&scenario, &run_player(player, &calls(&scenario))?)
         }
-        ["encode", file] => print(&write_calls(&calls(&read_scenario(file)?))),
+        ["encode", file] => print(&write_calls(&calls(&Scenario::read_file(file)?))),
         ["explain", file] => {
             let mut lines = String::new();
             let read = std::io::stdin().read_to_string(&mut lines);
             read.map_err(|error| format!("the player's lines: {error}"))?;
-            tell(&read_scenario(file)?, &lines)
+            tell(&Scenario::read_file(file)?, &lines)
         }
         _ => {
             eprintln!("{USAGE}");

@@ -20,7 +20,8 @@ const DECLARATIONS: [&str; 3] = ["host/hollwern.h", "host/hollwern.rs", "host/ho
 const STACK_UNIT: usize = 1024;
 /// More than this program's own frames and memcpy take of a painted stack.
 const CALLER: usize = 512;
-/// The functions that a load alone calls, by the beginning of their names.
+/// The functions that a load alone calls, by the beginning of their names. The compiler makes most of them part of
+/// their callers, so that the archive may have but one; any that it has must not count for other events.
 const OF_LOAD: [&str; 6] = ["effects::load", "segment_record::", "book::", "journey::", "journey_rows::", "route::"];
 
 static COPIED: AtomicUsize = AtomicUsize::new(0);
@@ -110,6 +111,7 @@ impl Deepest {
         assert!(calls.iter().copied().eq(declared.keys()), "the header declares other calls than {calls:?}");
         let of_load = |name: &&str| OF_LOAD.iter().any(|start| name.starts_with(start));
         let left_out: Vec<&str> = frames.names().filter(of_load).collect();
+        assert!(!left_out.is_empty(), "the archive has no function that a load alone calls");
         println!("exported: {}; a load's own functions: {}", calls.join(", "), left_out.join(", "));
         let deepest = |left_out: &[&str]| {
             let chains = calls.iter().map(|call| frames.deepest(call, left_out));

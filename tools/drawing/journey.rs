@@ -1,12 +1,13 @@
 //! The journey from below to above: segments, zones, points with their margins and standings, the front's way, and the
 //! packets 62 at the points that they tell of.
 
-use crate::plan::{Front, Plan, Point, PASSED, REACHED, TARGETED};
+use crate::plan::{Front, Plan, Point};
 use crate::ride::{Moment, Ride, Written};
 use crate::scale::{Marks, Scale};
 use crate::sheet::{middle, runs, Lane, COLUMN, GUTTER};
 use crate::svg::Svg;
 use crate::words::{cut, letters, margin_in_words, metres, point_in_words, segment_in_words};
+use tools::points::{PASSED, REACHED, TARGETED};
 
 const ABOVE: f64 = 14.0;
 const BELOW: f64 = 20.0;

@@ -61,21 +61,46 @@ impl Lane for Events {
     }
 }
 
-/// The numbers of the events once more.
-pub struct Numbers;
+/// A figure under each event that has one.
+pub struct Figures {
+    height: f64,
+    /// The label with its class.
+    label: (&'static str, &'static str),
+    class: &'static str,
+    of: fn(&Moment) -> Option<String>,
+}
 
-impl Lane for Numbers {
+impl Figures {
+    /// The numbers of the events once more.
+    pub const NUMBERS: Figures =
+        Figures { height: 14.0, label: ("small", "event"), class: "number", of: |moment| Some(moment.label.clone()) };
+
+    /// The speed, where it was reported.
+    const SPEED: Figures = Figures {
+        height: 18.0,
+        label: ("head", "Speed, cm/s"),
+        class: "speed",
+        of: |moment| moment.reported.now.then(|| moment.reported.speed.to_string()),
+    };
+
+    fn line(&self) -> f64 {
+        self.height / 2.0 + 3.0
+    }
+}
+
+impl Lane for Figures {
     fn height(&self) -> f64 {
-        14.0
+        self.height
     }
 
     fn label(&self, svg: &mut Svg) {
-        svg.text("small", 0.0, 10.0, "event");
+        let (class, text) = self.label;
+        svg.text(class, 0.0, self.line(), text);
     }
 
     fn columns(&self, _: usize, moments: &[Moment], svg: &mut Svg) {
         for (k, moment) in moments.iter().enumerate() {
-            svg.text("number", middle(k), 10.0, &moment.label);
+            (self.of)(moment).into_iter().for_each(|text| svg.text(self.class, middle(k), self.line(), &text));
         }
     }
 }
@@ -222,32 +247,13 @@ impl Lane for Heading {
     fn columns(&self, _: usize, _: &[Moment], _: &mut Svg) {}
 }
 
-/// The speed, where it was reported.
-struct Speed;
-
-impl Lane for Speed {
-    fn height(&self) -> f64 {
-        18.0
-    }
-
-    fn label(&self, svg: &mut Svg) {
-        svg.text("head", 0.0, 12.0, "Speed, cm/s");
-    }
-
-    fn columns(&self, _: usize, moments: &[Moment], svg: &mut Svg) {
-        for (k, moment) in moments.iter().enumerate().filter(|(_, moment)| moment.reported.now) {
-            svg.text("speed", middle(k), 12.0, &moment.reported.speed.to_string());
-        }
-    }
-}
-
 /// Request, mode, lever, and what O, T and N are made of.
 pub fn inputs() -> Vec<Box<dyn Lane>> {
     let mut lanes: Vec<Box<dyn Lane>> = vec![
         Bar::request(),
         Box::new(Named { head: "ETCS mode", names: &MODES, of: |moment| moment.reported.mode }),
         Box::new(Named { head: "Lever", names: &LEVERS, of: |moment| moment.reported.lever }),
-        Box::new(Speed),
+        Box::new(Figures::SPEED),
         Box::new(Heading("Engaging needs")),
         Bar::condition("O all nine conditions", |moment| moment.shown.conditions == 0x1FF),
         Bar::condition("T train conditions", |moment| moment.reported.reports & 16 != 0),

@@ -1,14 +1,16 @@
 //! The picture as a file of its own, and as a page with the words beside it.
 
 use crate::journey::Journey;
-use crate::lanes::{inputs, Events, Numbers, Packets, States};
+use crate::lanes::{inputs, Events, Figures, Packets, States};
 use crate::look::{legend, legend_height, patterns, STYLE};
 use crate::ride::{Moment, Ride};
 use crate::sheet::{Lane, Part, Sheet, LABELS};
 use crate::svg::{escaped, pixels, Svg};
 use crate::words::moment_in_words;
 
-const EDGE: f64 = 14.0;
+pub const EDGE: f64 = 14.0;
+/// The least width of a drawing, which the legend needs.
+pub const LEAST: f64 = 880.0;
 const HEAD: f64 = 62.0;
 const NOTES: [&str; 2] = [
     "One column an event, in their order: its width is no time.",
@@ -21,12 +23,27 @@ pub fn lanes(ride: &Ride) -> Vec<Box<dyn Lane + '_>> {
     lanes.extend(inputs());
     lanes.push(Box::new(Journey::of(ride)));
     lanes.push(Box::new(Packets::of(ride)));
-    lanes.push(Box::new(Numbers));
+    lanes.push(Box::new(Figures::NUMBERS));
     lanes
 }
 
-/// A drawing as a file.
-pub fn document(title: &str, width: f64, height: f64, drawing: &Svg) -> String {
+/// The beginning of a drawing: its title, and notes of which the first stands at this height.
+pub fn headed(title: &str, notes: &[impl AsRef<str>], first: f64) -> Svg {
+    let mut svg = Svg::default();
+    svg.text("title", EDGE, 26.0, title);
+    for (k, note) in notes.iter().enumerate() {
+        svg.text("note", EDGE, first + 14.0 * k as f64, note.as_ref());
+    }
+    svg
+}
+
+/// The drawing with its legend from this height on, as a file.
+pub fn ended(mut svg: Svg, title: &str, width: f64, top: f64) -> String {
+    svg.shifted(EDGE, top, &legend(width));
+    document(title, width + 2.0 * EDGE, top + legend_height(width) + 10.0, &svg)
+}
+
+fn document(title: &str, width: f64, height: f64, drawing: &Svg) -> String {
     let (width, height) = (pixels(width), pixels(height));
     format!(
         "<svg xmlns=\"http://www.w3.org/2000/svg\" width=\"{width}\" height=\"{height}\" \
@@ -41,16 +58,9 @@ pub fn document(title: &str, width: f64, height: f64, drawing: &Svg) -> String {
 /// The whole run as one drawing.
 pub fn picture(title: &str, ride: &Ride) -> String {
     let sheet = Sheet::of(ride, &lanes(ride), false);
-    let width = sheet.width().max(880.0);
-    let mut svg = Svg::default();
-    svg.text("title", EDGE, 26.0, title);
-    for (k, note) in NOTES.iter().enumerate() {
-        svg.text("note", EDGE, 42.0 + 14.0 * k as f64, note);
-    }
+    let mut svg = headed(title, &NOTES, 42.0);
     svg.shifted(EDGE, HEAD, &sheet.whole());
-    svg.shifted(EDGE, HEAD + sheet.height + 10.0, &legend(width));
-    let height = HEAD + sheet.height + 20.0 + legend_height(width);
-    document(title, width + 2.0 * EDGE, height, &svg)
+    ended(svg, title, sheet.width().max(LEAST), HEAD + sheet.height + 10.0)
 }
 
 fn inline(part: &Part, height: f64, class: &str) -> String {
@@ -96,7 +106,7 @@ pub fn page(title: &str, ride: &Ride) -> String {
     let title = escaped(title);
     let stretches: String =
         sheet.stretches.iter().map(|(gutter, columns)| stretch(gutter, columns, sheet.height)).collect();
-    let legend = Part { width: 880.0, svg: legend(880.0) };
+    let legend = Part { width: LEAST, svg: legend(LEAST) };
     let words: String = ride.moments.iter().map(told).collect();
     format!(
         "<!DOCTYPE html>\n<html lang=\"en\"><head><meta charset=\"utf-8\"/><title>{title}</title>\n\
@@ -110,6 +120,6 @@ pub fn page(title: &str, ride: &Ride) -> String {
         NOTES.join(" "),
         patterns(),
         inline(&sheet.labels, sheet.height, "labels"),
-        inline(&legend, legend_height(880.0), "key"),
+        inline(&legend, legend_height(LEAST), "key"),
     )
 }

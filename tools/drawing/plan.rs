@@ -47,11 +47,6 @@ pub struct Plan {
     pub end: i64,
 }
 
-/// Where a point stands, as the engine shows it.
-pub const TARGETED: u8 = 1;
-pub const REACHED: u8 = 2;
-pub const PASSED: u8 = 3;
-
 /// Where the train's front is.
 #[derive(Clone, Copy, PartialEq, Debug)]
 pub enum Front {

@@ -1,7 +1,6 @@
 //! A scenario stepped through the proved engine: what each event gave, and what the picture shows after it.
 
 use crate::plan::{Front, Plan};
-use crate::words::points_in_words;
 use model::calls::MEMORY;
 use model::events::{read_event, Event, Position, UNDEFINED};
 use model::reasons::reason;
@@ -9,6 +8,7 @@ use model::words::{packet_in_words, place_of_number};
 use proved::hollwern::{self, Engine, PacketFields, Shown};
 use std::ops::Range;
 use tools::language::{Scenario, Step};
+use tools::points::points_in_words;
 use tools::story::StepNames;
 
 /// What the latest accepted events since power off that carry them say, else fresh.
@@ -177,7 +177,8 @@ impl Ride {
     fn points_in_words(&self, shown: &Shown) -> String {
         let Some(Stretch { plan: Some(plan), moments }) = self.stretches.last() else { return String::new() };
         let before = self.moments.last().filter(|_| !moments.is_empty());
-        points_in_words(plan, before.map(|moment| &moment.shown), shown)
+        let names: Vec<&str> = plan.points.iter().map(|point| &*point.name).collect();
+        points_in_words(&names, before.map(|moment| &moment.shown.standings[..]), &shown.standings)
     }
 
     fn add(&mut self, moment: Moment) {

@@ -2,13 +2,10 @@
 
 use crate::journey::Journey;
 use crate::lanes::{Events, Packets, States};
-use crate::look::{legend, legend_height};
-use crate::page::document;
+use crate::page::{ended, headed, EDGE, LEAST};
 use crate::ride::Ride;
 use crate::sheet::{Lane, Sheet};
-use crate::svg::Svg;
 
-const EDGE: f64 = 14.0;
 const HEAD: f64 = 38.0;
 
 pub struct Strip {
@@ -27,12 +24,8 @@ fn sheet(strip: &Strip) -> Sheet {
 /// `notes` stand below the title.
 pub fn picture(title: &str, notes: &[String], strips: &[Strip]) -> String {
     let sheets: Vec<Sheet> = strips.iter().map(sheet).collect();
-    let width = sheets.iter().map(Sheet::width).fold(880.0, f64::max);
-    let mut svg = Svg::default();
-    svg.text("title", EDGE, 26.0, title);
-    for (k, note) in notes.iter().enumerate() {
-        svg.text("note", EDGE, 44.0 + 14.0 * k as f64, note);
-    }
+    let width = sheets.iter().map(Sheet::width).fold(LEAST, f64::max);
+    let mut svg = headed(title, notes, 44.0);
     let mut top = 60.0 + 14.0 * notes.len() as f64;
     for (strip, sheet) in strips.iter().zip(&sheets) {
         svg.line("strip", (EDGE, top), (EDGE + width, top));
@@ -41,6 +34,5 @@ pub fn picture(title: &str, notes: &[String], strips: &[Strip]) -> String {
         svg.shifted(EDGE, top + HEAD, &sheet.whole());
         top += HEAD + sheet.height + 16.0;
     }
-    svg.shifted(EDGE, top, &legend(width));
-    document(title, width + 2.0 * EDGE, top + legend_height(width) + 10.0, &svg)
+    ended(svg, title, width, top)
 }

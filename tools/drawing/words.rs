@@ -1,9 +1,8 @@
 //! What the picture says in words.
 
-use crate::plan::{Plan, Point, Segment, PASSED, REACHED};
+use crate::plan::{Plan, Point, Segment};
 use crate::ride::Moment;
 use model::words::{grouped, ALIGNMENTS, DRIVER, LEVERS, MODES, STATES, STATE_NAMES};
-use proved::hollwern::Shown;
 use std::ops::Range;
 
 /// A distance in cm, told in metres.
@@ -83,24 +82,6 @@ pub fn margin_in_words(point: &Point, train: u32, skipped: bool, margin: &Range<
         return format!("{name} is passed when the front is beyond {from} ({taken})");
     }
     format!("{name} is reached when the front stands from {from} to {to} ({taken}, R {})", metres(point.reach))
-}
-
-/// The points that were passed or, by a load (nothing stands before it), put behind; and the one that is targeted or
-/// reached.
-pub fn points_in_words(plan: &Plan, before: Option<&Shown>, now: &Shown) -> String {
-    let passed = |k: usize| now.standings[k] == PASSED && before.is_none_or(|before| before.standings[k] != PASSED);
-    let points = || plan.points.iter().map(|point| (now.standings[point.index], point));
-    let names: Vec<&str> = points().filter(|(_, point)| passed(point.index)).map(|(_, point)| &*point.name).collect();
-    let mut words = String::new();
-    if !names.is_empty() {
-        words += &format!("; {}: {}", if before.is_some() { "passed" } else { "put behind" }, names.join(", "));
-    }
-    words += &match points().find(|(standing, _)| *standing != PASSED) {
-        Some((REACHED, point)) => format!("; reached: {}", point.name),
-        Some((_, point)) => format!("; targeted: {}", point.name),
-        None => "; no point left".into(),
-    };
-    words
 }
 
 /// What the event gave, in lines: the answer, then the packets.

@@ -45,7 +45,18 @@ pub struct Scenario {
     journeys: Named<DeclaredJourney>,
 }
 
+/// A file's text; an error names the file.
+pub fn read_text(file: &str) -> Result<String, String> {
+    let bytes = std::fs::read(file).map_err(|error| format!("{file}: {error}"))?;
+    String::from_utf8(bytes).map_err(|_| format!("{file}: it is no text"))
+}
+
 impl Scenario {
+    /// Reads a file's scenario; an error names the file and, where it is text, the line.
+    pub fn read_file(file: &str) -> Result<Scenario, String> {
+        Scenario::read(&read_text(file)?).map_err(|error| format!("{file}, {error}"))
+    }
+
     /// Reads a whole scenario; an error names its line.
     pub fn read(text: &str) -> Result<Scenario, String> {
         let mut scenario = Scenario {

@@ -1,5 +1,5 @@
-//! What the tools share: the scenario language, the player and its lines, a scenario told in words, and what is
-//! recorded over many orders of events.
+//! What the tools share: the scenario language, the player and its lines, a scenario told in words, where points stand,
+//! and what is recorded over many orders of events.
 
 pub mod answers;
 pub mod language;
@@ -7,5 +7,6 @@ mod line;
 mod named;
 pub mod outcomes;
 pub mod player;
+pub mod points;
 pub mod refusals;
 pub mod story;

@@ -3,8 +3,9 @@
 
 use crate::answers::{read_answers, Answered};
 use crate::language::{Scenario, Step};
+use crate::points::points_in_words;
 use model::calls::{write_lines, MEMORY};
-use model::engine::{Answer, Engine, Standing};
+use model::engine::{Answer, Engine};
 use model::events::LOAD;
 use model::packets::{split_packets, Content, Packet};
 use model::reasons::{reason, Names};
@@ -55,7 +56,7 @@ impl<'a> Story<'a> {
 
     fn tell_step(&mut self, step: &'a Step, answered: &Answered) -> Result<(), String> {
         let reason = reason(&self.model, &step.call, &StepNames::of(self.scenario, self.journey, step));
-        let before: Vec<Standing> = self.model.standings().collect();
+        let before = self.standings();
         let mut out = [0; MEMORY];
         let answer = self.model.call(&step.call, &mut out);
         let packets = split_packets(&out[..answer.map_or(0, |answer| answer.bytes)]);
@@ -71,7 +72,7 @@ impl<'a> Story<'a> {
             Ok(answer) => {
                 self.accepted += 1;
                 self.note_journey(step);
-                self.tell_answer(answer, &before, step.loads.is_some());
+                self.tell_answer(answer, step.loads.is_none().then_some(&before[..]));
                 packets.into_iter().for_each(|packet| self.tell_packet(packet));
             }
         }
@@ -87,36 +88,22 @@ impl<'a> Story<'a> {
         }
     }
 
-    fn tell_answer(&mut self, answer: Answer, before: &[Standing], loads: bool) {
+    /// `before`: where the points stood; none for a load.
+    fn tell_answer(&mut self, answer: Answer, before: Option<&[u8]>) {
         let k = usize::from(answer.state);
         let first = !std::mem::replace(&mut self.known[k], true);
         let name = if first { format!(" ({})", STATE_NAMES[k]) } else { String::new() };
         let request = if answer.request { "AD requested" } else { "AD not requested" };
-        let points = self.points_in_words(before, loads);
+        let names = self.journey.map(|journey| self.scenario.point_names(journey));
+        let points = names.map_or(String::new(), |names| points_in_words(names, before, &self.standings()));
         self.text += &format!("    {}{name}, {request}{points}\n", STATES[k]);
         if first {
             self.text += &format!("        {}: the driver may {}\n", STATES[k], DRIVER[k][1]);
         }
     }
 
-    /// The points passed now or put behind by the load, and the one that is targeted or reached.
-    fn points_in_words(&self, before: &[Standing], loads: bool) -> String {
-        let Some(journey) = self.journey else { return String::new() };
-        let names = self.scenario.point_names(journey);
-        let after: Vec<Standing> = self.model.standings().collect();
-        let was_passed = |k: &usize| !loads && before.get(*k) == Some(&Standing::Passed);
-        let passed = (0..after.len()).filter(|k| after[*k] == Standing::Passed && !was_passed(k));
-        let passed: Vec<&str> = passed.map(|k| names[k].as_str()).collect();
-        let mut text = String::new();
-        if !passed.is_empty() {
-            text += &format!("; {}: {}", if loads { "put behind" } else { "passed" }, passed.join(", "));
-        }
-        let present = after.iter().position(|standing| *standing != Standing::Passed);
-        text + &match present {
-            Some(k) if after[k] == Standing::Reached => format!("; reached: {}", names[k]),
-            Some(k) => format!("; targeted: {}", names[k]),
-            None => "; no point left".into(),
-        }
+    fn standings(&self) -> Vec<u8> {
+        self.model.standings().map(|standing| standing as u8).collect()
     }
 
     fn tell_packet(&mut self, bytes: &[u8]) {

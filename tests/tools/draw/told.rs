@@ -10,8 +10,7 @@ use tools::language::Scenario;
 fn main() {
     let arguments: Vec<String> = std::env::args().collect();
     let [_, what, file] = &arguments[..] else { panic!("told answers SCENARIO, or told packets SCENARIO") };
-    let text = std::fs::read_to_string(file).expect("a file");
-    let scenario = Scenario::read(&text).expect("a scenario");
+    let scenario = Scenario::read_file(file).expect("a scenario");
     let (mut engine, mut out, mut journey) = (Engine::fresh(), [0; MEMORY], None);
     for step in &scenario.steps {
         let answer = engine.call(&step.call, &mut out);

@@ -4,7 +4,7 @@ use crate::engines::play;
 use crate::text::{number_of, same, wrong, Checked, Page};
 use model::calls::Call;
 use model::values::{write_book, Journey, JourneyPoint, Record, RecordPoint};
-use model::words::{STATES, STATE_NAMES};
+use model::words::{DRIVER, STATES, STATE_NAMES};
 use proved::hollwern::read;
 use proved::pair::Pair;
 use std::collections::BTreeSet;
@@ -22,6 +22,7 @@ fn check_states(page: &Page) -> Checked<()> {
         same(row.line, "code", row.number("Code")?, k as u64)?;
         same(row.line, "state", row.text("State")?, STATES[k])?;
         same(row.line, "name", row.text("Name")?, STATE_NAMES[k])?;
+        same(row.line, "the driver may", row.text("The driver may")?, DRIVER[k][1])?;
     }
     Ok(())
 }

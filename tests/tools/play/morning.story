@@ -41,7 +41,7 @@ line 42: configured
 
 line 45: lever traction
     AV (available), AD not requested; targeted: Shed
-        AV: the driver may drive by hand; for ready the unit waits for train conditions, the lever at neutral and ETCS out of AD
+        AV: the driver may drive by hand; for ready the unit waits for train conditions, lever neutral and mode other
     440011000001F400004E200000000123451FF3
         68 state AV: all nine conditions
         [NID_C 17 NID_SP 500 offset 20000 speed 0 NID_OPERATIONAL 00012345]

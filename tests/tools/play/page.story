@@ -48,7 +48,7 @@ line 17: mode AD
 
 line 18: position Depot 39900 speed 0
     AV (available), AD requested; reached: Shed
-        AV: the driver may drive by hand; for ready the unit waits for train conditions, the lever at neutral and ETCS out of AD
+        AV: the driver may drive by hand; for ready the unit waits for train conditions, lever neutral and mode other
     3E0011000001F400009BDC0000FFFFFFFF001100001B590905
         62 Shed stopped: NID_C 17, NID_TP 7001, Q_EOJ_REACHED 1 (End of Journey ahead), alignment front, stopping data 5
         [NID_C 17 NID_SP 500 offset 39900 speed 0 NID_OPERATIONAL FFFFFFFF]
