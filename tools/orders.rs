@@ -14,6 +14,7 @@ use std::hash::{DefaultHasher, Hash, Hasher};
 use std::path::Path;
 use tools::language::{read_text, Scenario, Step};
 use tools::outcomes::{orders_in_words, Kind, Outcome, Outcomes, MOST, SHOWN};
+use tools::output::print;
 use tools::refusals::row;
 
 const USAGE: &str = "usage: tools/orders [--draw OUT.svg] [SCENARIO]";
@@ -191,7 +192,7 @@ fn run(file: &str, draw: Option<&str>) -> Result<(), String> {
     orders.try_all(&start, ((1u32 << events.len()) - 1) as u16)?;
     let names: Vec<String> = orders.points.iter().map(|&nidtp| scenario.point_name(nidtp)).collect();
     let events: Vec<&str> = events.iter().map(|step| step.text.as_str()).collect();
-    print!("{}", orders.outcomes.in_words(&events, &names));
+    print(orders.outcomes.in_words(&events, &names).as_bytes())?;
     let Some(out) = draw else { return Ok(()) };
     std::fs::write(out, task.picture(&orders.outcomes.kinds(&names))).map_err(|error| format!("{out}: {error}"))
 }

@@ -3,8 +3,9 @@
 //! `scenario explain FILE`: the player's lines, from standard input, in words beside the scenario's events.
 
 use model::calls::{write_calls, Call};
-use std::io::{Read, Write};
+use std::io::Read;
 use tools::language::Scenario;
+use tools::output::print;
 use tools::player::run_player;
 use tools::story::Story;
 
@@ -13,12 +14,6 @@ const USAGE: &str = "usage: scenario play PLAYER FILE, scenario encode FILE, \
 
 fn calls(scenario: &Scenario) -> Vec<Call> {
     scenario.steps.iter().map(|step| step.call.clone()).collect()
-}
-
-fn print(bytes: &[u8]) -> Result<(), String> {
-    let mut output = std::io::stdout();
-    let written = output.write_all(bytes).and_then(|()| output.flush());
-    written.map_err(|error| format!("standard output: {error}"))
 }
 
 /// What was told so far is printed before an error.
@@ -33,6 +28,9 @@ fn run(arguments: &[&str]) -> Result<(), String> {
     match *arguments {
         ["play", player, file] => {
             let scenario = Scenario::read_file(file)?;
+            if scenario.steps.is_empty() {
+                return Err(format!("{file} has no event: there is nothing to play"));
+            }
             tell(&scenario, &run_player(player, &calls(&scenario))?)
         }
         ["encode", file] => print(&write_calls(&calls(&Scenario::read_file(file)?))),

@@ -11,8 +11,8 @@ pub const STATE_NAMES: [&str; 8] =
     ["no power", "configuration", "not available", "available", "ready", "engaged", "disengaging", "failure"];
 /// What the driver may do in each state: in a word or two, and at length.
 pub const DRIVER: [[&str; 2]; 8] = [
-    ["power on", "drive by hand; the unit takes no part"],
-    ["wait", "drive by hand; the unit waits to be configured"],
+    ["drive by hand", "drive by hand; the unit takes no part"],
+    ["drive by hand", "drive by hand; the unit waits to be configured"],
     ["drive by hand", "drive by hand; the unit waits for the conditions that are lacking"],
     ["drive by hand", "drive by hand; for ready the unit waits for train conditions, lever neutral and mode other"],
     ["press engage", "drive by hand, or press engage"],

@@ -337,7 +337,7 @@ impl Lane for Journey<'_> {
         panel.draw_zones(svg, width);
         panel.draw_margins(svg, moments);
         panel.draw_points(svg, moments);
-        panel.draw_way(svg, moments);
         panel.draw_told(svg, moments);
+        panel.draw_way(svg, moments);
     }
 }

@@ -27,10 +27,12 @@ impl Events {
     }
 }
 
-/// An event's text in one line if it is short, else in two, as even as may be.
+/// An event's text in one line if it is short, else in two, as even as may be, where need be with long words cut.
 fn in_two(text: &str) -> Vec<String> {
-    let fits = |width: usize| wrapped(text, width, 2);
-    wrapped(text, 18, 1).or_else(|| (12..=24).find_map(fits)).unwrap_or_else(|| vec![cut(text, 24)])
+    let even = |text: &str| (12..=24).find_map(|width| wrapped(text, width, 2));
+    let shortened = || text.split_whitespace().map(|word| cut(word, 12)).collect::<Vec<_>>().join(" ");
+    let whole = wrapped(text, 18, 1).or_else(|| even(text)).or_else(|| even(&shortened()));
+    whole.unwrap_or_else(|| vec![cut(text, 24)])
 }
 
 impl Lane for Events {

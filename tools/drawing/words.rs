@@ -18,12 +18,15 @@ pub fn letters(width: f64, size: f64) -> usize {
     (width / (0.55 * size)) as usize
 }
 
-/// Cut to so many letters, with a sign that it was.
+/// Cut to so many letters, with a sign that it was; what stands at the end often tells names apart.
 pub fn cut(text: &str, most: usize) -> String {
-    if text.chars().count() <= most {
+    let letters: Vec<char> = text.chars().collect();
+    if letters.len() <= most {
         return text.into();
     }
-    text.chars().take(most.saturating_sub(1)).chain(['…']).collect()
+    let end = most.saturating_sub(1) / 3;
+    let front = most.saturating_sub(1) - end;
+    letters[..front].iter().chain(&['…']).chain(&letters[letters.len() - end..]).collect()
 }
 
 /// Lines of so many letters at most, broken at blanks; `None` if a word is longer or the lines are too many.

@@ -48,7 +48,9 @@ pub struct Scenario {
 /// A file's text; an error names the file.
 pub fn read_text(file: &str) -> Result<String, String> {
     let bytes = std::fs::read(file).map_err(|error| format!("{file}: {error}"))?;
-    String::from_utf8(bytes).map_err(|_| format!("{file}: it is no text"))
+    let text = String::from_utf8(bytes).map_err(|_| format!("{file}: it is no text"))?;
+    // some editors put this mark in front
+    Ok(text.trim_start_matches('\u{feff}').into())
 }
 
 impl Scenario {

@@ -6,6 +6,7 @@ pub mod language;
 mod line;
 mod named;
 pub mod outcomes;
+pub mod output;
 pub mod player;
 pub mod points;
 pub mod refusals;

@@ -3,6 +3,7 @@
 use crate::refusals::row;
 use model::words::{grouped, STATES};
 use std::collections::{BTreeMap, HashMap};
+use std::io::IsTerminal;
 
 /// So many events at most.
 pub const MOST: usize = 10;
@@ -190,7 +191,7 @@ impl Outcomes {
         if recorded < kind.recorded {
             (kind.order, kind.recorded) = (path.to_vec(), recorded);
         }
-        if self.orders % 100_000 == 0 {
+        if self.orders % 100_000 == 0 && std::io::stderr().is_terminal() {
             eprint!("\r{} of {} orders", grouped(self.orders), grouped(factorial(self.events)));
         }
     }

@@ -48,8 +48,8 @@ impl<'a> Story<'a> {
         if answers.len() < steps.len() {
             return Err(format!("the player's lines end after {} of {} events", answers.len(), steps.len()));
         }
-        let (accepted, refused) = (self.accepted, self.refused);
-        self.text += &format!("\n{accepted} events accepted, {refused} refused; ");
+        let events = if self.accepted == 1 { "event" } else { "events" };
+        self.text += &format!("\n{} {events} accepted, {} refused; ", self.accepted, self.refused);
         self.text += "the independent model answers the same\n";
         Ok(())
     }
