@@ -279,10 +279,13 @@ impl Panel<'_> {
             for (y, packet) in &told {
                 let (x, status) = (middle(k), packet.fields.status);
                 let crowded = told.iter().any(|(other, _)| (1.0..18.0).contains(&(y - other)));
+                // below the mark where the front's dot is just above it
+                let dot = matches!(moment.front, Front::At(front) if (y - 18.0..*y).contains(&self.y(front)));
                 svg.titled(&packet.words, |svg| {
                     draw_status(svg, status, x, *y);
                     if !crowded {
-                        svg.text("told", x, y - 6.5, TOLD.get(usize::from(status)).unwrap_or(&""));
+                        let words = TOLD.get(usize::from(status)).unwrap_or(&"");
+                        svg.text("told", x, if dot { y + 12.5 } else { y - 6.5 }, words);
                     }
                 });
             }
