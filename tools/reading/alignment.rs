@@ -1,5 +1,5 @@
 //! Two sequences beside each other: where they differ, and what stands for what there, at the least cost. The cost of a
-//! pair is 0 where both are equal, and none where the one cannot stand for the other. Where the sequences are long, the
+//! pair is 0 where both are equal, and none where the one cannot stand for the other. Where the sequences are long,
 //! elements that stand once in each hold them together, and costs are weighed only between those.
 
 use crate::anchors::anchors;
