@@ -156,6 +156,7 @@ pub fn in_words(run: &Run, difference: &Difference, most: usize) -> String {
     let end = match (difference.at_end, difference.musts.is_empty(), difference.found.is_empty()) {
         (true, false, true) => ": the recording stops early",
         (true, true, false) => ": the recording goes on",
+        (false, false, true) if difference.at == 0 && difference.behind.is_none() => ": the recording begins late",
         _ => "",
     };
     let heading = format!("byte {}{line}{end}\n", difference.at);
