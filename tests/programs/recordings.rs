@@ -173,16 +173,16 @@ fn try_list(seed: u64) -> Result<usize, String> {
     Ok(packets.len())
 }
 
-/// A train that creeps along in rounds of so many metres: at each the reports change, so that every packet of a round is
-/// another.
+/// A train that creeps along in rounds of so many metres: at each the reports change, so that every packet of a round
+/// is another.
 fn creeping(packets: u32, round: u32) -> Vec<Call> {
     let step = |k: u32| [Call::position(17, 500, 100 * (k % round), 0), Call::reports((k % 2) as u8)];
     let steps = (1..packets).flat_map(step);
     [Call::power_on()].into_iter().chain(steps).collect()
 }
 
-/// So many packets lost in a row: at the front, in the middle, at the end; at the front with 5 bytes of the next; in all
-/// these places, with a byte changed too; and so many twice.
+/// So many packets lost in a row: at the front, in the middle, at the end; at the front with 5 bytes of the next; in
+/// all these places, with a byte changed too; and so many twice.
 fn losses(packets: &[Packet], lost: usize) -> Vec<Trial> {
     let part = |from: usize, to: usize| bytes_of(&packets[from..to]);
     let (count, middle) = (packets.len(), packets.len() / 2);
@@ -206,8 +206,9 @@ fn try_losses() -> Result<(), String> {
     for (round, lost) in [(6001, &[1, 50, 100, 300, 1000][..]), (500, &[1, 50, 100])] {
         let calls = creeping(6001, round);
         let (packets, run) = (packets_in(&play(&calls)), played(&calls));
-        let mut trials = lost.iter().flat_map(|&lost| losses(&packets, lost));
-        trials.try_for_each(|trial| trial.check(&run, &packets).map_err(|error| format!("rounds of {round}: {error}")))?;
+        for trial in lost.iter().flat_map(|&lost| losses(&packets, lost)) {
+            trial.check(&run, &packets).map_err(|error| format!("rounds of {round}: {error}"))?;
+        }
     }
     Ok(())
 }
@@ -217,7 +218,8 @@ fn write(scenario: &str, folder: &str) -> Result<(), String> {
     let steps = Scenario::read(&text)?.steps;
     let calls: Vec<Call> = steps.into_iter().map(|step| step.call).collect();
     let lines = play(&calls);
-    let files = [("calls", write_calls(&calls)), ("bytes", bytes_of(&packets_in(&lines))), ("lines", lines.into_bytes())];
+    let bytes = bytes_of(&packets_in(&lines));
+    let files = [("calls", write_calls(&calls)), ("bytes", bytes), ("lines", lines.into_bytes())];
     for (name, content) in files {
         std::fs::write(format!("{folder}/{name}"), content).map_err(|error| format!("{folder}/{name}: {error}"))?;
     }

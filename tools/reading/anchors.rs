@@ -16,8 +16,9 @@ fn places<'a, T: Eq + Hash>(elements: &[&'a T]) -> Places<'a, T> {
 
 /// The longest chain of pairs in which the second rises too; the first does already.
 fn longest_rising(pairs: &[(usize, usize)]) -> Vec<(usize, usize)> {
-    // of the chains of each length, the last pair of the one that ends lowest; and before each pair the one in its chain
+    // of the chains of each length, the last pair of the one that ends lowest
     let mut lowest: Vec<usize> = Vec::new();
+    // the pair before each in its chain
     let mut before = Vec::new();
     for (k, pair) in pairs.iter().enumerate() {
         let shorter = lowest.partition_point(|&last| pairs[last].1 < pair.1);
