@@ -2,7 +2,7 @@
 //! as the player's lines and as bytes: files calls, lines and bytes.
 //! `recordings COUNT`: the recordings of so many random lists, from the model. Each is read whole and is as it must be;
 //! with a byte changed or lost, a packet lost or twice, and cut at its end and at its front, just that is found. So are
-//! long losses of a long recording.
+//! long losses of a long recording. What is told of any damage, put into what must be, gives the recording.
 
 use inputs::lists::new_list;
 use model::calls::{play, read_answer, write_calls, Call};
@@ -95,24 +95,23 @@ fn retold(musts: &[Packet], differences: &[Difference]) -> Result<Vec<u8>, Strin
     Ok(recording)
 }
 
-/// A damaged recording, and how many differences it has: changed, missing, too many.
+/// A damaged recording and, where that is plain, how many differences it has: changed, missing, too many.
 struct Trial {
     damage: String,
     recording: Vec<u8>,
-    counts: [usize; 3],
+    counts: Option<Counts>,
 }
 
 impl Trial {
-    fn new(damage: impl Into<String>, recording: Vec<u8>, counts: [usize; 3]) -> Trial {
-        Trial { damage: damage.into(), recording, counts }
+    fn new(damage: impl Into<String>, recording: Vec<u8>, [changed, missing, surplus]: [usize; 3]) -> Trial {
+        Trial { damage: damage.into(), recording, counts: Some(Counts { changed, missing, surplus }) }
     }
 
     /// Just so many are found, and what they tell is the recording.
     fn check(&self, run: &Run, musts: &[Packet]) -> Result<(), String> {
         let found = run.differences(&entries(&self.recording, false)?);
         let told: String = found.iter().map(|difference| differences::in_words(run, difference, 5)).collect();
-        let [changed, missing, surplus] = self.counts;
-        if Counts::of(&found) != (Counts { changed, missing, surplus }) {
+        if self.counts.as_ref().is_some_and(|counts| *counts != Counts::of(&found)) {
             return Err(format!("{}: {:?} expected\n{told}", self.damage, self.counts));
         }
         if retold(musts, &found).map_err(|error| format!("{}: {error}\n{told}", self.damage))? != self.recording {
@@ -122,7 +121,7 @@ impl Trial {
     }
 }
 
-/// One byte changed or lost, one packet lost or twice, the end lost and the front lost; `turn` chooses where.
+/// One byte changed or lost, one packet lost or twice, the end lost, the front lost, and several; `turn` chooses where.
 fn damaged(packets: &[Packet], turn: usize) -> Vec<Trial> {
     let chosen = turn * 7 % packets.len();
     let (before, behind) = (bytes_of(&packets[..chosen]), bytes_of(&packets[chosen + 1..]));
@@ -143,8 +142,22 @@ fn damaged(packets: &[Packet], turn: usize) -> Vec<Trial> {
     if follow > 0 {
         trials.push(Trial::new("front lost", [rest, &behind].concat(), [cut, chosen, 0]));
     }
+    trials.push(several(bytes_of(packets), turn));
     trials.iter_mut().for_each(|trial| trial.damage += &format!(", packet {chosen}, byte {byte}"));
     trials
+}
+
+/// A stretch put in elsewhere, a stretch lost and a byte changed.
+fn several(mut recording: Vec<u8>, turn: usize) -> Trial {
+    let size = recording.len();
+    let (from, to, lost) = (turn * 13 % size, turn * 29 % size, turn * 17 % size);
+    let stretch = recording[from..size.min(from + turn % 60)].to_vec();
+    recording.splice(to..to, stretch);
+    recording.drain(lost..size.min(lost + turn % 50));
+    if let Some(byte) = recording.get_mut(turn * 37 % size) {
+        *byte ^= 1 << (turn % 8);
+    }
+    Trial { damage: "several".into(), recording, counts: None }
 }
 
 /// The packets of one list.

@@ -44,7 +44,7 @@ fn place(entry: &Entry) -> String {
 }
 
 /// The tables of packets, with a first column for the bytes of a field that is wide enough for the whole recording.
-#[derive(Clone, Copy, Default)]
+#[derive(Default)]
 struct Table {
     bytes_width: usize,
 }
