@@ -94,7 +94,7 @@ fn tell(entries: &[Entry], brief: bool, out: &mut impl Write) -> std::io::Result
     Ok(report.sound())
 }
 
-/// Whether the recording is as it must be, also where the calls are cut short.
+/// Whether the recording is as it must be; `cut` where the calls are cut short, `all` where each difference is told.
 fn compare(run: &Run, cut: bool, all: bool, entries: &[Entry], out: &mut impl Write) -> std::io::Result<bool> {
     let differences = run.differences(entries);
     let (most, in_a_row) = if all { (usize::MAX, usize::MAX) } else { (DIFFERENCES, IN_A_ROW) };
