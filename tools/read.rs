@@ -1,24 +1,26 @@
 //! `read [--hex] [--brief] FILE`: a recording in words.
-//! `read [--hex] --against CALLS FILE`: a recording beside what the proved engine writes for the calls.
+//! `read [--hex] [--all] --against CALLS FILE`: a recording beside what the proved engine writes for the calls.
 
 use model::calls::{read_calls, write_calls, Call};
 use model::words::call_in_words;
 use reading::against::{has_answers, Run};
 use reading::differences::{self, Counts};
 use reading::recording::{entries, Entry};
-use reading::report::{Report, COLUMNS};
+use reading::report::Report;
 use reading::words::counted;
 use std::io::{BufWriter, ErrorKind, Read, Write};
 use std::process::ExitCode;
 use tools::language::Scenario;
 
-/// Differences are told up to this many.
-const MOST: usize = 20;
+/// Differences are told up to this many, and of several packets that are missing or too many in a row, so many.
+const DIFFERENCES: usize = 20;
+const IN_A_ROW: usize = 5;
 
 #[derive(Default)]
 struct Arguments {
     hex: bool,
     brief: bool,
+    all: bool,
     against: Option<String>,
     file: String,
 }
@@ -31,6 +33,7 @@ fn read_arguments(mut words: impl Iterator<Item = String>) -> Result<Arguments, 
         match word.as_str() {
             "--hex" => arguments.hex = true,
             "--brief" => arguments.brief = true,
+            "--all" => arguments.all = true,
             "--against" => arguments.against = Some(words.next().ok_or("--against needs CALLS and FILE")?),
             option if option.starts_with('-') && option != "-" => return Err(format!("no option is named '{option}'")),
             _ => files.push(word),
@@ -39,6 +42,9 @@ fn read_arguments(mut words: impl Iterator<Item = String>) -> Result<Arguments, 
     let [file] = &files[..] else { return Err(format!("one FILE is needed, {} given", files.len())) };
     if arguments.brief && arguments.against.is_some() {
         return Err("--brief and --against do not go together".into());
+    }
+    if arguments.all && arguments.against.is_none() {
+        return Err("--all goes with --against alone".into());
     }
     if file == "-" && arguments.against.as_deref() == Some("-") {
         return Err("CALLS and FILE cannot both be standard input".into());
@@ -80,9 +86,7 @@ fn read_played(name: &str) -> Result<(Vec<(String, Call)>, Option<String>), Stri
 /// Whether all is read.
 fn tell(entries: &[Entry], brief: bool, out: &mut impl Write) -> std::io::Result<bool> {
     let mut report = Report::new(entries, brief);
-    if !brief {
-        out.write_all(COLUMNS.as_bytes())?;
-    }
+    out.write_all(report.begin().as_bytes())?;
     for entry in entries {
         out.write_all(report.tell(entry).as_bytes())?;
     }
@@ -90,14 +94,15 @@ fn tell(entries: &[Entry], brief: bool, out: &mut impl Write) -> std::io::Result
     Ok(report.sound())
 }
 
-/// Whether the recording is as it must be.
-fn compare(run: &Run, cut: bool, entries: &[Entry], out: &mut impl Write) -> std::io::Result<bool> {
+/// Whether the recording is as it must be; `cut` where the calls are cut short, `all` where each difference is told.
+fn compare(run: &Run, cut: bool, all: bool, entries: &[Entry], out: &mut impl Write) -> std::io::Result<bool> {
     let differences = run.differences(entries);
-    for difference in differences.iter().take(MOST) {
-        writeln!(out, "{}", differences::in_words(run, difference))?;
+    let (most, in_a_row) = if all { (usize::MAX, usize::MAX) } else { (DIFFERENCES, IN_A_ROW) };
+    for difference in differences.iter().take(most) {
+        writeln!(out, "{}", differences::in_words(run, difference, in_a_row))?;
     }
-    if differences.len() > MOST {
-        writeln!(out, "and {} more\n", differences.len() - MOST)?;
+    if differences.len() > most {
+        writeln!(out, "and {} more; --all tells them\n", differences.len() - most)?;
     }
     let so_far = if cut { " so far" } else { "" };
     let answers = if has_answers(entries) { ", and each answer" } else { "" };
@@ -119,7 +124,7 @@ fn run(arguments: &Arguments) -> Result<bool, String> {
         None => tell(&entries, arguments.brief, &mut out),
         Some((calls, cut)) => {
             let run = Run::play(calls.iter().map(|(event, call)| (event.clone(), call)));
-            compare(&run, cut.is_some(), &entries, &mut out).and_then(|same| {
+            compare(&run, cut.is_some(), arguments.all, &entries, &mut out).and_then(|same| {
                 cut.iter().try_for_each(|cut| writeln!(out, "{cut}"))?;
                 Ok(same && cut.is_none())
             })

@@ -1,10 +1,10 @@
-//! The player's input as a list of calls, and the player's lines for an answer.
+//! The player's input as a list of calls, and the player's lines for an answer, written and read.
 
 use crate::engine::{Answer, Engine};
 use crate::events::{LOAD, POSITION_REPORT, REVOKE, SKIP};
 use crate::numbers::Numbers;
 use crate::packets::split_packets;
-use crate::words::hex;
+use crate::words::{hex, STATES};
 
 /// Bytes of output memory that the player lends.
 pub const MEMORY: usize = 4096;
@@ -127,15 +127,33 @@ pub fn write_calls(calls: &[Call]) -> Vec<u8> {
     bytes
 }
 
+/// The player's line for an answer.
+pub fn answer_line(answer: Result<Answer, u8>) -> String {
+    match answer {
+        Ok(Answer { state, request, bytes }) => format!("A {state} {} {bytes}", u8::from(request)),
+        Err(number) => format!("R {number}"),
+    }
+}
+
+/// The answer that a line is, just as the player writes it.
+pub fn read_answer(line: &str) -> Option<Result<Answer, u8>> {
+    let words: Vec<&str> = line.split(' ').collect();
+    let answer = match words[..] {
+        ["R", number] => Err(number.parse().ok().filter(|number| (1..=16).contains(number))?),
+        ["A", state, request, bytes] => {
+            let state = state.parse().ok().filter(|&state: &u8| usize::from(state) < STATES.len())?;
+            Ok(Answer { state, request: request == "1", bytes: bytes.parse().ok()? })
+        }
+        _ => return None,
+    };
+    (answer_line(answer) == line).then_some(answer)
+}
+
 /// The player's lines for one call.
 pub fn write_lines(answer: Result<Answer, u8>, out: &[u8], text: &mut String) {
-    match answer {
-        Err(number) => *text += &format!("R {number}\n"),
-        Ok(Answer { state, request, bytes }) => {
-            *text += &format!("A {state} {} {bytes}\n", u8::from(request));
-            split_packets(&out[..bytes]).iter().for_each(|packet| *text += &format!("{}\n", hex(packet)));
-        }
-    }
+    *text += &(answer_line(answer) + "\n");
+    let written = &out[..answer.map_or(0, |answer| answer.bytes)];
+    split_packets(written).iter().for_each(|packet| *text += &format!("{}\n", hex(packet)));
 }
 
 /// What the player prints for these calls, from a fresh engine.

@@ -1,5 +1,6 @@
 //! The player's lines, read strictly: what is damaged is an error with its line, never mended.
 
+use model::calls::read_answer;
 use model::engine::Answer;
 use model::packets::Packet;
 use model::words::{bytes_of_hex, hex};
@@ -33,21 +34,6 @@ pub fn read_answers(text: &str) -> Result<Vec<Answered>, String> {
         answers.push(Answered { line, answer, packets });
     }
     Ok(answers)
-}
-
-/// `R n` or `A state request bytes`, just as the player writes it.
-fn read_answer(line: &str) -> Option<Result<Answer, u8>> {
-    let (first, rest) = line.split_once(' ')?;
-    let numbers: Vec<usize> = rest.split(' ').map(|word| word.parse().ok()).collect::<Option<_>>()?;
-    let (answer, again) = match (first, &numbers[..]) {
-        ("R", &[number @ 1..=16]) => (Err(number as u8), format!("R {number}")),
-        ("A", &[state @ 0..=7, request @ 0..=1, bytes]) => {
-            let answer = Answer { state: state as u8, request: request == 1, bytes };
-            (Ok(answer), format!("A {state} {request} {bytes}"))
-        }
-        _ => return None,
-    };
-    (again == line).then_some(answer)
 }
 
 fn read_packet(line: &str) -> Result<Vec<u8>, String> {

@@ -1,6 +1,6 @@
 //! A recording against the one that must be: the proved engine's, for a list of calls.
 
-use crate::alignment::{gaps, pairs};
+use crate::alignment::{alike, gaps, pairs};
 use crate::recording::{Answered, Entry, Item};
 use crate::words::counted;
 use model::calls::{Call, MEMORY};
@@ -82,7 +82,7 @@ impl Run {
         let answers = has_answers(found);
         let musts: Vec<&Must> = self.musts.iter().filter(|must| answers || !is_answer(&must.item)).collect();
         let mut differences = Vec::new();
-        for (lacking, others) in gaps(&musts, found, |must, entry| unlikeness(&must.item, &entry.item)) {
+        for (lacking, others) in gaps(&items_of(&musts), &items_in(found), &unlikeness) {
             let at_end = lacking.end == musts.len() && others.end == found.len();
             let behind = lacking.start.checked_sub(1).map(|k| musts[k].call);
             let before = others.start.checked_sub(1).map(|k| &found[k]);
@@ -106,9 +106,26 @@ pub fn has_answers(found: &[Entry]) -> bool {
     found.iter().any(|entry| is_answer(&entry.item))
 }
 
-/// How many elements are equal from the front.
-pub fn alike<'a>(a: impl Iterator<Item = &'a u8>, b: impl Iterator<Item = &'a u8>) -> usize {
-    a.zip(b).take_while(|(a, b)| a == b).count()
+fn items_of<'a>(musts: &[&'a Must]) -> Vec<&'a Item> {
+    musts.iter().map(|must| &must.item).collect()
+}
+
+fn items_in(found: &[Entry]) -> Vec<&Item> {
+    found.iter().map(|entry| &entry.item).collect()
+}
+
+/// How many of the bytes found are those that must be there, up to one run that is lost or put in; a run that can be
+/// taken in several places is taken where a packet ends. `None` where the bytes differ by more than that, and are not
+/// as many as they must be.
+fn before_run(must: &[u8], is: &[u8], ends: &[usize]) -> Option<usize> {
+    let ahead = alike(must.iter(), is.iter());
+    let behind = alike(must.iter().rev(), is.iter().rev());
+    let least = must.len().min(is.len()).saturating_sub(behind);
+    match ends.iter().find(|&&end| least <= end && end <= ahead) {
+        _ if must.len() == is.len() => Some(ahead),
+        Some(&end) => Some(end),
+        None => (least <= ahead).then_some(ahead),
+    }
 }
 
 /// The bytes found, cut where the packets end that must be there, none for a packet that has no byte left: a damaged
@@ -116,25 +133,33 @@ pub fn alike<'a>(a: impl Iterator<Item = &'a u8>, b: impl Iterator<Item = &'a u8
 /// are neither as many as they must be nor differ by one run that is lost or put in, and of a text, where each line
 /// stands for itself.
 fn cut_alike(musts: &[&Must], found: &[Entry]) -> Option<Vec<Option<Entry>>> {
-    let must: Vec<u8> = musts.iter().flat_map(|must| must.item.bytes()).copied().collect();
-    let is: Vec<u8> = found.iter().flat_map(|entry| entry.item.bytes()).copied().collect();
-    let ahead = alike(must.iter(), is.iter());
-    let behind = alike(must[ahead..].iter().rev(), is[ahead..].iter().rev());
-    let one_run = must.len() == is.len() || ahead + behind == must.len().min(is.len());
     let damaged = found.iter().any(|entry| entry.item.is_refused());
-    if musts.is_empty() || !one_run || !damaged || found.iter().any(|entry| entry.line.is_some()) {
+    if musts.is_empty() || !damaged || found.iter().any(|entry| entry.line.is_some()) {
         return None;
     }
+    let must = items_of(musts).iter().flat_map(|item| item.bytes()).copied().collect::<Vec<u8>>();
+    let is = items_in(found).iter().flat_map(|item| item.bytes()).copied().collect::<Vec<u8>>();
+    let ends = ends_of(musts);
+    let ahead = before_run(&must, &is, &ends)?;
     let place = |end: usize| if end <= ahead { end } else { ahead.max((end + is.len()).saturating_sub(must.len())) };
-    let (mut end, mut from) = (0, 0);
-    let cut = musts.iter().map(|must| {
-        end += must.item.bytes().len();
+    let mut from = 0;
+    let cut = ends.iter().skip(1).map(|&end| {
         let piece = &is[from..place(end)];
         let entry = Entry { at: found[0].at + from, line: None, item: Item::Bytes(piece.to_vec()) };
         from = place(end);
         (!piece.is_empty()).then_some(entry)
     });
     Some(cut.collect())
+}
+
+/// 0, and where each of the packets ends that must be there.
+fn ends_of(musts: &[&Must]) -> Vec<usize> {
+    let sizes = musts.iter().map(|must| must.item.bytes().len());
+    let ends = sizes.scan(0, |end, size| {
+        *end += size;
+        Some(*end)
+    });
+    [0].into_iter().chain(ends).collect()
 }
 
 /// How unlike what is found is to what must be; `None` where the one is no damaged form of the other.
@@ -155,7 +180,7 @@ fn paired<'a>(musts: &[&'a Must], found: &[Entry]) -> Vec<(Option<&'a Must>, Opt
     if let Some(cut) = cut_alike(musts, found) {
         return musts.iter().zip(cut).map(|(must, entry)| (Some(*must), entry)).collect();
     }
-    let pairs = pairs(musts, found, |must, entry| unlikeness(&must.item, &entry.item));
+    let pairs = pairs(&items_of(musts), &items_in(found), &unlikeness);
     pairs.into_iter().map(|(i, j)| (i.map(|i| musts[i]), j.map(|j| found[j].clone()))).collect()
 }
 

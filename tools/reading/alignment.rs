@@ -1,14 +1,18 @@
 //! Two sequences beside each other: where they differ, and what stands for what there, at the least cost. The cost of a
-//! pair is 0 where both are equal, and none where the one cannot stand for the other.
+//! pair is 0 where both are equal, and none where the one cannot stand for the other. Where the sequences are long,
+//! elements that stand once in each hold them together, and costs are weighed only between those.
 
+use crate::anchors::anchors;
+use std::hash::Hash;
 use std::ops::Range;
 
 /// The cost of an element that is missing or too many.
 const ALONE: usize = 10;
 /// Pairs that must be equal behind a difference.
 const AGREEING: usize = 3;
-/// So many elements of each are weighed at a time.
-const WINDOW: usize = 200;
+/// So many pairs of elements are weighed at a time: of long sequences, the first `WINDOW` elements of each.
+const WEIGHED: usize = WINDOW * WINDOW;
+const WINDOW: usize = 400;
 
 /// The elements of the one and of the other between two places where they agree.
 pub type Gap = (Range<usize>, Range<usize>);
@@ -16,17 +20,23 @@ pub type Gap = (Range<usize>, Range<usize>);
 /// What stands for what, by index; one that is missing or too many stands alone.
 pub type Pair = (Option<usize>, Option<usize>);
 
-/// Two sequences, or the front of them.
-struct Aligned<'a, A, B, F> {
-    a: &'a [A],
-    b: &'a [B],
+/// The front of two sequences, as much as is weighed at a time.
+struct Aligned<'a, T, F> {
+    a: &'a [&'a T],
+    b: &'a [&'a T],
     /// Whether more follows, which costs nothing.
     a_goes_on: bool,
     b_goes_on: bool,
-    cost: F,
+    cost: &'a F,
 }
 
-impl<A, B, F: Fn(&A, &B) -> Option<usize>> Aligned<'_, A, B, F> {
+impl<'a, T, F: Fn(&T, &T) -> Option<usize>> Aligned<'a, T, F> {
+    fn front(a: &'a [&'a T], b: &'a [&'a T], cost: &'a F) -> Self {
+        let most = if a.len() * b.len() <= WEIGHED { usize::MAX } else { WINDOW };
+        let (m, n) = (a.len().min(most), b.len().min(most));
+        Aligned { a: &a[..m], b: &b[..n], a_goes_on: m < a.len(), b_goes_on: n < b.len(), cost }
+    }
+
     fn ends_at(&self, i: usize, j: usize) -> bool {
         let (a_ends, b_ends) = (i == self.a.len(), j == self.b.len());
         a_ends && b_ends || a_ends && self.a_goes_on || b_ends && self.b_goes_on
@@ -69,48 +79,85 @@ impl<A, B, F: Fn(&A, &B) -> Option<usize>> Aligned<'_, A, B, F> {
     fn equal(&self, pair: &Pair) -> bool {
         matches!(pair, (Some(i), Some(j)) if self.pair_cost(*i, *j) == Some(0))
     }
+
+    /// How many elements of each come before the next place where they agree for a while.
+    fn resume(&self) -> (usize, usize) {
+        let pairs = self.pairs();
+        let agree = |from: usize| pairs[from..].iter().take(AGREEING).all(|pair| self.equal(pair));
+        let before = &pairs[..(0..pairs.len()).find(|&k| agree(k)).unwrap_or(pairs.len())];
+        (before.iter().filter(|pair| pair.0.is_some()).count(), before.iter().filter(|pair| pair.1.is_some()).count())
+    }
 }
 
-/// How many elements of each come before the next place where they agree for a while.
-fn resume<A, B>(a: &[A], b: &[B], cost: impl Fn(&A, &B) -> Option<usize>) -> (usize, usize) {
-    let (a_goes_on, b_goes_on) = (a.len() > WINDOW, b.len() > WINDOW);
-    let (a, b) = (&a[..a.len().min(WINDOW)], &b[..b.len().min(WINDOW)]);
-    let aligned = Aligned { a, b, a_goes_on, b_goes_on, cost };
-    let pairs = aligned.pairs();
-    let agree = |from: usize| pairs[from..].iter().take(AGREEING).all(|pair| aligned.equal(pair));
-    let before = &pairs[..(0..pairs.len()).find(|&k| agree(k)).unwrap_or(pairs.len())];
-    (before.iter().filter(|pair| pair.0.is_some()).count(), before.iter().filter(|pair| pair.1.is_some()).count())
+/// How many elements are equal from the front.
+pub fn alike<T: PartialEq>(a: impl Iterator<Item = T>, b: impl Iterator<Item = T>) -> usize {
+    a.zip(b).take_while(|(a, b)| a == b).count()
 }
 
 /// Every gap, from the front.
-pub fn gaps<A, B>(a: &[A], b: &[B], cost: impl Fn(&A, &B) -> Option<usize>) -> Vec<Gap> {
-    let mut gaps: Vec<Gap> = Vec::new();
-    let (mut i, mut j) = (0, 0);
-    while i < a.len() || j < b.len() {
-        if i < a.len() && j < b.len() && cost(&a[i], &b[j]) == Some(0) {
-            (i, j) = (i + 1, j + 1);
-            continue;
-        }
-        let (m, n) = resume(&a[i..], &b[j..], &cost);
-        match gaps.last_mut() {
-            Some((first, second)) if first.end == i && second.end == j => (first.end, second.end) = (i + m, j + n),
-            _ => gaps.push((i..i + m, j..j + n)),
-        }
-        (i, j) = (i + m, j + n);
-    }
+pub fn gaps<T: Eq + Hash>(a: &[&T], b: &[&T], cost: &impl Fn(&T, &T) -> Option<usize>) -> Vec<Gap> {
+    let mut gaps = Vec::new();
+    add_gaps(a, b, (0, 0), cost, &mut gaps);
     gaps
 }
 
+/// Adds the gaps of parts of both sequences, which begin at `from`.
+fn add_gaps<T: Eq + Hash>(
+    a: &[&T],
+    b: &[&T],
+    from: (usize, usize),
+    cost: &impl Fn(&T, &T) -> Option<usize>,
+    gaps: &mut Vec<Gap>,
+) {
+    let ahead = alike(a.iter(), b.iter());
+    let (a, b, from) = (&a[ahead..], &b[ahead..], (from.0 + ahead, from.1 + ahead));
+    if a.len() * b.len() <= WEIGHED {
+        return weigh_gaps(a, b, from, cost, gaps);
+    }
+    let behind = alike(a.iter().rev(), b.iter().rev());
+    let (a, b) = (&a[..a.len() - behind], &b[..b.len() - behind]);
+    let anchors = anchors(a, b);
+    if anchors.is_empty() {
+        return weigh_gaps(a, b, from, cost, gaps);
+    }
+    let (mut i, mut j) = (0, 0);
+    for (x, y) in anchors.into_iter().chain([(a.len(), b.len())]) {
+        add_gaps(&a[i..x], &b[j..y], (from.0 + i, from.1 + j), cost, gaps);
+        (i, j) = (x + 1, y + 1);
+    }
+}
+
+/// Adds the gaps of parts between which nothing is known to hold them together.
+fn weigh_gaps<T: Eq>(
+    a: &[&T],
+    b: &[&T],
+    from: (usize, usize),
+    cost: &impl Fn(&T, &T) -> Option<usize>,
+    gaps: &mut Vec<Gap>,
+) {
+    let (mut i, mut j) = (0, 0);
+    while i < a.len() || j < b.len() {
+        let ahead = alike(a[i..].iter(), b[j..].iter());
+        (i, j) = (i + ahead, j + ahead);
+        let (m, n) = Aligned::front(&a[i..], &b[j..], cost).resume();
+        let (x, y) = (from.0 + i, from.1 + j);
+        match gaps.last_mut() {
+            Some((first, second)) if first.end == x && second.end == y => (first.end, second.end) = (x + m, y + n),
+            _ if m + n > 0 => gaps.push((x..x + m, y..y + n)),
+            _ => {}
+        }
+        (i, j) = (i + m, j + n);
+    }
+}
+
 /// What stands for what in a gap; where it is wide, as much of it as is weighed at a time.
-pub fn pairs<A, B>(a: &[A], b: &[B], cost: impl Fn(&A, &B) -> Option<usize>) -> Vec<Pair> {
+pub fn pairs<T>(a: &[&T], b: &[&T], cost: &impl Fn(&T, &T) -> Option<usize>) -> Vec<Pair> {
     let mut pairs = Vec::new();
     let (mut i, mut j) = (0, 0);
     while i < a.len() || j < b.len() {
-        let (m, n) = ((a.len() - i).min(WINDOW), (b.len() - j).min(WINDOW));
-        let (a, b) = (&a[i..i + m], &b[j..j + n]);
-        let part = Aligned { a, b, a_goes_on: false, b_goes_on: false, cost: &cost }.pairs();
-        pairs.extend(part.into_iter().map(|(x, y)| (x.map(|x| x + i), y.map(|y| y + j))));
-        (i, j) = (i + m, j + n);
+        let part = Aligned { a_goes_on: false, b_goes_on: false, ..Aligned::front(&a[i..], &b[j..], cost) };
+        pairs.extend(part.pairs().into_iter().map(|(x, y)| (x.map(|x| x + i), y.map(|y| y + j))));
+        (i, j) = (i + part.a.len(), j + part.b.len());
     }
     pairs
 }

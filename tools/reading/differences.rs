@@ -1,15 +1,13 @@
 //! Where a recording differs from what it must be, in words.
 
-use crate::against::{alike, Difference, Must, Run};
-use crate::layout::{fields, Field};
-use crate::recording::{answer_line, Entry, Item};
-use crate::report::{answer_in_words, bytes_in_brief, hex_of_front, reason};
+use crate::against::{Difference, Must, Run};
+use crate::alignment::alike;
+use crate::layout::{fields, Field, BYTES_WIDTH};
+use crate::recording::{Entry, Item};
+use crate::report::{hex_of_front, item_in_words, reason};
 use crate::words::{counted, packet_name};
 use model::words::hex;
 use proved::hollwern::read;
-
-/// Of several that are missing or too many, so many are told.
-const MOST: usize = 5;
 
 /// How many differ, are missing and are too many.
 #[derive(Default, PartialEq, Eq, Debug)]
@@ -53,14 +51,6 @@ fn counted_items<'a>(items: impl Iterator<Item = &'a Item>) -> String {
     counts.map(|(count, (one, many))| counted(count, one, many)).collect::<Vec<_>>().join(" and ")
 }
 
-fn item_in_words(item: &Item) -> String {
-    match item {
-        Item::Answer(answer) => format!("{}: {}", answer_line(*answer), answer_in_words(*answer)),
-        Item::Bytes(bytes) => bytes_in_brief(bytes),
-        Item::Other(text) => format!("'{}'", text.chars().take(60).collect::<String>()),
-    }
-}
-
 fn call_in_words(run: &Run, call: usize) -> String {
     format!("call {}, {}", call + 1, run.calls[call].event)
 }
@@ -80,7 +70,7 @@ fn field_in_words(field: &Field, at: usize, must: &[u8], found: &[u8]) -> String
         format!("      {what:<9}{hex:<9}{value:<11}{words}").trim_end().to_string() + "\n"
     };
     let group = if field.group().is_empty() { String::new() } else { format!(", {}", field.group()) };
-    let heading = format!("    {}{}{group}\n", field.place(at), field.name);
+    let heading = format!("    {}{}{group}\n", field.place(at, BYTES_WIDTH), field.name);
     heading + &line("must be", must) + &line("is", found)
 }
 
@@ -131,51 +121,49 @@ fn changed(run: &Run, must: &Must, found: &Entry) -> String {
     }
 }
 
-fn missing(run: &Run, difference: &Difference) -> String {
+fn missing(run: &Run, difference: &Difference, most: usize) -> String {
     let what = counted_items(difference.musts.iter().map(|must| &must.item));
     let verb = if difference.musts.len() == 1 { "is" } else { "are" };
-    let mut text = format!(
-        "  {what} {verb} missing
-"
-    );
-    for must in difference.musts.iter().take(MOST) {
+    let mut text = format!("  {what} {verb} missing\n");
+    for must in difference.musts.iter().take(most) {
         let part = format!("{}, {}", call_in_words(run, must.call), part_in_words(run, must));
         text += &format!("  {part}\n    {}\n", item_in_words(&must.item));
     }
-    text + &more(difference.musts.len())
+    text + &more(difference.musts.len(), most)
 }
 
-fn surplus(run: &Run, difference: &Difference) -> String {
+fn surplus(run: &Run, difference: &Difference, most: usize) -> String {
     let what = counted_items(difference.found.iter().map(|entry| &entry.item));
     let behind =
         difference.behind.map_or("before the first".into(), |call| format!("behind {}", call_in_words(run, call)));
     let mut text = format!("  {what} too many, {behind}\n");
-    difference.found.iter().take(MOST).for_each(|entry| text += &format!("    {}\n", item_in_words(&entry.item)));
-    text + &more(difference.found.len())
+    difference.found.iter().take(most).for_each(|entry| text += &format!("    {}\n", item_in_words(&entry.item)));
+    text + &more(difference.found.len(), most)
 }
 
-fn more(count: usize) -> String {
-    if count > MOST {
-        format!("    and {} more\n", count - MOST)
+fn more(count: usize, most: usize) -> String {
+    if count > most {
+        format!("    and {} more\n", count - most)
     } else {
         String::new()
     }
 }
 
-/// One difference, with its place in the recording.
-pub fn in_words(run: &Run, difference: &Difference) -> String {
+/// One difference, with its place in the recording. Of several that are missing or too many, `most` are told.
+pub fn in_words(run: &Run, difference: &Difference, most: usize) -> String {
     let line = difference.found.first().and_then(|entry| entry.line);
     let line = line.map_or(String::new(), |line| format!(", line {line}"));
     let end = match (difference.at_end, difference.musts.is_empty(), difference.found.is_empty()) {
         (true, false, true) => ": the recording stops early",
         (true, true, false) => ": the recording goes on",
+        (false, false, true) if difference.at == 0 && difference.behind.is_none() => ": the recording begins late",
         _ => "",
     };
     let heading = format!("byte {}{line}{end}\n", difference.at);
     heading
         + &match (&difference.musts[..], &difference.found[..]) {
             ([must], [found]) => changed(run, must, found),
-            (_, []) => missing(run, difference),
-            _ => surplus(run, difference),
+            (_, []) => missing(run, difference, most),
+            _ => surplus(run, difference, most),
         }
 }

@@ -28,6 +28,9 @@ type Words = fn(u32) -> String;
 
 const FREE: u32 = u32::MAX;
 
+/// The width of a column with the first and the last byte of a field, in a recording up to 99,999 bytes.
+pub const BYTES_WIDTH: usize = 11;
+
 const fn field(name: &'static str, at: usize, width: usize, highest: u32, read: Read, words: Words) -> Field {
     Field { name, at, width, bits: None, highest, read, words }
 }
@@ -148,12 +151,12 @@ impl Field {
         }
     }
 
-    /// Its bytes in a recording that has the packet from `start` on, and its bits.
-    pub fn place(&self, start: usize) -> String {
+    /// Its bytes in a recording that has the packet from `start` on, in a column so wide, and its bits.
+    pub fn place(&self, start: usize, width: usize) -> String {
         let range = |low: usize, high: usize| if low == high { low.to_string() } else { format!("{low}-{high}") };
         let first = start + self.at;
         let bytes = range(first, first + self.width - 1);
         let bits = self.bits.as_ref().map_or(String::new(), |bits| range(bits.low as usize, bits.high as usize));
-        format!("{bytes:<12}{bits:<6}")
+        format!("{bytes:<width$} {bits:<6}")
     }
 }

@@ -3,6 +3,7 @@
 
 pub mod against;
 mod alignment;
+mod anchors;
 pub mod differences;
 pub mod layout;
 pub mod recording;

@@ -1,8 +1,10 @@
 //! A recording: bytes as a recorder holds them, cut into packets and what lies between, or text with a line a packet.
 
+use model::calls::{answer_line, read_answer};
 use model::engine::Answer;
-use model::words::{bytes_of_hex, STATES};
+use model::words::{bytes_of_hex, hex};
 use proved::hollwern::{front_size, read, PacketFields};
+use std::hash::{Hash, Hasher};
 
 /// What the player answers a call.
 pub type Answered = Result<Answer, u8>;
@@ -25,7 +27,25 @@ pub struct Entry {
     pub item: Item,
 }
 
+/// UTF-8's, in front of a text.
+const BYTE_ORDER_MARK: &[u8] = "\u{FEFF}".as_bytes();
+
+impl Hash for Item {
+    fn hash<H: Hasher>(&self, hasher: &mut H) {
+        self.line().hash(hasher);
+    }
+}
+
 impl Item {
+    /// The line that it is in a text.
+    pub fn line(&self) -> String {
+        match self {
+            Item::Answer(answer) => answer_line(*answer),
+            Item::Bytes(bytes) => hex(bytes),
+            Item::Other(text) => text.clone(),
+        }
+    }
+
     /// None of a line that is no packet.
     pub fn bytes(&self) -> &[u8] {
         match self {
@@ -50,19 +70,23 @@ fn read_front(bytes: &[u8]) -> PacketFields {
     read(&bytes[..front_size(bytes)])
 }
 
-/// The bytes up to the first from which a whole packet is read, this one left out.
-fn skipped(bytes: &[u8]) -> usize {
-    (1..bytes.len()).find(|&k| read_front(&bytes[k..]).accepted).unwrap_or(bytes.len())
+/// The bytes of the piece in front: a packet, also one that is refused by 19 where a whole packet follows it or none is
+/// read inside it; else all up to the next byte from which a whole packet is read.
+fn piece_size(bytes: &[u8]) -> usize {
+    let size = front_size(bytes);
+    let is_whole_at = |&at: &usize| read_front(&bytes[at..]).accepted;
+    if [0, size].iter().any(is_whole_at) {
+        return size;
+    }
+    (1..size).find(is_whole_at).unwrap_or(size)
 }
 
-/// Bytes cut into pieces: packets, also those that are refused by 19; from a number that no packet has to the next
-/// whole packet; and, last, a packet cut short.
+/// Bytes cut into pieces: packets and what lies between them.
 pub fn pieces(bytes: &[u8]) -> Vec<&[u8]> {
     let mut pieces = Vec::new();
     let mut left = bytes;
     while !left.is_empty() {
-        let size = if read_front(left).number == 18 { skipped(left) } else { front_size(left) };
-        let (piece, rest) = left.split_at(size);
+        let (piece, rest) = left.split_at(piece_size(left));
         pieces.push(piece);
         left = rest;
     }
@@ -77,27 +101,6 @@ fn entries_of_bytes(bytes: &[u8]) -> Vec<Entry> {
         entries.push(Entry { at, line: None, item: Item::Bytes(piece.to_vec()) });
     }
     entries
-}
-
-pub fn answer_line(answer: Answered) -> String {
-    match answer {
-        Ok(Answer { state, request, bytes }) => format!("A {state} {} {bytes}", u8::from(request)),
-        Err(number) => format!("R {number}"),
-    }
-}
-
-/// A line of the player's with an answer, just as the player writes it.
-fn read_answer(text: &str) -> Option<Answered> {
-    let words: Vec<&str> = text.split(' ').collect();
-    let answer = match words[..] {
-        ["R", number] => Err(number.parse().ok().filter(|number| (1..=16).contains(number))?),
-        ["A", state, request, bytes] => {
-            let state = state.parse().ok().filter(|&state: &u8| usize::from(state) < STATES.len())?;
-            Ok(Answer { state, request: request == "1", bytes: bytes.parse().ok()? })
-        }
-        _ => return None,
-    };
-    (answer_line(answer) == text).then_some(answer)
 }
 
 /// Hexadecimal digits of whole bytes, with or without blanks between bytes.
@@ -122,20 +125,29 @@ fn entries_of_text(text: &str) -> Vec<Entry> {
     entries
 }
 
-fn is_of_text(byte: u8) -> bool {
+fn is_of_text(byte: &u8) -> bool {
     byte.is_ascii_graphic() || byte.is_ascii_whitespace()
+}
+
+fn is_mostly_text(file: &[u8]) -> bool {
+    2 * file.iter().filter(|byte| is_of_text(byte)).count() >= file.len() && !file.contains(&0)
 }
 
 /// A recorder's bytes, or with `hex` a text; an error where it is plainly the other. No packet is text: NID_C, behind
 /// its number, begins with a byte of 3 at most.
 pub fn entries(file: &[u8], hex: bool) -> Result<Vec<Entry>, String> {
-    let no_text = file.iter().position(|&byte| !is_of_text(byte));
-    match (hex, no_text) {
-        (false, None) if !file.is_empty() => Err("text, and no bytes of packets: lines are read with --hex".into()),
+    match (hex, is_mostly_text(file)) {
+        (false, true) if file.get(1).is_some_and(|&byte| byte > 3) => {
+            Err("text, and no bytes of packets: lines are read with --hex".into())
+        }
         (false, _) => Ok(entries_of_bytes(file)),
-        (true, Some(at)) => {
+        (true, true) => {
+            let text = file.strip_prefix(BYTE_ORDER_MARK).unwrap_or(file);
+            Ok(entries_of_text(&String::from_utf8_lossy(text)))
+        }
+        (true, false) => {
+            let at = file.iter().position(|byte| !is_of_text(byte)).unwrap_or(0);
             Err(format!("byte {at} is {:02X}: no text in hexadecimal; bytes are read without --hex", file[at]))
         }
-        (true, None) => Ok(entries_of_text(&String::from_utf8_lossy(file))),
     }
 }

@@ -1,8 +1,8 @@
 //! What a recording says: every packet with its fields by name and in words, every refusal with its reason and where
 //! the reading goes on, and totals.
 
-use crate::layout::{fields, out_of_range, size_of, Field};
-use crate::recording::{answer_line, Answered, Entry, Item};
+use crate::layout::{fields, out_of_range, size_of, Field, BYTES_WIDTH};
+use crate::recording::{Answered, Entry, Item};
 use crate::words::{self, counted};
 use model::words::{hex, ALIGNMENTS};
 use proved::hollwern::{read, PacketFields};
@@ -14,6 +14,7 @@ pub struct Report {
     brief: bool,
     /// The place of the last entry.
     last: Option<(usize, Option<usize>)>,
+    table: Table,
     /// The bytes of packets so far, read or refused.
     bytes: usize,
     bytes_read: usize,
@@ -42,13 +43,66 @@ fn place(entry: &Entry) -> String {
     format!("byte {}{line}", entry.at)
 }
 
-/// Above the first packet.
-pub const COLUMNS: &str = "  byte        bit   field                              hex      decimal    in words\n\n";
+/// The tables of packets, with a first column for the bytes of a field that is wide enough for the whole recording.
+#[derive(Default)]
+struct Table {
+    bytes_width: usize,
+}
 
-/// One row of a packet's table.
-fn row(field: &Field, start: usize, value: u32, words: &str) -> String {
-    let (place, name, hex) = (field.place(start), field.name, field.hex(value));
-    format!("  {place}{name:<35}{hex:<9}{value:<11}{words}").trim_end().to_string() + "\n"
+impl Table {
+    fn of(bytes: usize) -> Table {
+        Table { bytes_width: BYTES_WIDTH.max(2 * bytes.to_string().len() + 1) }
+    }
+
+    fn columns(&self) -> String {
+        let width = self.bytes_width;
+        format!("  {:<width$} bit   {:<35}hex      decimal    in words\n\n", "byte", "field")
+    }
+
+    fn row(&self, field: &Field, start: usize, value: u32, words: &str) -> String {
+        let (place, name, hex) = (field.place(start, self.bytes_width), field.name, field.hex(value));
+        format!("  {place}{name:<35}{hex:<9}{value:<11}{words}").trim_end().to_string() + "\n"
+    }
+
+    /// A line in the column of the fields' names.
+    fn line(&self, text: &str) -> String {
+        format!("{:1$}{text}\n", "", self.bytes_width + 9)
+    }
+
+    fn packet(&self, entry: &Entry, p: &PacketFields) -> String {
+        let heading = format!("{} {}, {} bytes", p.kind, words::packet_name(p.kind.into()), p.size);
+        let mut text = format!("{}: packet {heading}\n", place(entry));
+        let mut group = "";
+        for field in fields(p.kind).into_iter().flatten() {
+            if field.group() != group {
+                group = field.group();
+                text += &self.line(group);
+            }
+            let value = (field.read)(p);
+            text += &self.row(field, entry.at, value, &(field.words)(value));
+            if field.name == "M_ATO_OPERATIONAL_CONDITIONS" {
+                words::each_condition(value).iter().for_each(|line| text += &self.line(&format!("  {line}")));
+            }
+        }
+        text + "\n"
+    }
+
+    fn refusal(&self, entry: &Entry, bytes: &[u8], is_last: bool) -> String {
+        let mut text = format!("{}: refused by {}\n", place(entry), reason(bytes));
+        if !bytes.is_empty() {
+            text += &format!("  {}\n", hex_of_front(bytes));
+        }
+        let number = read(bytes).number;
+        if number == 19 {
+            let wrong = out_of_range(bytes);
+            let row = |field: &&Field| self.row(field, entry.at, field.value(bytes), &range_in_words(field, bytes));
+            text.extend(wrong.iter().map(row));
+            if wrong.is_empty() {
+                text += "  the reader refuses it, though every field is in the range that is known here\n";
+            }
+        }
+        text + &next_in_words(entry, number, is_last)
+    }
 }
 
 /// The content of a packet in one line.
@@ -70,24 +124,6 @@ fn content_in_words(p: &PacketFields) -> String {
 fn packet_in_brief(entry: &Entry, p: &PacketFields) -> String {
     let line = entry.line.map_or(String::new(), |line| format!("line {line:<6}"));
     format!("{:>8}  {line}{} {:<12}  {}\n", entry.at, p.kind, words::packet_name(p.kind.into()), content_in_words(p))
-}
-
-fn packet_in_words(entry: &Entry, p: &PacketFields) -> String {
-    let heading = format!("{} {}, {} bytes", p.kind, words::packet_name(p.kind.into()), p.size);
-    let mut text = format!("{}: packet {heading}\n", place(entry));
-    let mut group = "";
-    for field in fields(p.kind).into_iter().flatten() {
-        if field.group() != group {
-            group = field.group();
-            text += &format!("{:20}{group}\n", "");
-        }
-        let value = (field.read)(p);
-        text += &row(field, entry.at, value, &(field.words)(value));
-        if field.name == "M_ATO_OPERATIONAL_CONDITIONS" {
-            words::each_condition(value).iter().for_each(|line| text += &format!("{:22}{line}\n", ""));
-        }
-    }
-    text + "\n"
 }
 
 /// Why the reader refuses these bytes.
@@ -118,7 +154,7 @@ pub fn hex_of_front(bytes: &[u8]) -> String {
 }
 
 /// A packet's number, name and content, or why it is refused, in one line; and its bytes.
-pub fn bytes_in_brief(bytes: &[u8]) -> String {
+fn bytes_in_brief(bytes: &[u8]) -> String {
     let packet = read(bytes);
     if !packet.accepted {
         return format!("refused by {}\n    {}", reason(bytes), hex_of_front(bytes));
@@ -136,23 +172,6 @@ fn range_in_words(field: &Field, bytes: &[u8]) -> String {
     }
 }
 
-fn refusal_in_words(entry: &Entry, bytes: &[u8], is_last: bool) -> String {
-    let mut text = format!("{}: refused by {}\n", place(entry), reason(bytes));
-    if !bytes.is_empty() {
-        text += &format!("  {}\n", hex_of_front(bytes));
-    }
-    let number = read(bytes).number;
-    if number == 19 {
-        let wrong = out_of_range(bytes);
-        let rows = wrong.iter().map(|field| row(field, entry.at, field.value(bytes), &range_in_words(field, bytes)));
-        rows.for_each(|row| text += &row);
-        if wrong.is_empty() {
-            text += "  the reader refuses it, though every field is in the range that is known here\n";
-        }
-    }
-    text + &next_in_words(entry, number, is_last)
-}
-
 /// Where the reading goes on behind a refusal.
 fn next_in_words(entry: &Entry, number: u8, is_last: bool) -> String {
     let bytes = counted(entry.item.bytes().len(), "byte", "bytes");
@@ -163,15 +182,31 @@ fn next_in_words(entry: &Entry, number: u8, is_last: bool) -> String {
     };
     match (entry.line, number) {
         (None, 17) if entry.item.bytes().is_empty() => "\n".into(),
-        (None, 17) => format!("  {bytes} left over\n\n"),
+        (None, 17) if is_last => format!("  {bytes} left over\n\n"),
+        (None, 17) => format!("  {bytes} skipped; a whole packet is read from byte {}\n\n", entry.end()),
         (None, 18) => format!("  {bytes} skipped; {next}\n\n"),
         (None, 19) if !is_last => format!("  {next}, the packet's end\n\n"),
         _ => format!("  {next}\n\n"),
     }
 }
 
+/// The front of a line that was not read; what no terminal should get stands as U+FFFD.
+fn line_in_words(text: &str) -> String {
+    let shown = |c: char| if c.is_control() { char::REPLACEMENT_CHARACTER } else { c };
+    format!("'{}'", text.chars().take(60).map(shown).collect::<String>())
+}
+
+/// An answer or a packet in words, or a line that is neither.
+pub fn item_in_words(item: &Item) -> String {
+    match item {
+        Item::Answer(answer) => format!("{}: {}", item.line(), answer_in_words(*answer)),
+        Item::Bytes(bytes) => bytes_in_brief(bytes),
+        Item::Other(text) => line_in_words(text),
+    }
+}
+
 /// The answer in words.
-pub fn answer_in_words(answer: Answered) -> String {
+fn answer_in_words(answer: Answered) -> String {
     match answer {
         Err(number) => format!("call refused by {number}"),
         Ok(answer) => {
@@ -185,7 +220,17 @@ pub fn answer_in_words(answer: Answered) -> String {
 impl Report {
     pub fn new(entries: &[Entry], brief: bool) -> Report {
         let last = entries.last().map(|entry| (entry.at, entry.line));
-        Report { brief, last, ..Report::default() }
+        let table = Table::of(entries.last().map_or(0, Entry::end));
+        Report { brief, last, table, ..Report::default() }
+    }
+
+    /// Above the first entry.
+    pub fn begin(&self) -> String {
+        if self.brief {
+            String::new()
+        } else {
+            self.table.columns()
+        }
     }
 
     /// One entry in words.
@@ -198,14 +243,13 @@ impl Report {
                 let written = answer.map_or(0, |answer| answer.bytes);
                 self.answered = Some((entry.line.unwrap_or(0), written, entry.at));
                 let line = entry.line.unwrap_or(0);
-                format!("{before}line {line}: {}: {}\n", answer_line(*answer), answer_in_words(*answer))
+                format!("{before}line {line}: {}\n", item_in_words(&entry.item))
             }
-            Item::Other(text) => {
+            Item::Other(_) => {
                 self.wrong_lines += 1;
                 self.answered = None;
-                let text: String = text.chars().take(60).collect();
-                let line = entry.line.unwrap_or(0);
-                format!("line {line}: neither a packet in hexadecimal nor an answer of the player: '{text}'\n")
+                let (line, text) = (entry.line.unwrap_or(0), item_in_words(&entry.item));
+                format!("line {line}: neither a packet in hexadecimal nor an answer of the player: {text}\n")
             }
         }
     }
@@ -215,14 +259,14 @@ impl Report {
         self.bytes += bytes.len();
         if !packet.accepted {
             *self.refusals.entry(packet.number).or_default() += 1;
-            return refusal_in_words(entry, bytes, self.last == Some((entry.at, entry.line)));
+            return self.table.refusal(entry, bytes, self.last == Some((entry.at, entry.line)));
         }
         *self.packets.entry(packet.kind).or_default() += 1;
         self.bytes_read += bytes.len();
         if self.brief {
             packet_in_brief(entry, &packet)
         } else {
-            packet_in_words(entry, &packet)
+            self.table.packet(entry, &packet)
         }
     }
 

@@ -92,12 +92,14 @@ pub fn speed(value: u32) -> String {
     format!("cm/s, {}.{:03} km/h", metres_an_hour / 1000, metres_an_hour % 1000)
 }
 
+/// Digits in BCD; a shorter number is filled with F on the right.
 pub fn operational(value: u32) -> String {
-    let digits = format!("{value:08X}");
+    let filled = format!("{value:08X}");
+    let digits = filled.trim_end_matches('F');
     match value {
         NO_OPERATIONAL => "no journey, or none given by it".into(),
-        _ if digits.chars().all(|digit| digit.is_ascii_digit()) => format!("train identifier, BCD {digits}"),
-        _ => "train identifier, not BCD".into(),
+        _ if digits.bytes().all(|digit| digit.is_ascii_digit()) => format!("train running number {digits}"),
+        _ => "train running number, not BCD".into(),
     }
 }
 
@@ -170,7 +172,7 @@ pub fn journey_status(value: u32) -> String {
     if value == 0 {
         "journey accepted".into()
     } else {
-        "no status".into()
+        "see SUBSET-126 7.3.6.2".into()
     }
 }
 
