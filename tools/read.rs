@@ -66,13 +66,11 @@ fn read_file(name: &str) -> Result<Vec<u8>, String> {
 
 /// Each call with its event in words, and whether the input is cut short behind them.
 fn read_played(name: &str) -> Result<(Vec<(String, Call)>, Option<String>), String> {
-    let bytes = read_file(name)?;
     if name.ends_with(".scn") {
-        let text = String::from_utf8(bytes).map_err(|_| format!("{name}: no text"))?;
-        let scenario = Scenario::read(&text).map_err(|error| format!("{name}, {error}"))?;
-        let steps = scenario.steps.into_iter();
+        let steps = Scenario::read_file(name)?.steps.into_iter();
         return Ok((steps.map(|step| (format!("line {}: {}", step.line, step.text), step.call)).collect(), None));
     }
+    let bytes = read_file(name)?;
     let calls = read_calls(&bytes);
     let left = bytes.len() - write_calls(&calls).len();
     if calls.is_empty() && left > 0 {
