@@ -1,4 +1,4 @@
--- Document 01, "Packets": the layouts of 62, 65 and 68, and what lies between their fields.
+-- Documents 01, "Packets", and 02, Q-1: the layouts of 61, 62, 65 and 68, and what lies between their fields.
 -- "Ranges: NID_C to 1,023 (content of 65: 1,024); offset to 16,777,215; NID_ATOTS to 16,384; date to 32,767; alignment 0-2;
 -- status 0-8 in 62, 0 in 65; stopping data to 127, 0 unless status 1; state 0-7; spare bits 0. Other fields are free."
 use Prim.Native.Nat.{ℕ, _+_}
@@ -11,6 +11,8 @@ use Rattle.packets.specs.declared.Header.{Header}
 use Rattle.packets.specs.declared.TimingPoint.{TimingPoint}
 use Rattle.packets.specs.declared.JpReceived.{JpReceived}
 use Rattle.packets.specs.declared.AtoStatus.{AtoStatus}
+use Rattle.packets.specs.declared.Requested.{Requested}
+use Rattle.packets.specs.declared.TractionBrake.{TractionBrake}
 use Rattle.packets.specs.declared.Packet.{Packet}
 
 -- "header: NID_C (2), NID_SP (4), offset (4), speed (2), NID_OPERATIONAL (4; ..)"
@@ -96,5 +98,26 @@ atoStatusOf h v = let ((state, conditions), _) = v in record { header = headerOf
 abbrev pub kind68 : PacketKind
 kind68 = record { number = 68; content = content68; between = λ v. true; packet = λ h v. Packet.AtoStatus (atoStatusOf h v) }
 
+-- 02: "the five bytes of packet 61 as SUBSET-140 lists them", Table 4: UINT8, UINT8, BITSET8, INT16. "For the reader packet 61 has 22 bytes; its
+-- content is free"
+abbrev pub content61 : Layout
+content61 =
+    field "M_ATO_TraBrRq" 1 free
+    ∷ field "M_ATO_LocoBrRq" 1 free
+    ∷ field "Q_ATO_SupTB" 1 free
+    ∷ field "M_ATO_RTBRq" 2 free
+    ∷ []
+
+abbrev pub requestedOf : Values content61 → Requested
+requestedOf v =
+    let (trabrrq, (locobrrq, (suptb, (rtbrq, _)))) = v in
+    record { «m_ato_trabrrq» = trabrrq; «m_ato_locobrrq» = locobrrq; «q_ato_suptb» = suptb; «m_ato_rtbrq» = rtbrq }
+
+abbrev pub tractionBrakeOf : Values headerLayout → Values content61 → TractionBrake
+tractionBrakeOf h v = record { header = headerOf h; requested = requestedOf v }
+
+abbrev pub kind61 : PacketKind
+kind61 = record { number = 61; content = content61; between = λ v. true; packet = λ h v. Packet.TractionBrake (tractionBrakeOf h v) }
+
 abbrev pub kinds : List PacketKind
-kinds = kind62 ∷ kind65 ∷ kind68 ∷ []
+kinds = kind62 ∷ kind65 ∷ kind68 ∷ kind61 ∷ []

@@ -26,7 +26,7 @@ abbrev pub joined : List Packet → List ℕ
 joined [] = []
 joined (p ∷ ps) = packetBytes p ++ joined ps
 
--- "for 62, 65, 68 .. 25, 29, 19 bytes"
+-- "for 62, 65, 68 .. 25, 29, 19 bytes"; 02: "packet 61 has 22 bytes"
 abbrev pub sizeOf : Packet → ℕ
 sizeOf p = kindSize (packetView p .kind)
 
@@ -47,7 +47,7 @@ kindFrom (k ∷ ks) n = if eqb n (k .number) then accept k else kindFrom ks n
 abbrev pub packetAt : PacketKind → List ℕ → Packet
 packetAt k s = k .packet (valuesAt headerLayout 1 s) (valuesAt (k .content) contentAt s)
 
--- "17 .. for 62, 65, 68 not 25, 29, 19 bytes; .. 19 value out of range": p has the values that stand in n bytes
+-- "17 .. for 62, 65, 68 not 25, 29, 19 bytes", for 61 not 22; ".. 19 value out of range": p has the values that stand in n bytes
 unfoldable pub judgedPacket : ℕ → Packet → Judged Packet
 judgedPacket n p = do
   row 17 (not (eqb n (sizeOf p)))

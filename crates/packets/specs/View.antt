@@ -1,10 +1,12 @@
 -- The values that a packet's struct stands for.
 use Rattle.layout.specs.Layout.{Values}
-use Rattle.packets.specs.Layouts.{PacketKind, headerLayout, content62, content65, content68, kind62, kind65, kind68}
+use Rattle.packets.specs.Layouts.{PacketKind, headerLayout, content62, content65, content68, content61, kind62, kind65, kind68, kind61}
 use Rattle.packets.specs.declared.Header.{Header}
 use Rattle.packets.specs.declared.TimingPoint.{TimingPoint}
 use Rattle.packets.specs.declared.JpReceived.{JpReceived}
 use Rattle.packets.specs.declared.AtoStatus.{AtoStatus}
+use Rattle.packets.specs.declared.Requested.{Requested}
+use Rattle.packets.specs.declared.TractionBrake.{TractionBrake}
 use Rattle.packets.specs.declared.Packet.{Packet}
 
 abbrev pub headerView : Header → Values headerLayout
@@ -19,6 +21,9 @@ jpReceivedView p = (p .nidc, (p .atots, (p .date, (p .seconds, (p .counter, (p .
 abbrev pub atoStatusView : AtoStatus → Values content68
 atoStatusView p = ((p .state, p .conditions), tt)
 
+abbrev pub requestedView : Requested → Values content61
+requestedView r = (r .«m_ato_trabrrq», (r .«m_ato_locobrrq», (r .«q_ato_suptb», (r .«m_ato_rtbrq», tt))))
+
 -- the values of one packet, by its kind
 pub record PacketValues : Type 0 where
   pub kind : PacketKind
@@ -29,3 +34,4 @@ abbrev pub packetView : Packet → PacketValues
 packetView (Packet.TimingPoint p) = record { kind = kind62; header = headerView (p .header); content = timingPointView p }
 packetView (Packet.JpReceived p) = record { kind = kind65; header = headerView (p .header); content = jpReceivedView p }
 packetView (Packet.AtoStatus p) = record { kind = kind68; header = headerView (p .header); content = atoStatusView p }
+packetView (Packet.TractionBrake p) = record { kind = kind61; header = headerView (p .header); content = requestedView (p .requested) }

@@ -1,4 +1,4 @@
-// Recorder packets 62, 65 and 68: their values, their sizes and the ranges of their fields.
+// Recorder packets 61, 62, 65 and 68: their values, their sizes and the ranges of their fields.
 ghost use mathlib.Core.Path.{_≡_};
 ghost use Rattle.layout.specs.Layout.{fits};
 ghost use Rattle.packets.specs.Layouts.{headerLayout};
@@ -47,10 +47,27 @@ pub struct AtoStatus {
     pub conditions: u16,
 }
 
+// The content of packet 61: SUBSET-140, Table 4. M_ATO_RTBRq, an INT16 there, as its unsigned 16 bits.
+#[repr(C)]
+pub struct Requested {
+    pub m_ato_trabrrq: u8,
+    pub m_ato_locobrrq: u8,
+    pub q_ato_suptb: u8,
+    pub m_ato_rtbrq: u16,
+}
+
+// Packet 61, Traction_Brake_Pneumatic_Brake_Requested.
+#[repr(C)]
+pub struct TractionBrake {
+    pub header: Header,
+    pub requested: Requested,
+}
+
 pub enum Packet {
     TimingPoint(TimingPoint),
     JpReceived(JpReceived),
     AtoStatus(AtoStatus),
+    TractionBrake(TractionBrake),
 }
 
 // The numbers of the packets, and their bytes.
@@ -60,11 +77,15 @@ pub const JP_RECEIVED: u8 = 65;
 
 pub const ATO_STATUS: u8 = 68;
 
+pub const TRACTION_BRAKE: u8 = 61;
+
 pub const TIMING_POINT_SIZE: usize = 25;
 
 pub const JP_RECEIVED_SIZE: usize = 29;
 
 pub const ATO_STATUS_SIZE: usize = 19;
+
+pub const TRACTION_BRAKE_SIZE: usize = 22;
 
 // NID_C in the content of 65 where the position is not known.
 pub const UNKNOWN_NIDC: u16 = 1024;
@@ -98,6 +119,7 @@ pub fn packet_size(p: Packet) -> usize
         Packet::TimingPoint(_) => TIMING_POINT_SIZE,
         Packet::JpReceived(_) => JP_RECEIVED_SIZE,
         Packet::AtoStatus(_) => ATO_STATUS_SIZE,
+        Packet::TractionBrake(_) => TRACTION_BRAKE_SIZE,
     }
 }
 
@@ -112,6 +134,7 @@ pub fn size_at(s: &[u8]) -> usize
         TIMING_POINT => TIMING_POINT_SIZE,
         JP_RECEIVED => JP_RECEIVED_SIZE,
         ATO_STATUS => ATO_STATUS_SIZE,
+        TRACTION_BRAKE => TRACTION_BRAKE_SIZE,
         _ => 0,
     }
 }
@@ -169,5 +192,6 @@ pub fn packet_fits(p: Packet) -> bool
         Packet::TimingPoint(x) => timing_point_fits(x),
         Packet::JpReceived(x) => jp_received_fits(x),
         Packet::AtoStatus(x) => ato_status_fits(x),
+        Packet::TractionBrake(x) => header_fits(x.header),
     }
 }
