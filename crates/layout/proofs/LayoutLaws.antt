@@ -9,11 +9,11 @@ use lib.ListN.{length, drop, length-append}
 use lib.Seq.{drop-drop, drop-at, getD-drop}
 use lib.Dec.{leb, ltb}
 use borrow.Author.Tests.{leb-true, ltb-true}
-use Rattle.wire.specs.Numbers.{number, bytesOf, Bytes}
+use Rattle.wire.specs.Numbers.{number, bytesOf, magnitude, Bytes}
 use Rattle.wire.proofs.NumberLaws.{length-bytesOf, number-bytesOf, number-bound, reread}
 use Rattle.wire.proofs.ListLaws.{and-left, and-right}
 use Rattle.layout.specs.Layout.{Content, Field, Layout, Value, Values, packed, unpacked, bytes, size, valuesAt, contentFits, fits}
-use Rattle.layout.specs.Layout.Content.{free, upTo, between, part}
+use Rattle.layout.specs.Layout.Content.{free, upTo, between, signed, part}
 
 -- ---- size
 
@@ -30,6 +30,7 @@ abbrev pub contentTests : Bool → (c : Content) → Value c → Bool
 contentTests before free v = before
 contentTests before (upTo high) v = before && leb v high
 contentTests before (between low high) v = (before && leb low v) && leb v high
+contentTests before (signed high) v = before && leb (magnitude v) high
 contentTests before (part base high rest) v = contentTests (before && leb (v .0) high) rest (v .1)
 
 abbrev pub tests : Bool → (l : Layout) → Values l → Bool
@@ -40,6 +41,7 @@ content-tests : (before : Bool) (c : Content) (v : Value c) → contentTests bef
 content-tests before free v = sym (and-true before)
 content-tests before (upTo high) v = refl
 content-tests before (between low high) v = and-assoc before (leb low v) (leb v high)
+content-tests before (signed high) v = refl
 content-tests before (part base high rest) v = content-tests (before && leb (v .0) high) rest (v .1) ∙ and-assoc before (leb (v .0) high) (contentFits rest (v .1))
 
 pub tests-fit : (before : Bool) (l : Layout) (v : Values l) → tests before l v ≡ (before && fits l v)
@@ -56,29 +58,33 @@ abbrev pub apart : Content → Bool
 apart free = false
 apart (upTo high) = true
 apart (between low high) = true
+apart (signed high) = false
 apart (part base high rest) = ltb high base && apart rest
 
 abbrev pub most : Content → ℕ
 most free = 0
 most (upTo high) = high
 most (between low high) = high
+most (signed high) = 0
 most (part base high rest) = high + base * most rest
 
 abbrev pub roomy : ℕ → Content → Bool
 roomy w free = true
 roomy w (upTo high) = ltb high (256 ^ w)
 roomy w (between low high) = ltb high (256 ^ w)
+roomy w (signed high) = true
 roomy w (part base high rest) = apart (part base high rest) && ltb (most (part base high rest)) (256 ^ w)
 
 abbrev pub sound : Layout → Bool
 sound [] = true
 sound (f ∷ fs) = roomy (f .width) (f .content) && sound fs
 
--- the numbers without a range are below the power of their width
+-- the numbers without a range, and signed ones, are below the power of their width
 abbrev pub Held : ℕ → (c : Content) → Value c → Type 0
 Held w free v = v < 256 ^ w
 Held w (upTo high) v = Unit {0}
 Held w (between low high) v = Unit {0}
+Held w (signed high) v = v < 256 ^ w
 Held w (part base high rest) v = Unit {0}
 
 abbrev pub Typed : (l : Layout) → Values l → Type 0
@@ -91,12 +97,14 @@ packed-unpacked : (c : Content) (n : ℕ) → packed c (unpacked c n) ≡ n
 packed-unpacked free n = refl
 packed-unpacked (upTo high) n = refl
 packed-unpacked (between low high) n = refl
+packed-unpacked (signed high) n = refl
 packed-unpacked (part base high rest) n = ap (λ (k : ℕ). n % base + base * k) (packed-unpacked rest (n / base)) ∙ mod-add-div n base
 
 unpacked-packed : (c : Content) (v : Value c) → apart c ≡ true → contentFits c v ≡ true → unpacked c (packed c v) ≡ v
 unpacked-packed free v a e = refl
 unpacked-packed (upTo high) v a e = refl
 unpacked-packed (between low high) v a e = refl
+unpacked-packed (signed high) v a e = refl
 unpacked-packed (part base high rest) v a e =
     let h : v .0 ≤ high = leb-true _ _ (and-left (leb (v .0) high) _ e) in
     let b : high < base = ltb-true _ _ (and-left (ltb high base) _ a) in
@@ -111,6 +119,7 @@ packed-most : (c : Content) (v : Value c) → apart c ≡ true → contentFits c
 packed-most free v a e = let z : _≡_ {A = ℕ} 0 1 = cc in absurd (omega arith)
 packed-most (upTo high) v a e = leb-true _ _ e
 packed-most (between low high) v a e = leb-true _ _ (and-right (leb low v) _ e)
+packed-most (signed high) v a e = let z : _≡_ {A = ℕ} 0 1 = cc in absurd (omega arith)
 packed-most (part base high rest) v a e =
     let h : v .0 ≤ high = leb-true _ _ (and-left (leb (v .0) high) _ e) in
     let k : packed rest (v .1) ≤ most rest = packed-most rest (v .1) (and-right (ltb high base) _ a) (and-right (leb (v .0) high) _ e) in
@@ -122,6 +131,7 @@ packed-held : (w : ℕ) (c : Content) (v : Value c) → roomy w c ≡ true → c
 packed-held w free v r e h = (h, refl)
 packed-held w (upTo high) v r e h = let a : v ≤ high = leb-true _ _ e in let b : high < 256 ^ w = ltb-true _ _ r in (omega arith, refl)
 packed-held w (between low high) v r e h = let a : v ≤ high = leb-true _ _ (and-right (leb low v) _ e) in let b : high < 256 ^ w = ltb-true _ _ r in (omega arith, refl)
+packed-held w (signed high) v r e h = (h, refl)
 packed-held w (part base high rest) v r e h =
     let p = and-left (apart (part base high rest)) _ r in
     let a : packed (part base high rest) v ≤ most (part base high rest) = packed-most (part base high rest) v p e in
@@ -161,6 +171,7 @@ held : (w : ℕ) (c : Content) (l : List ℕ) → Bytes l → Held w c (unpacked
 held w free l b = number-bound w l b
 held w (upTo high) l b = tt
 held w (between low high) l b = tt
+held w (signed high) l b = number-bound w l b
 held w (part base high rest) l b = tt
 
 pub read-typed : (l : Layout) (k : ℕ) (s : List ℕ) → Bytes s → Typed l (valuesAt l k s)

@@ -4,32 +4,33 @@ use mathlib.Core.Path.{_≡_}
 use mathlib.Core.Bool.{true, false}
 use mathlib.Core.List.{[], _∷_, map}
 use Rattle.layout.specs.Layout.{Content, Layout, Values, field, packed, unpacked, bytes, size, valuesAt, fits}
-use Rattle.layout.specs.Layout.Content.{free, upTo, between, part}
+use Rattle.layout.specs.Layout.Content.{free, upTo, between, signed, part}
 
--- a made-up layout: a number to 300, three numbers in one byte as of the info of a packet 62, a free number, one from 5 to 9
+-- a made-up layout: a number to 300, three numbers in one byte as of the info of a packet 62, a free number, one from 5 to 9,
+-- a signed byte to 100
 abbrev pub info : Content
 info = part 2 1 (part 4 2 (upTo 8))
 
 abbrev pub sample : Layout
-sample = field "a" 2 (upTo 300) ∷ field "info" 1 info ∷ field "b" 4 free ∷ field "c" 1 (between 5 9) ∷ []
+sample = field "a" 2 (upTo 300) ∷ field "info" 1 info ∷ field "b" 4 free ∷ field "c" 1 (between 5 9) ∷ field "d" 1 (signed 100) ∷ []
 
-abbrev pub of : ℕ → ℕ → ℕ → ℕ → ℕ → ℕ → Values sample
-of a reached alignment status b c = (a, ((reached, (alignment, status)), (b, (c, tt))))
+abbrev pub of : ℕ → ℕ → ℕ → ℕ → ℕ → ℕ → ℕ → Values sample
+of a reached alignment status b c d = (a, ((reached, (alignment, status)), (b, (c, (d, tt)))))
 
 pub record Anchors : Type 0 where
   -- "info: Q_EOJ_REACHED .. + 2 × alignment + 8 × status": 1 + 2 × 2 + 8 × 5
   pub packing : map (packed info) ((1, (0, 0)) ∷ (0, (1, 0)) ∷ (0, (0, 1)) ∷ (1, (2, 5)) ∷ []) ≡ 1 ∷ 2 ∷ 8 ∷ 45 ∷ []
   pub unpacking : map (unpacked info) (1 ∷ 2 ∷ 8 ∷ 45 ∷ 255 ∷ []) ≡ (1, (0, 0)) ∷ (0, (1, 0)) ∷ (0, (0, 1)) ∷ (1, (2, 5)) ∷ (1, (3, 31)) ∷ []
-  pub plain : packed free 7 ∷ packed (upTo 300) 8 ∷ packed (between 5 9) 10 ∷ [] ≡ 7 ∷ 8 ∷ 10 ∷ []
-  pub taken : unpacked free 7 ∷ unpacked (upTo 300) 8 ∷ unpacked (between 5 9) 10 ∷ [] ≡ 7 ∷ 8 ∷ 10 ∷ []
+  pub plain : packed free 7 ∷ packed (upTo 300) 8 ∷ packed (between 5 9) 10 ∷ packed (signed 100) 200 ∷ [] ≡ 7 ∷ 8 ∷ 10 ∷ 200 ∷ []
+  pub taken : unpacked free 7 ∷ unpacked (upTo 300) 8 ∷ unpacked (between 5 9) 10 ∷ unpacked (signed 100) 200 ∷ [] ≡ 7 ∷ 8 ∷ 10 ∷ 200 ∷ []
   -- its fields one after the other, "most significant byte first": 300 is 01 2C
-  pub laid : bytes sample (of 300 1 2 5 0x12345678 9) ≡ 0x01 ∷ 0x2C ∷ 45 ∷ 0x12 ∷ 0x34 ∷ 0x56 ∷ 0x78 ∷ 9 ∷ []
+  pub laid : bytes sample (of 300 1 2 5 0x12345678 9 0x9C) ≡ 0x01 ∷ 0x2C ∷ 45 ∷ 0x12 ∷ 0x34 ∷ 0x56 ∷ 0x78 ∷ 9 ∷ 0x9C ∷ []
   pub nothing-laid : bytes [] tt ≡ []
-  pub sizes : map size ([] ∷ sample ∷ []) ≡ 0 ∷ 8 ∷ []
+  pub sizes : map size ([] ∷ sample ∷ []) ≡ 0 ∷ 9 ∷ []
   -- and what stands there, from a position on
-  pub found : valuesAt sample 1 (0xEE ∷ 0x01 ∷ 0x2C ∷ 45 ∷ 0x12 ∷ 0x34 ∷ 0x56 ∷ 0x78 ∷ 9 ∷ 0xEE ∷ []) ≡ of 300 1 2 5 0x12345678 9
-  -- each side of each bound
-  pub fit : map (fits sample) (of 0 0 0 0 0 5 ∷ of 300 1 2 8 4294967295 9 ∷ []) ≡ true ∷ true ∷ []
-  pub do-not : map (fits sample) (of 301 0 0 0 0 5 ∷ of 0 2 0 0 0 5 ∷ of 0 0 3 0 0 5 ∷ of 0 0 0 9 0 5 ∷ of 0 0 0 0 0 4 ∷ of 0 0 0 0 0 10 ∷ [])
-      ≡ false ∷ false ∷ false ∷ false ∷ false ∷ false ∷ []
+  pub found : valuesAt sample 1 (0xEE ∷ 0x01 ∷ 0x2C ∷ 45 ∷ 0x12 ∷ 0x34 ∷ 0x56 ∷ 0x78 ∷ 9 ∷ 0x9C ∷ 0xEE ∷ []) ≡ of 300 1 2 5 0x12345678 9 0x9C
+  -- each side of each bound; a signed byte at 100, −100 (156), 101 and −101 (155)
+  pub fit : map (fits sample) (of 0 0 0 0 0 5 0 ∷ of 300 1 2 8 4294967295 9 100 ∷ of 300 1 2 8 4294967295 9 156 ∷ []) ≡ true ∷ true ∷ true ∷ []
+  pub do-not : map (fits sample) (of 301 0 0 0 0 5 0 ∷ of 0 2 0 0 0 5 0 ∷ of 0 0 3 0 0 5 0 ∷ of 0 0 0 9 0 5 0 ∷ of 0 0 0 0 0 4 0 ∷ of 0 0 0 0 0 10 0
+      ∷ of 0 0 0 0 0 5 101 ∷ of 0 0 0 0 0 5 155 ∷ []) ≡ false ∷ false ∷ false ∷ false ∷ false ∷ false ∷ false ∷ false ∷ []
   pub nothing-fits : fits [] tt ≡ true

@@ -5,15 +5,16 @@ use mathlib.Core.List.{List, [], _∷_, _++_}
 use mathlib.Core.Bool.{Bool, true, _&&_}
 use lib.ListN.{drop}
 use lib.Dec.{leb}
-use Rattle.wire.specs.Numbers.{number, bytesOf}
+use Rattle.wire.specs.Numbers.{number, bytesOf, magnitude}
 
 -- What stands in a field: any number that its bytes hold; a number to a highest one; a number between a lowest and a
--- highest one; or several numbers in one, the lowest first, where `part base high rest` is a number to high plus base times
+-- highest one; a signed byte, from minus a highest size to that size; or several numbers in one, the lowest first, where `part base high rest` is a number to high plus base times
 -- the rest.
 pub data Content : Type 0 where
   free : Content
   upTo : ℕ → Content
   between : ℕ → ℕ → Content
+  signed : ℕ → Content
   part : ℕ → ℕ → Content → Content
 
 -- a field: its name in the papers, its bytes, and what stands in it
@@ -34,6 +35,7 @@ abbrev pub Value : Content → Type 0
 Value free = ℕ
 Value (upTo high) = ℕ
 Value (between low high) = ℕ
+Value (signed high) = ℕ
 Value (part base high rest) = ℕ × Value rest
 
 abbrev pub Values : Layout → Type 0
@@ -45,6 +47,7 @@ abbrev pub packed : (c : Content) → Value c → ℕ
 packed free v = v
 packed (upTo high) v = v
 packed (between low high) v = v
+packed (signed high) v = v
 packed (part base high rest) v = v .0 + base * packed rest (v .1)
 
 -- and taken apart
@@ -52,6 +55,7 @@ abbrev pub unpacked : (c : Content) → ℕ → Value c
 unpacked free n = n
 unpacked (upTo high) n = n
 unpacked (between low high) n = n
+unpacked (signed high) n = n
 unpacked (part base high rest) n = (n % base, unpacked rest (n / base))
 
 -- ---- bytes, size, values at a position
@@ -74,6 +78,7 @@ abbrev pub contentFits : (c : Content) → Value c → Bool
 contentFits free v = true
 contentFits (upTo high) v = leb v high
 contentFits (between low high) v = leb low v && leb v high
+contentFits (signed high) v = leb (magnitude v) high
 contentFits (part base high rest) v = leb (v .0) high && contentFits rest (v .1)
 
 abbrev pub fits : (l : Layout) → Values l → Bool

@@ -20,6 +20,7 @@ numbers = record {
   other-bits = refl;
   flags = refl;
   chosen = refl;
+  magnitudes = refl;
   byte = byte;
   no-byte = λ h. let q = h 1 in absurd (omega arith);
 }

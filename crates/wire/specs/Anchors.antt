@@ -4,7 +4,7 @@ use mathlib.Core.Path.{_≡_}
 use mathlib.Core.Bool.{Bool, true, false}
 use mathlib.Core.List.{List, [], _∷_, map}
 use lib.Dec.{eqb, ltb}
-use Rattle.wire.specs.Numbers.{number, bytesOf, bit, flag, if_then_else_, Bytes}
+use Rattle.wire.specs.Numbers.{number, bytesOf, bit, flag, if_then_else_, magnitude, Bytes}
 use Rattle.wire.specs.Lists.{All, any, every, those, tabulate, sum, twice, falls, strictlyRises}
 use Rattle.wire.specs.Judged.{Judged, thenJudge, row, _>>=_, _>>_}
 use Rattle.wire.specs.Judged.Judged.{refuse, accept}
@@ -34,6 +34,8 @@ pub record Numbers : Type 0 where
   -- a test as a number: Q_EOJ_REACHED "0 once the End of Journey is reached or passed, else 1"
   pub flags : map flag (true ∷ false ∷ []) ≡ 1 ∷ 0 ∷ []
   pub chosen : map {B = ℕ} (λ b. if b then 5 else 6) (true ∷ false ∷ []) ≡ 5 ∷ 6 ∷ []
+  -- 0, 1, 100, 127; −128, −127, −101, −100, −1
+  pub magnitudes : map magnitude (0x00 ∷ 0x01 ∷ 0x64 ∷ 0x7F ∷ 0x80 ∷ 0x81 ∷ 0x9B ∷ 0x9C ∷ 0xFF ∷ []) ≡ 0 ∷ 1 ∷ 100 ∷ 127 ∷ 128 ∷ 127 ∷ 101 ∷ 100 ∷ 1 ∷ []
   -- a byte is at most 255
   pub byte : Bytes (0 ∷ 255 ∷ [])
   pub no-byte : ¬ Bytes (0 ∷ 256 ∷ [])
