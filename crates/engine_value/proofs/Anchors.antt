@@ -33,6 +33,7 @@ freshly = record {
   no-segments = refl;
   no-press = refl;
   no-request = refl;
+  no-traction = refl;
   no-route = refl;
   skips-cleared = refl;
 }

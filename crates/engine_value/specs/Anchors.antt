@@ -5,11 +5,12 @@ use mathlib.Core.Bool.{true, false}
 use mathlib.Core.List.{[], _∷_, map}
 use lib.ListN.{replicate}
 use Rattle.engine_value.specs.Engine.{max2, max4, maxNidc, maxNidtp, undefined, noOperational, maxSegments, maxPoints, maxZones, filled}
-use Rattle.engine_value.specs.Engine.{blankZone, blankSegment, blankPoint, progress, noSkips, fresh, noRoute, routeIn, withControl}
+use Rattle.engine_value.specs.Engine.{blankZone, blankSegment, blankPoint, progress, noSkips, noTraction, fresh, noRoute, routeIn, withControl}
 use Rattle.engine_value.specs.Engine.{Value, mode, lever, reports, trainLength, place, numberIn, trainOf, inputsOf}
 use Rattle.engine_value.specs.declared.Load.{Load}
 use Rattle.engine_value.specs.declared.Position.{Position}
 use Rattle.engine_value.specs.declared.Control.{Control}
+use Rattle.engine_value.specs.declared.Traction.{Traction}
 use Rattle.engine_value.specs.declared.Engine.{Engine}
 
 pub record Constants : Type 0 where
@@ -47,6 +48,8 @@ pub record Fresh : Type 0 where
   pub no-segments : fresh .segments ≡ replicate 40 blankSegment
   pub no-press : fresh .control .press ≡ false
   pub no-request : fresh .control .request ≡ false
+  -- 02, Q-1: no request yet, so "the first request writes"
+  pub no-traction : fresh .traction ≡ record { remembered = false; range = 0; suptb = 0; spare = 0 }
   pub no-route : noRoute ≡ routeIn fresh
   pub skips-cleared : noSkips ≡ replicate 64 false
 
@@ -94,8 +97,12 @@ journey = record { operational = 7; valid = true; ending = 1; «point_count» = 
 abbrev pub engaged : Control
 engaged = record { state = 5; press = false; request = true }
 
-abbrev pub sample : Control → Engine
-sample c = record {
+-- range 3, Q_ATO_SupTB 200
+abbrev pub requested : Traction
+requested = record { remembered = true; range = 3; suptb = 200; spare = 0 }
+
+abbrev pub sample : Control → Traction → Engine
+sample c t = record {
   points = blankPoint ∷ blankPoint ∷ [];
   skips = true ∷ [];
   segments = blankSegment ∷ [];
@@ -104,18 +111,19 @@ sample c = record {
   progress = progress 1 true;
   inputs = record { mode = 1; lever = 2; reports = 31 };
   control = c;
+  traction = t;
 }
 
 pub record Groups : Type 0 where
   pub places : map place (mode ∷ lever ∷ reports ∷ trainLength ∷ []) ≡ 0 ∷ 1 ∷ 2 ∷ 3 ∷ []
   -- "Mode, lever, reports, position and train length": each value in its field
-  pub numbers : map (numberIn (sample engaged)) (mode ∷ lever ∷ reports ∷ trainLength ∷ []) ≡ 1 ∷ 2 ∷ 31 ∷ 400 ∷ []
+  pub numbers : map (numberIn (sample engaged requested)) (mode ∷ lever ∷ reports ∷ trainLength ∷ []) ≡ 1 ∷ 2 ∷ 31 ∷ 400 ∷ []
   pub train : trainOf somewhere values ≡ record { position = somewhere; length = 400 }
   pub inputs : inputsOf values ≡ record { mode = 1; lever = 2; reports = 31 }
   pub reached : progress 1 true ≡ record { next = 1; reached = true }
   pub unreached : progress 2 false ≡ record { next = 2; reached = false }
-  pub route : routeIn (sample engaged) ≡ record { load = journey; points = blankPoint ∷ blankPoint ∷ []; segments = blankSegment ∷ [] }
-  pub control : withControl (sample (fresh .control)) engaged ≡ sample engaged
+  pub route : routeIn (sample engaged requested) ≡ record { load = journey; points = blankPoint ∷ blankPoint ∷ []; segments = blankSegment ∷ [] }
+  pub control : withControl (sample (fresh .control) noTraction) engaged requested ≡ sample engaged requested
 
 pub record Anchors : Type 0 where
   pub constants : Constants

@@ -12,6 +12,7 @@ use Rattle.engine_value.specs.declared.Position.{Position}
 use Rattle.engine_value.specs.declared.Train.{Train}
 use Rattle.engine_value.specs.declared.Inputs.{Inputs}
 use Rattle.engine_value.specs.declared.Control.{Control}
+use Rattle.engine_value.specs.declared.Traction.{Traction}
 use Rattle.engine_value.specs.declared.Engine.{Engine}
 
 -- ---- constants
@@ -112,6 +113,10 @@ freshInputs = inputsOf (λ v. 0)
 abbrev pub freshControl : Control
 freshControl = record { state = 0; press = false; request = false }
 
+-- 02, Q-1: range and Q_ATO_SupTB of no request are remembered
+abbrev pub noTraction : Traction
+noTraction = record { remembered = false; range = 0; suptb = 0; spare = 0 }
+
 abbrev pub noSkips : List Bool
 noSkips = replicate maxPoints false
 
@@ -125,6 +130,7 @@ fresh = record {
   progress = progress 0 false;
   inputs = freshInputs;
   control = freshControl;
+  traction = noTraction;
 }
 
 -- ---- a load's result: what stands in the engine until the next one
@@ -140,6 +146,17 @@ noRoute = record { load = noLoad; points = replicate maxPoints blankPoint; segme
 abbrev pub routeIn : Engine → Route
 routeIn e = record { load = e .load; points = e .points; segments = e .segments }
 
--- the engine with another control group (antt has no record update)
-abbrev pub withControl : Engine → Control → Engine
-withControl e c = record { points = e .points; skips = e .skips; segments = e .segments; load = e .load; train = e .train; progress = e .progress; inputs = e .inputs; control = c }
+-- the engine with other groups of control and traction (antt has no record update)
+abbrev pub withControl : Engine → Control → Traction → Engine
+withControl e c t =
+    record {
+      points = e .points;
+      skips = e .skips;
+      segments = e .segments;
+      load = e .load;
+      train = e .train;
+      progress = e .progress;
+      inputs = e .inputs;
+      control = c;
+      traction = t;
+    }

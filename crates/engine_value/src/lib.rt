@@ -1,7 +1,7 @@
 // The engine as a value: the journey in force, the train, how far it has come, and the ATO state. Numbers, bools and arrays of
 // plain structs, so that a host in C can hold it.
 ghost use mathlib.Core.Path.{_≡_};
-ghost use Rattle.engine_value.specs.Engine.{blankSegment, blankPoint, noLoad, freshTrain, freshInputs, freshControl, fresh};
+ghost use Rattle.engine_value.specs.Engine.{blankSegment, blankPoint, noLoad, freshTrain, freshInputs, freshControl, noTraction, fresh};
 
 // The most points and segments of a journey, and the most zones of a segment.
 pub const MAX_POINTS: usize = 64;
@@ -107,6 +107,16 @@ pub struct Control {
     pub request: bool,
 }
 
+// Range and Q_ATO_SupTB of the latest traction request, where they are remembered; else 0. `spare` is always 0: without it the engine would end in
+// a byte of padding.
+#[repr(C)]
+pub struct Traction {
+    pub remembered: bool,
+    pub range: u8,
+    pub suptb: u8,
+    pub spare: u8,
+}
+
 // The journey's points and the driver skips of each, its segments, and the groups above.
 #[repr(C)]
 pub struct Engine {
@@ -118,6 +128,7 @@ pub struct Engine {
     pub progress: Progress,
     pub inputs: Inputs,
     pub control: Control,
+    pub traction: Traction,
 }
 
 // The value of a segment beyond the journey's count.
@@ -206,6 +217,18 @@ pub fn fresh_control() -> Control
     }
 }
 
+// Nothing is remembered of a traction request.
+pub fn no_traction() -> Traction
+    ensures { λ r. ⌜ r ≡ noTraction ⌝ }
+{
+    Traction {
+        remembered: false,
+        range: 0,
+        suptb: 0,
+        spare: 0,
+    }
+}
+
 // The fresh engine.
 pub fn fresh() -> Engine
     ensures { λ r. ⌜ r ≡ fresh ⌝ }
@@ -226,5 +249,6 @@ pub fn fresh() -> Engine
         progress: progress,
         inputs: fresh_inputs(),
         control: fresh_control(),
+        traction: no_traction(),
     }
 }

@@ -7,11 +7,13 @@ use mathlib.Core.Option.{Option, none, some}
 use lib.Dec.{eqb}
 use Rattle.wire.specs.Numbers.{if_then_else_}
 use Rattle.layout.specs.Layout.{Field, Layout, Value as ValueOf, Values, field}
-use Rattle.layout.specs.Layout.Content.{free, upTo, between}
+use Rattle.layout.specs.Layout.Content.{free, upTo, between, signed}
 use Rattle.engine_value.specs.Engine.{max2, max4, maxNidc, undefined, freshPosition, Value, mode, lever, reports, trainLength, place}
 use Rattle.engine_value.specs.declared.Position.{Position}
+use Rattle.packets.specs.Layouts.{content61, requestedOf}
+use Rattle.event.specs.declared.TractionRequest.{TractionRequest}
 use Rattle.event.specs.declared.Event.{Event}
-use Rattle.event.specs.declared.Event.the-variants.{PowerOn, Configured, PowerOff, Fault, Reports, Mode, Lever, Press, PositionReport, Length, Load, Skip, Revoke}
+use Rattle.event.specs.declared.Event.the-variants.{PowerOn, Configured, PowerOff, Fault, Reports, Mode, Lever, Press, PositionReport, Length, Load, Skip, Revoke, Traction}
 use Rattle.event.specs.declared.Row.{Row}
 use Rattle.event.specs.declared.Row.the-variants.{SwitchOn, Configure, SwitchOff, Fail, EngagePress, ByState}
 
@@ -78,6 +80,7 @@ pub data Brings : Type 0 where
   nothing : Brings
   number : Value → ℕ → Brings
   position : Position → Brings
+  traction : TractionRequest → Brings
 
 -- a value after an event, from what the event brings and the value before
 abbrev pub newer : {A : Type 0} → Option A → A → A
@@ -102,11 +105,21 @@ positionContent = record {
   event = λ v. let (c, (sp, (o, (s, _)))) = v in PositionReport (record { nidsp = sp; offset = o; nidc = c; speed = s });
 }
 
+-- 02: "one signed byte, the request from −100 to 100, then the five bytes of packet 61 as SUBSET-140 lists them"
+abbrev pub tractionContent : Content
+tractionContent = record {
+  fields = field "request" 1 (signed 100) ∷ content61;
+  event = λ v. Traction (record { request = v .0; content = requestedOf (v .1) });
+}
+
+abbrev pub noRequest : TractionRequest
+noRequest = record { request = 0; content = record { «m_ato_trabrrq» = 0; «m_ato_locobrrq» = 0; «q_ato_suptb» = 0; «m_ato_rtbrq» = 0 } }
+
 -- ---- the table
 
 -- "1 power on; 2 configured; 3 power off; 4 fault; 5 reports (1: bit 0 ETCS conditions, .. 4 train conditions; 5-7 zero); 6 ETCS mode (1: 0 other,
 -- 1 AD); 7 lever (1: 0 neutral, 1 traction, 2 brake); 8 engage press; 9 position: ..; 10 train length (4, 1-100,000); 11 load, with journey and book
--- lent beside it; 12 driver skip (4, NID_TP); 13 driver revokes skip (4)"
+-- lent beside it; 12 driver skip (4, NID_TP); 13 driver revokes skip (4)"; 02, Q-1: 14, the traction request
 abbrev pub kind : Event → Kind
 kind PowerOn = is 1 (bare PowerOn) SwitchOn other nothing
 kind Configured = is 2 (bare Configured) Configure other nothing
@@ -121,12 +134,13 @@ kind (Length n) = is 10 (one (field "train length" 4 (between 1 100000)) Length)
 kind Load = is 11 (bare Load) ByState load nothing
 kind (Skip t) = is 12 (one (field "NID_TP" 4 free) Skip) ByState (skip t true) nothing
 kind (Revoke t) = is 13 (one (field "NID_TP" 4 free) Revoke) ByState (skip t false) nothing
+kind (Traction x) = is 14 tractionContent ByState other (traction x)
 
 -- each kind once, at some value: its number and its content do not depend on that
 abbrev pub kinds : List Event
 kinds =
     PowerOn ∷ Configured ∷ PowerOff ∷ Fault ∷ Reports 0 ∷ Mode 0 ∷ Lever 0 ∷ Press ∷ PositionReport freshPosition ∷ Length 0 ∷ Load ∷ Skip 0 ∷ Revoke 0
-    ∷ []
+    ∷ Traction noRequest ∷ []
 
 abbrev pub kindOf : Event → ℕ
 kindOf e = kind e .number
@@ -141,11 +155,13 @@ roleOf e = kind e .role
 pub record Carried : Type 0 where
   pub number : Value → Option ℕ
   pub position : Option Position
+  pub traction : Option TractionRequest
 
 abbrev pub bringing : Brings → Carried
-bringing nothing = record { number = λ v. none; position = none }
-bringing (number w n) = record { number = λ v. if eqb (place v) (place w) then some n else none; position = none }
-bringing (position x) = record { number = λ v. none; position = some x }
+bringing nothing = record { number = λ v. none; position = none; traction = none }
+bringing (number w n) = record { number = λ v. if eqb (place v) (place w) then some n else none; position = none; traction = none }
+bringing (position x) = record { number = λ v. none; position = some x; traction = none }
+bringing (traction x) = record { number = λ v. none; position = none; traction = some x }
 
 abbrev pub carried : Event → Carried
 carried e = bringing (kind e .brings)

@@ -2,13 +2,15 @@
 use engine_value::MAX_NIDC;
 use engine_value::Position;
 use engine_value::UNDEFINED;
+use packets::Requested;
 use wire::be8;
 use wire::be16;
 use wire::be32;
+use wire::magnitude;
 ghost use mathlib.Core.Path.{_≡_};
 ghost use mathlib.Core.Bool.{_&&_};
 ghost use lib.Dec.{leb};
-ghost use Rattle.event.specs.Kinds.{kindOf, rowOf, roleOf, isReport, isLoad, isOff, isSkip, skipGiven, skipName, newer, carried, positionContent};
+ghost use Rattle.event.specs.Kinds.{kindOf, rowOf, roleOf, isReport, isLoad, isOff, isSkip, skipGiven, skipName, newer, carried, positionContent, tractionContent};
 ghost use Rattle.event.specs.Events.{eventRows, eventWith, eventOf};
 ghost use Rattle.event.specs.View.{eventView};
 
@@ -39,6 +41,17 @@ pub const SKIP: u8 = 12;
 
 pub const REVOKE: u8 = 13;
 
+pub const TRACTION: u8 = 14;
+
+// The greatest size of a traction request, in percent.
+const MAX_REQUEST: u8 = 100;
+
+// A traction or braking request as its byte in two's complement, and the content of the packet 61 that tells it.
+pub struct TractionRequest {
+    pub request: u8,
+    pub content: Requested,
+}
+
 pub enum Event {
     PowerOn,
     Configured,
@@ -53,6 +66,7 @@ pub enum Event {
     Load,
     Skip(u32),
     Revoke(u32),
+    Traction(TractionRequest),
 }
 
 // The row of the states that an event takes: one of its own, or that of the state before.
@@ -112,6 +126,23 @@ fn read_position(s: &[u8]) -> EventRead
     event_rows(s, 13, offset <= UNDEFINED, Event::PositionReport(x))
 }
 
+fn read_traction(s: &[u8]) -> EventRead
+    ensures { λ r. ⌜ eventView r ≡ eventWith tractionContent (now (s .entry)) ⌝ }
+{
+    let request = be8(s, 1);
+    let content = Requested {
+        m_ato_trabrrq: be8(s, 2),
+        m_ato_locobrrq: be8(s, 3),
+        q_ato_suptb: be8(s, 4),
+        m_ato_rtbrq: be16(s, 5),
+    };
+    let x = TractionRequest {
+        request: request,
+        content: content,
+    };
+    event_rows(s, 7, magnitude(request) <= MAX_REQUEST, Event::Traction(x))
+}
+
 // The event of the bytes: the kind byte, then exactly what that kind carries.
 pub fn read_event(s: &[u8]) -> EventRead
     ensures { λ r. ⌜ eventView r ≡ eventOf (now (s .entry)) ⌝ }
@@ -136,7 +167,8 @@ pub fn read_event(s: &[u8]) -> EventRead
         11 => event_rows(s, 1, true, Event::Load),
         12 => event_rows(s, 5, true, Event::Skip(number)),
         13 => event_rows(s, 5, true, Event::Revoke(number)),
-        0 | 14..=255 => EventRead::Refused(1),
+        14 => read_traction(s),
+        0 | 15..=255 => EventRead::Refused(1),
     }
 }
 
@@ -157,7 +189,8 @@ pub fn kind_of(e: Event) -> u8
         Event::Length(_) => LENGTH,
         Event::Load => LOAD,
         Event::Skip(_) => SKIP,
-        _ => REVOKE,
+        Event::Revoke(_) => REVOKE,
+        _ => TRACTION,
     }
 }
 
@@ -179,6 +212,7 @@ pub fn row_of(e: Event) -> Row
         Event::Load => Row::ByState,
         Event::Skip(_) => Row::ByState,
         Event::Revoke(_) => Row::ByState,
+        Event::Traction(_) => Row::ByState,
     }
 }
 
