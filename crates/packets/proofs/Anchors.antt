@@ -14,6 +14,7 @@ in-bytes = record {
   ended = record { bytes = refl; reads = refl; size = refl };
   journey = record { bytes = refl; reads = refl; size = refl };
   status = record { bytes = refl; reads = refl; size = refl };
+  traction = record { bytes = refl; reads = refl; size = refl };
   sizes = refl;
   content-at = refl;
   unknown = refl;
@@ -31,6 +32,7 @@ ranges = record {
   most-stopping = refl;
   journeys = refl;
   states = refl;
+  requests = refl;
 }
 
 lengths : Lengths
@@ -44,6 +46,7 @@ writing = record {
   counts = refl;
   memory = refl;
   short = refl;
+  traction-short = refl;
   short-kept = refl;
   unfit = refl;
   unfit-kept = refl;
@@ -52,7 +55,7 @@ writing = record {
 
 pieces : Pieces
 unfolding cut cutPackets
-pieces = record { sizes = refl; fronts = refl; none = refl; three = refl; cut-short = refl; unknown = refl }
+pieces = record { sizes = refl; fronts = refl; none = refl; three = refl; traction = refl; cut-short = refl; unknown = refl }
 
 pub anchors : Anchors
 anchors = record { inBytes = in-bytes; ranges = ranges; lengths = lengths; writing = writing; pieces = pieces }

@@ -28,7 +28,7 @@ abbrev Made : PacketKind → Type 0
 Made k = (h : Values headerLayout) (c : Values (k .content)) → packetView (k .packet h c) ≡ record { kind = k; header = h; content = c }
 
 made : All Made kinds
-made = (λ h c. refl, (λ h c. refl, (λ h c. refl, tt)))
+made = (λ h c. refl, (λ h c. refl, (λ h c. refl, (λ h c. refl, tt))))
 
 -- a packet is made of its values by its kind, which its number tells and whose layout holds its ranges
 pub record Known (p : Packet) : Type 0 where
@@ -40,6 +40,7 @@ pub known : (p : Packet) → Known p
 known (Packet.TimingPoint p) = record { remade = refl; told = refl; sound-content = refl }
 known (Packet.JpReceived p) = record { remade = refl; told = refl; sound-content = refl }
 known (Packet.AtoStatus p) = record { remade = refl; told = refl; sound-content = refl }
+known (Packet.TractionBrake p) = record { remade = refl; told = refl; sound-content = refl }
 
 -- ---- what was written is read
 

@@ -1,4 +1,4 @@
--- Packets in bytes, worked out by hand from document 01, which the definitions must give.
+-- Packets in bytes, worked out by hand from documents 01 and 02 (Q-1), which the definitions must give.
 use Prim.Native.Nat.{ℕ}
 use mathlib.Core.Path.{_≡_}
 use mathlib.Core.List.{List, [], _∷_, _++_, map}
@@ -82,6 +82,17 @@ atoStatus state conditions = Packet.AtoStatus (record { header = header; state =
 abbrev pub atoStatusBytes : List ℕ
 atoStatusBytes = 0x44 ∷ headerBytes ++ (0x1A ∷ 0x65 ∷ [])
 
+-- 61, SUBSET-140's Table 4: M_ATO_TraBrRq (1), M_ATO_LocoBrRq (1), Q_ATO_SupTB (1), M_ATO_RTBRq (2; an INT16 as its unsigned 16 bits)
+abbrev pub tractionBrake : Packet
+tractionBrake =
+    Packet.TractionBrake (record {
+      header = header;
+      requested = record { «m_ato_trabrrq» = 0x2B; «m_ato_locobrrq» = 0x4C; «q_ato_suptb» = 0x6D; «m_ato_rtbrq» = 0x8E5F };
+    })
+
+abbrev pub tractionBrakeBytes : List ℕ
+tractionBrakeBytes = 0x3D ∷ headerBytes ++ (0x2B ∷ 0x4C ∷ 0x6D ∷ 0x8E ∷ 0x5F ∷ [])
+
 pub record Worked (p : Packet) (s : List ℕ) : Type 0 where
   pub bytes : packetBytes p ≡ s
   pub reads : packetOf s ≡ accept p
@@ -95,8 +106,9 @@ pub record InBytes : Type 0 where
   pub ended : Worked (timingPoint 0 1 2 0) (timingPointBytes 0x12 0x00)
   pub journey : Worked jpReceived jpReceivedBytes
   pub status : Worked (atoStatus 5 0x1A6) atoStatusBytes
-  -- "for 62, 65, 68 .. 25, 29, 19 bytes": the content behind number and header
-  pub sizes : map sizeOf (stopped ∷ jpReceived ∷ powerOn ∷ []) ≡ 25 ∷ 29 ∷ 19 ∷ []
+  pub traction : Worked tractionBrake tractionBrakeBytes
+  -- "for 62, 65, 68 .. 25, 29, 19 bytes"; 02: "packet 61 has 22 bytes": the content behind number and header
+  pub sizes : map sizeOf (stopped ∷ jpReceived ∷ powerOn ∷ tractionBrake ∷ []) ≡ 25 ∷ 29 ∷ 19 ∷ 22 ∷ []
   pub content-at : contentAt ≡ 17
   pub unknown : unknownNidc ≡ 1024
   -- one after the other
@@ -118,6 +130,7 @@ ofEach h =
     (0x3E ∷ h ++ (0x00 ∷ 0x11 ∷ 0x00 ∷ 0x00 ∷ 0x1B ∷ 0x59 ∷ 0x09 ∷ 0x00 ∷ []))
     ∷ (0x41 ∷ h ++ (0x00 ∷ 0x11 ∷ 0x00 ∷ 0x00 ∷ 0x00 ∷ 0x00 ∷ 0x00 ∷ 0x00 ∷ 0x00 ∷ 0x00 ∷ 0x00 ∷ 0x00 ∷ []))
     ∷ (0x44 ∷ h ++ (0x08 ∷ 0x01 ∷ []))
+    ∷ (0x3D ∷ h ++ (0x00 ∷ 0x00 ∷ 0x00 ∷ 0x00 ∷ 0x00 ∷ []))
     ∷ []
 
 -- a packet of each kind with that content
@@ -130,6 +143,9 @@ read65 content = readNumber (0x41 ∷ headerBytes ++ content)
 abbrev pub read68 : List ℕ → ℕ
 read68 content = readNumber (0x44 ∷ headerBytes ++ content)
 
+abbrev pub read61 : List ℕ → ℕ
+read61 content = readNumber (0x3D ∷ headerBytes ++ content)
+
 -- "Ranges: NID_C to 1,023 (content of 65: 1,024); offset to 16,777,215; NID_ATOTS to 16,384; date to 32,767; alignment 0-2;
 -- status 0-8 in 62, 0 in 65; stopping data to 127, 0 unless status 1; state 0-7; spare bits 0. Other fields are free."
 pub record Ranges : Type 0 where
@@ -139,7 +155,7 @@ pub record Ranges : Type 0 where
       ∷ (0x04 ∷ 0x00 ∷ 0x00 ∷ 0x00 ∷ 0x00 ∷ 0x00 ∷ 0x00 ∷ 0x00 ∷ 0x00 ∷ 0x00 ∷ 0x00 ∷ 0x00 ∷ 0x00 ∷ 0x00 ∷ 0x00 ∷ 0x00 ∷ [])
       ∷ (0x00 ∷ 0x00 ∷ 0x00 ∷ 0x00 ∷ 0x00 ∷ 0x00 ∷ 0x01 ∷ 0x00 ∷ 0x00 ∷ 0x00 ∷ 0x00 ∷ 0x00 ∷ 0x00 ∷ 0x00 ∷ 0x00 ∷ 0x00 ∷ [])
       ∷ []
-      ) ≡ (0 ∷ 0 ∷ 0 ∷ []) ∷ (19 ∷ 19 ∷ 19 ∷ []) ∷ (19 ∷ 19 ∷ 19 ∷ []) ∷ []
+      ) ≡ (0 ∷ 0 ∷ 0 ∷ 0 ∷ []) ∷ (19 ∷ 19 ∷ 19 ∷ 19 ∷ []) ∷ (19 ∷ 19 ∷ 19 ∷ 19 ∷ []) ∷ []
   -- 62: NID_C 1,023 with NID_TP FFFFFFFF; NID_C 1,024
   pub point-names : map read62 (
       (0x03 ∷ 0xFF ∷ 0xFF ∷ 0xFF ∷ 0xFF ∷ 0xFF ∷ 0x00 ∷ 0x00 ∷ [])
@@ -167,17 +183,19 @@ pub record Ranges : Type 0 where
   -- 68: state 7 with all nine conditions; state 8; bits 13, 14, 15
   pub states : map read68 ((0x1F ∷ 0xF7 ∷ []) ∷ (0x00 ∷ 0x08 ∷ []) ∷ (0x20 ∷ 0x00 ∷ []) ∷ (0x40 ∷ 0x00 ∷ []) ∷ (0x80 ∷ 0x00 ∷ []) ∷ [])
       ≡ 0 ∷ 19 ∷ 19 ∷ 19 ∷ 19 ∷ []
+  -- 61: "its content is free": each field at its least and at its greatest
+  pub requests : map read61 ((0x00 ∷ 0x00 ∷ 0x00 ∷ 0x00 ∷ 0x00 ∷ []) ∷ (0xFF ∷ 0xFF ∷ 0xFF ∷ 0xFF ∷ 0xFF ∷ []) ∷ []) ≡ 0 ∷ 0 ∷ []
 
 pub record Lengths : Type 0 where
-  -- "17 empty, or for 62, 65, 68 not 25, 29, 19 bytes": one less, one more, the number alone
+  -- "17 empty, or for 62, 65, 68 not 25, 29, 19 bytes", for 61 not 22: one less, one more, the number alone
   pub empty : packetOf [] ≡ refuse 17
-  pub shorter : map readNumber (take 24 stoppedBytes ∷ take 28 jpReceivedBytes ∷ take 18 powerOnBytes ∷ []) ≡ 17 ∷ 17 ∷ 17 ∷ []
-  pub longer : map (λ s. readNumber (s ++ (0x00 ∷ []))) (stoppedBytes ∷ jpReceivedBytes ∷ powerOnBytes ∷ []) ≡ 17 ∷ 17 ∷ 17 ∷ []
-  pub alone : map (λ n. readNumber (n ∷ [])) (62 ∷ 65 ∷ 68 ∷ []) ≡ 17 ∷ 17 ∷ 17 ∷ []
+  pub shorter : map readNumber (take 24 stoppedBytes ∷ take 28 jpReceivedBytes ∷ take 18 powerOnBytes ∷ take 21 tractionBrakeBytes ∷ []) ≡ 17 ∷ 17 ∷ 17 ∷ 17 ∷ []
+  pub longer : map (λ s. readNumber (s ++ (0x00 ∷ []))) (stoppedBytes ∷ jpReceivedBytes ∷ powerOnBytes ∷ tractionBrakeBytes ∷ []) ≡ 17 ∷ 17 ∷ 17 ∷ 17 ∷ []
+  pub alone : map (λ n. readNumber (n ∷ [])) (62 ∷ 65 ∷ 68 ∷ 61 ∷ []) ≡ 17 ∷ 17 ∷ 17 ∷ 17 ∷ []
   -- the length is looked at before the ranges: a state 8 with a byte too much
   pub length-first : read68 (0x00 ∷ 0x08 ∷ 0x00 ∷ []) ≡ 17
   -- "18 another number", of whatever length
-  pub others : map (λ n. readNumber (n ∷ [])) (0 ∷ 61 ∷ 63 ∷ 64 ∷ 66 ∷ 67 ∷ 69 ∷ 255 ∷ []) ≡ 18 ∷ 18 ∷ 18 ∷ 18 ∷ 18 ∷ 18 ∷ 18 ∷ 18 ∷ []
+  pub others : map (λ n. readNumber (n ∷ [])) (0 ∷ 60 ∷ 63 ∷ 64 ∷ 66 ∷ 67 ∷ 69 ∷ 255 ∷ []) ≡ 18 ∷ 18 ∷ 18 ∷ 18 ∷ 18 ∷ 18 ∷ 18 ∷ 18 ∷ []
   pub other : readNumber (0x45 ∷ headerBytes ++ (0x08 ∷ 0x01 ∷ [])) ≡ 18
 
 -- ---- the writer
@@ -185,10 +203,11 @@ pub record Lengths : Type 0 where
 pub record Writing : Type 0 where
   -- "The packet writer returns its byte count and keeps the bytes behind"
   pub count : map (λ m. writtenCount stopped (m ++ stoppedBytes)) ([] ∷ (0xEE ∷ []) ∷ []) ≡ accept 25 ∷ accept 25 ∷ []
-  pub counts : map (λ p. writtenCount p (stoppedBytes ++ powerOnBytes)) (jpReceived ∷ atoStatus 5 0x1A6 ∷ []) ≡ accept 29 ∷ accept 19 ∷ []
+  pub counts : map (λ p. writtenCount p (stoppedBytes ++ powerOnBytes)) (jpReceived ∷ atoStatus 5 0x1A6 ∷ tractionBrake ∷ []) ≡ accept 29 ∷ accept 19 ∷ accept 22 ∷ []
   pub memory : writtenMemory powerOn (stoppedBytes ++ (0xEE ∷ [])) ≡ powerOnBytes ++ (0x00 ∷ 0x00 ∷ 0x1B ∷ 0x59 ∷ 0x09 ∷ 0x00 ∷ 0xEE ∷ [])
   -- "16 shorter than": one byte less; "changes neither engine nor memory"
   pub short : map (λ m. writtenCount powerOn m) (take 18 stoppedBytes ∷ take 19 stoppedBytes ∷ []) ≡ refuse 16 ∷ accept 19 ∷ []
+  pub traction-short : map (λ m. writtenCount tractionBrake m) (take 21 stoppedBytes ∷ take 22 stoppedBytes ∷ []) ≡ refuse 16 ∷ accept 22 ∷ []
   pub short-kept : writtenMemory powerOn (take 18 stoppedBytes) ≡ take 18 stoppedBytes
   -- "(the writer of one packet: 19, then 16)": with room and with none
   pub unfit : map (λ m. writtenCount (atoStatus 8 0) m) (stoppedBytes ∷ [] ∷ []) ≡ refuse 19 ∷ refuse 19 ∷ []
@@ -202,11 +221,12 @@ pub record Writing : Type 0 where
 
 pub record Pieces : Type 0 where
   -- the bytes of a packet by its number
-  pub sizes : map (λ n. sizeAt (n ∷ [])) (62 ∷ 65 ∷ 68 ∷ 0 ∷ 61 ∷ 255 ∷ []) ≡ 25 ∷ 29 ∷ 19 ∷ 0 ∷ 0 ∷ 0 ∷ []
+  pub sizes : map (λ n. sizeAt (n ∷ [])) (62 ∷ 65 ∷ 68 ∷ 61 ∷ 0 ∷ 60 ∷ 255 ∷ []) ≡ 25 ∷ 29 ∷ 19 ∷ 22 ∷ 0 ∷ 0 ∷ 0 ∷ []
   -- of the piece in front: cut short, a packet and a byte, no such number
   pub fronts : map frontSize ((0x3E ∷ 0x44 ∷ []) ∷ (powerOnBytes ++ (0x3E ∷ [])) ∷ (0x00 ∷ powerOnBytes) ∷ []) ≡ 2 ∷ 19 ∷ 20 ∷ []
   pub none : cutPackets [] ≡ []
   pub three : cutPackets (jpReceivedBytes ++ (stoppedBytes ++ powerOnBytes)) ≡ jpReceivedBytes ∷ stoppedBytes ∷ powerOnBytes ∷ []
+  pub traction : cutPackets (tractionBrakeBytes ++ powerOnBytes) ≡ tractionBrakeBytes ∷ powerOnBytes ∷ []
   -- cut short, and where no packet has the number
   pub cut-short : cutPackets (powerOnBytes ++ (0x3E ∷ 0x44 ∷ [])) ≡ powerOnBytes ∷ (0x3E ∷ 0x44 ∷ []) ∷ []
   pub unknown : cutPackets (0x00 ∷ powerOnBytes) ≡ (0x00 ∷ powerOnBytes) ∷ []

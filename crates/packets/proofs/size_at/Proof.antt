@@ -23,10 +23,13 @@ returns-4 : tie.Need-returns-4
 returns-4 c = rw (c .match .keys3)
 
 returns-5 : tie.Need-returns-5
-returns-5 c =
+returns-5 c = rw (c .match .keys4)
+
+returns-6 : tie.Need-returns-6
+returns-6 c =
     let r = c .match .rest in
-    rw (ne-eqb _ _ (r .0 .0 .1), ne-eqb _ _ (r .0 .1), ne-eqb _ _ (r .1))
+    rw (ne-eqb _ _ (r .0 .0 .0 .1), ne-eqb _ _ (r .0 .0 .1), ne-eqb _ _ (r .0 .1), ne-eqb _ _ (r .1))
 
 pub size-at-spec : {M : Type 1} → statement M
 size-at-spec =
-    tie.close (tie.spec returns (search needs) returns-2 returns-3 returns-4 returns-5)
+    tie.close (tie.spec returns (search needs) returns-2 returns-3 returns-4 returns-5 returns-6)
