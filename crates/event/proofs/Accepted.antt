@@ -62,6 +62,7 @@ gives (Event.Length n) v h = ((v, h, refl), refl)
 gives Event.Load v h = ((v, h, refl), refl)
 gives (Event.Skip t) v h = ((v, h, refl), refl)
 gives (Event.Revoke t) v h = ((v, h, refl), refl)
+gives (Event.Traction x) v h = ((v, h, refl), refl)
 
 among-gives : (es : List Event) (n : ℕ) (c : Content) → contentAmong es n ≡ accept c → Gives n c
 unfolding contentAmong

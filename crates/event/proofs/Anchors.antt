@@ -15,6 +15,7 @@ rows = record {
   offset-range = refl;
   length-range = refl;
   skip-range = refl;
+  traction-range = refl;
   empty = refl;
   unknown = refl;
   longer = refl;
@@ -33,6 +34,7 @@ roles = record {
   names = refl;
   values = λ n. refl;
   position = λ x. refl;
+  traction = refl;
   newest = refl;
 }
 

@@ -3,16 +3,18 @@ use Prim.Native.Nat.{ℕ}
 use mathlib.Core.Path.{_≡_, refl, subst}
 use mathlib.Core.List.{List, map}
 use mathlib.Core.Bool.{true, false, not}
+use mathlib.Core.Option.{Option, none, some}
 use lib.Dec.{T, eqb}
 use mir.Val.{hasKey}
 use types.Run.{OneOf, miss}
 use denote.Enum.Declared.{tagOf}
 use Rattle.wire.specs.Lists.{those}
 use Rattle.engine_value.specs.Engine.{freshPosition}
-use Rattle.event.specs.Kinds.{Role, off, load, report, other, skip, isReport, skipName, kinds, roleOf}
+use Rattle.event.specs.Kinds.{Role, off, load, report, other, skip, isReport, skipName, noRequest, kinds, roleOf, carried}
+use Rattle.event.specs.declared.TractionRequest.{TractionRequest}
 use Rattle.event.specs.declared.Event.{Event}
 use Rattle.event.proofs.Event.{the-type}
-use Rattle.event.proofs.Known.{OfRole, known}
+use Rattle.event.proofs.Known.{OfRole, OfTraction, known, traction-of}
 
 -- the variants, by their places, but that of d
 abbrev pub others : Event → List ℕ
@@ -45,3 +47,10 @@ no-skip e k l = go (roleOf e) (known e .role)
     go other q = refl
     go (skip t true) q = absurd (differs (Event.Skip t) e tt k q)
     go (skip t false) q = absurd (differs (Event.Revoke t) e tt l q)
+
+pub no-traction : (e : Event) → Otherwise (Event.Traction noRequest) e → carried e .traction ≡ none
+no-traction e k = go (carried e .traction) (traction-of e)
+  where
+    go : (y : Option TractionRequest) → OfTraction y e → y ≡ none
+    go none q = refl
+    go (some x) q = absurd (differs (Event.Traction x) e tt k q)

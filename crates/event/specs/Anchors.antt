@@ -1,4 +1,4 @@
--- Values worked out by hand from document 01, which the table of the kinds and the reader must give, a line a kind.
+-- Values worked out by hand from documents 01 and 02, which the table of the kinds and the reader must give, a line a kind.
 use Prim.Native.Nat.{ℕ}
 use mathlib.Core.Path.{_≡_}
 use mathlib.Core.Bool.{true, false}
@@ -12,6 +12,7 @@ use Rattle.event.specs.Kinds.{Role, off, load, report, other, skip, isOf
 use Rattle.event.specs.Kinds.{kindOf, rowOf, roleOf, carried}
 use Rattle.event.specs.Events.{eventOf}
 use Rattle.event.specs.View.{eventView}
+use Rattle.event.specs.declared.TractionRequest.{TractionRequest}
 use Rattle.event.specs.declared.Event.{Event}
 use Rattle.event.specs.declared.EventRead.{EventRead}
 use Rattle.event.specs.declared.Row.{Row}
@@ -33,6 +34,10 @@ nothing = (none, none, none, none, none)
 abbrev pub somewhere : Position
 somewhere = record { nidc = 0x0123; nidsp = 0x456789AB; offset = 0x00CDEF12; speed = 0x3456 }
 
+-- −20 in two's complement
+abbrev pub asked : TractionRequest
+asked = record { request = 0xEC; content = record { «m_ato_trabrrq» = 0xA1; «m_ato_locobrrq» = 0xB2; «q_ato_suptb» = 0xC3; «m_ato_rtbrq» = 0xD4E5 } }
+
 -- an event, its number, its row, its role, what it brings, and its bytes
 abbrev pub Vector : Type 0
 Vector = Event × ℕ × Row × Role × Brought × List ℕ
@@ -40,7 +45,7 @@ Vector = Event × ℕ × Row × Role × Brought × List ℕ
 -- "One byte kind, then: 1 power on; 2 configured; 3 power off; 4 fault; 5 reports (1: ..); 6 ETCS mode (1: ..); 7 lever (1: ..); 8 engage press;
 -- 9 position: NID_C (2, ..), NID_SP (4), offset (4; ..), speed (2); 10 train length (4, ..); 11 load, ..; 12 driver skip (4, NID_TP); 13 driver
 -- revokes skip (4)"; "power on gives CO; CO waits for configured, then U; fault gives FA until power off"; "Mode, lever, reports, position and train
--- length come from the latest accepted event .. that carries them"
+-- length come from the latest accepted event .. that carries them"; 02: "A kind 14 event carries one signed byte, .., then the five bytes of packet 61"
 abbrev pub vectors : List Vector
 vectors =
     (Event.PowerOn, 1, SwitchOn, other, nothing, 1 ∷ [])
@@ -63,7 +68,11 @@ vectors =
     ∷ (Event.Load, 11, ByState, load, nothing, 11 ∷ [])
     ∷ (Event.Skip 0x456789AB, 12, ByState, skip 0x456789AB true, nothing, 12 ∷ 0x45 ∷ 0x67 ∷ 0x89 ∷ 0xAB ∷ [])
     ∷ (Event.Revoke 7001, 13, ByState, skip 7001 false, nothing, 13 ∷ 0x00 ∷ 0x00 ∷ 0x1B ∷ 0x59 ∷ [])
+    ∷ (Event.Traction asked, 14, ByState, other, nothing, 14 ∷ 0xEC ∷ 0xA1 ∷ 0xB2 ∷ 0xC3 ∷ 0xD4 ∷ 0xE5 ∷ [])
     ∷ []
+
+abbrev pub eventIn : Vector → Event
+eventIn (e, n, w, r, b, l) = e
 
 -- the table and the reader give these
 abbrev pub said : Vector → ℕ × Row × Role × Brought × Judged Event
@@ -106,16 +115,19 @@ pub record Rows : Type 0 where
       ((0x00 ∷ 0x00 ∷ 0x00 ∷ []) ∷ (0x00 ∷ 0x00 ∷ 0x01 ∷ []) ∷ (0x01 ∷ 0x86 ∷ 0xA0 ∷ []) ∷ (0x01 ∷ 0x86 ∷ 0xA1 ∷ []) ∷ []) ≡ 2 ∷ 0 ∷ 0 ∷ 2 ∷ []
   -- "driver skip (4, NID_TP)", "driver revokes skip (4)": no range
   pub skip-range : map (λ k. numberFor (k ∷ 0xFF ∷ 0xFF ∷ 0xFF ∷ 0xFF ∷ [])) (12 ∷ 13 ∷ []) ≡ 0 ∷ 0 ∷ []
+  -- "the request from −100 to 100", "A request beyond 100 gets number 2": 0, 1, 100, 101, 127; −128, −101, −100, −1. The content is free
+  pub traction-range : map (λ n. numberFor (14 ∷ n ∷ 0xFF ∷ 0xFF ∷ 0xFF ∷ 0xFF ∷ 0xFF ∷ [])) (0x00 ∷ 0x01 ∷ 0x64 ∷ 0x65 ∷ 0x7F ∷ 0x80 ∷ 0x9B ∷ 0x9C ∷ 0xFF ∷ [])
+      ≡ 0 ∷ 0 ∷ 0 ∷ 2 ∷ 2 ∷ 2 ∷ 2 ∷ 0 ∷ 0 ∷ []
   -- "1 empty, unknown kind or wrong length": one more byte, one less
   pub empty : eventOf [] ≡ refuse 1
-  pub unknown : map (λ k. numberFor (k ∷ [])) (0 ∷ 14 ∷ 15 ∷ 255 ∷ []) ≡ 1 ∷ 1 ∷ 1 ∷ 1 ∷ []
-  pub longer : map (λ v. numberFor (bytesIn v ++ (0 ∷ []))) vectors ≡ 1 ∷ 1 ∷ 1 ∷ 1 ∷ 1 ∷ 1 ∷ 1 ∷ 1 ∷ 1 ∷ 1 ∷ 1 ∷ 1 ∷ 1 ∷ []
+  pub unknown : map (λ k. numberFor (k ∷ [])) (0 ∷ 15 ∷ 16 ∷ 255 ∷ []) ≡ 1 ∷ 1 ∷ 1 ∷ 1 ∷ []
+  pub longer : map (λ v. numberFor (bytesIn v ++ (0 ∷ []))) vectors ≡ 1 ∷ 1 ∷ 1 ∷ 1 ∷ 1 ∷ 1 ∷ 1 ∷ 1 ∷ 1 ∷ 1 ∷ 1 ∷ 1 ∷ 1 ∷ 1 ∷ []
   pub shorter : map numberFor (
       (5 ∷ []) ∷ (6 ∷ []) ∷ (7 ∷ []) ∷ (9 ∷ 0 ∷ 0 ∷ 0 ∷ 0 ∷ 0 ∷ 0 ∷ 0 ∷ 0 ∷ 0 ∷ 0 ∷ 0 ∷ []) ∷ (10 ∷ 0 ∷ 0 ∷ 1 ∷ [])
-      ∷ (12 ∷ 0 ∷ 0 ∷ 0 ∷ []) ∷ (13 ∷ 0 ∷ 0 ∷ 0 ∷ []) ∷ []
-      ) ≡ 1 ∷ 1 ∷ 1 ∷ 1 ∷ 1 ∷ 1 ∷ 1 ∷ []
+      ∷ (12 ∷ 0 ∷ 0 ∷ 0 ∷ []) ∷ (13 ∷ 0 ∷ 0 ∷ 0 ∷ []) ∷ (14 ∷ 0 ∷ 0 ∷ 0 ∷ 0 ∷ 0 ∷ []) ∷ []
+      ) ≡ 1 ∷ 1 ∷ 1 ∷ 1 ∷ 1 ∷ 1 ∷ 1 ∷ 1 ∷ []
   -- the length is looked at before the range
-  pub length-first : numberFor (7 ∷ 3 ∷ 0 ∷ []) ≡ 1
+  pub length-first : map numberFor ((7 ∷ 3 ∷ 0 ∷ []) ∷ (14 ∷ 0x65 ∷ 0 ∷ 0 ∷ 0 ∷ 0 ∷ []) ∷ []) ≡ 1 ∷ 1 ∷ []
   -- "For an answer that is an enum, a definition gives this paper's number and values for each of its cases."
   pub views : map eventView (EventRead.Event (Event.Lever 2) ∷ EventRead.Refused 2 ∷ []) ≡ accept (Event.Lever 2) ∷ refuse 2 ∷ []
 
@@ -135,6 +147,8 @@ pub record Roles : Type 0 where
   pub values : (n : ℕ) → map broughtBy (Event.Mode n ∷ Event.Lever n ∷ Event.Reports n ∷ Event.Length n ∷ [])
       ≡ (some n, none, none, none, none) ∷ (none, some n, none, none, none) ∷ (none, none, some n, none, none) ∷ (none, none, none, some n, none) ∷ []
   pub position : (x : Position) → broughtBy (Event.PositionReport x) ≡ (none, none, none, none, some x)
+  pub traction : map (λ v. carried (eventIn v) .traction) vectors
+      ≡ none ∷ none ∷ none ∷ none ∷ none ∷ none ∷ none ∷ none ∷ none ∷ none ∷ none ∷ none ∷ none ∷ some asked ∷ []
   pub newest : map {B = ℕ} (λ b. newer b 5) (none ∷ some 6 ∷ []) ≡ 5 ∷ 6 ∷ []
 
 pub record Anchors : Type 0 where

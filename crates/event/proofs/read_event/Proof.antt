@@ -2,6 +2,7 @@ use mathlib.Core.Path.{refl, _∙_, sym}
 use borrow.Author.Tests.{eq-eqb}
 use Rattle.layout.specs.Layout.{valuesAt}
 use Rattle.engine_value.specs.Engine.{freshPosition}
+use Rattle.event.specs.Kinds.{noRequest}
 use Rattle.event.specs.Events.{contentAmong, eventOfKind, eventOf}
 use Rattle.event.specs.declared.Event.{Event}
 use Rattle.event.proofs.ContentLaws.{of-number, of-kind, of-fields, unknown}
@@ -65,12 +66,16 @@ revoke : tie.Need-returns-14
 unfolding contentAmong valuesAt
 revoke c = c .event-rows12 .ensures ∙ rw (c .before .before .before .be32 .ensures) (of-fields _ (c .before .before .before .before .before .if1 .left) (Event.Revoke 0) (c .before .match .keys13) refl)
 
--- another number: 0, or one above those of all kinds
-zero : tie.Need-returns-15
-unfolding eventOfKind contentAmong
-zero c = sym (of-number _ (c .before .before .before .before .if1 .left) 0 (c .match .keys14))
+traction : tie.Need-returns-15
+unfolding contentAmong valuesAt
+traction c = c .read-traction .ensures ∙ of-kind _ (c .before .before .before .before .before .if1 .left) (Event.Traction noRequest) (c .before .match .keys14) refl
 
-above : tie.Need-returns-16
+-- another number: 0, or one above those of all kinds
+zero : tie.Need-returns-16
+unfolding eventOfKind contentAmong
+zero c = sym (of-number _ (c .before .before .before .before .if1 .left) 0 (c .match .keys15))
+
+above : tie.Need-returns-17
 above c = unknown _ (c .before .before .before .before .if1 .left) (c .match .rest .0)
 
 pub read-event-spec : {M : Type 1} → statement M
@@ -78,5 +83,5 @@ read-event-spec =
     tie.close
     (tie.spec returns (search needs) (search needs) (search needs) (search needs) (search needs) (search needs)
     (search needs) (search needs) (search needs) (search needs) (search needs) (search needs) (search needs)
-    (search needs) (search needs) (search needs) (search needs) power-on configured power-off fault reports mode
-    lever press position-report length load skip revoke zero above)
+    (search needs) (search needs) (search needs) (search needs) (search needs) power-on configured power-off fault reports mode
+    lever press position-report length load skip revoke traction zero above)
