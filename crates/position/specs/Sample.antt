@@ -3,7 +3,7 @@
 use Prim.Native.Nat.{ℕ}
 use mathlib.Core.List.{List, [], _∷_}
 use mathlib.Core.Bool.{Bool, true, false}
-use Rattle.engine_value.specs.Engine.{Route, noOperational, freshInputs, freshControl, progress}
+use Rattle.engine_value.specs.Engine.{Route, noOperational, freshInputs, freshControl, noTraction, progress}
 use Rattle.engine_value.specs.declared.Zone.{Zone}
 use Rattle.engine_value.specs.declared.Segment.{Segment}
 use Rattle.engine_value.specs.declared.Point.{Point}
@@ -102,4 +102,5 @@ engineAt x n reached = record {
   progress = progress n reached;
   inputs = freshInputs;
   control = freshControl;
+  traction = noTraction;
 }

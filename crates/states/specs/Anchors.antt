@@ -118,9 +118,9 @@ pub record Anchors : Type 0 where
   pub row-pressed : map (λ r. byRow (pressed RE) r false driving) rows ≡ still CO ∷ still AV ∷ still NP ∷ still FA ∷ still EG ∷ still EG ∷ []
   pub row-reached : map (λ r. byRow (still EG) r true driving) rows ≡ still CO ∷ still AV ∷ still NP ∷ still FA ∷ still AV ∷ still AV ∷ []
   pub row-FA : map (λ r. byRow (still FA) r false waiting) rows ≡ still CO ∷ still RE ∷ still NP ∷ still FA ∷ still FA ∷ still FA ∷ []
-  -- the kinds 1 to 13, in RE with a press pending and now in AD; a press; a point reached
+  -- the kinds 1 to 14, in RE with a press pending and now in AD; a press; a point reached
   pub by-kind : map (λ e. machineAfter (pressed RE) e false driving) kinds
-      ≡ still CO ∷ still AV ∷ still NP ∷ still FA ∷ replicate 9 (still EG)
+      ≡ still CO ∷ still AV ∷ still NP ∷ still FA ∷ replicate 10 (still EG)
   pub press-kind : machineAfter (still RE) Press false waiting ≡ pressed RE
   pub reached-kind : machineAfter (still EG) (PositionReport freshPosition) true driving ≡ still AV
   -- "AD request (000 §9.12): wanted in RE, EG, DE, and in AV with AD and N"
