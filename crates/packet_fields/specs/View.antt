@@ -34,6 +34,10 @@ fields accepted number kind size h v = record {
   counter = getD v 9 0;
   state = getD v 10 0;
   conditions = getD v 11 0;
+  «m_ato_trabrrq» = getD v 12 0;
+  «m_ato_locobrrq» = getD v 13 0;
+  «q_ato_suptb» = getD v 14 0;
+  «m_ato_rtbrq» = getD v 15 0;
 }
 
 -- "The packet reader returns the packet's fields"
@@ -47,6 +51,10 @@ packetFieldsView (Packet.JpReceived p) =
     read (Packet.JpReceived p) (p .header) (p .nidc ∷ 0 ∷ 0 ∷ 0 ∷ p .status ∷ 0 ∷ p .atots ∷ p .date ∷ p .seconds ∷ p .counter ∷ [])
 packetFieldsView (Packet.AtoStatus p) =
     read (Packet.AtoStatus p) (p .header) (0 ∷ 0 ∷ 0 ∷ 0 ∷ 0 ∷ 0 ∷ 0 ∷ 0 ∷ 0 ∷ 0 ∷ p .state ∷ p .conditions ∷ [])
+packetFieldsView (Packet.TractionBrake p) =
+    let r = p .requested in
+    read (Packet.TractionBrake p) (p .header)
+    (0 ∷ 0 ∷ 0 ∷ 0 ∷ 0 ∷ 0 ∷ 0 ∷ 0 ∷ 0 ∷ 0 ∷ 0 ∷ 0 ∷ r .«m_ato_trabrrq» ∷ r .«m_ato_locobrrq» ∷ r .«q_ato_suptb» ∷ r .«m_ato_rtbrq» ∷ [])
 
 -- "Every refusal returns the number only"
 abbrev pub refusedView : ℕ → PacketFields

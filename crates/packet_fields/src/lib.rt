@@ -27,6 +27,10 @@ pub struct PacketFields {
     pub counter: u8,
     pub state: u8,
     pub conditions: u16,
+    pub m_ato_trabrrq: u8,
+    pub m_ato_locobrrq: u8,
+    pub q_ato_suptb: u8,
+    pub m_ato_rtbrq: u16,
 }
 
 fn refused(n: u8) -> PacketFields
@@ -57,6 +61,10 @@ fn refused(n: u8) -> PacketFields
         counter: 0,
         state: 0,
         conditions: 0,
+        m_ato_trabrrq: 0,
+        m_ato_locobrrq: 0,
+        q_ato_suptb: 0,
+        m_ato_rtbrq: 0,
     }
 }
 
@@ -96,6 +104,15 @@ fn packet_fields(p: Packet) -> PacketFields
             fields.header = header;
             fields.state = x.state;
             fields.conditions = x.conditions;
+        }
+        Packet::TractionBrake(x) => {
+            let header = x.header;
+            fields.kind = packets::TRACTION_BRAKE;
+            fields.header = header;
+            fields.m_ato_trabrrq = x.requested.m_ato_trabrrq;
+            fields.m_ato_locobrrq = x.requested.m_ato_locobrrq;
+            fields.q_ato_suptb = x.requested.q_ato_suptb;
+            fields.m_ato_rtbrq = x.requested.m_ato_rtbrq;
         }
     }
     fields

@@ -11,8 +11,11 @@ returns-2 c = rw (c .before .before .before .before .refused .ensures, c .before
 returns-3 : tie.Need-returns-3
 returns-3 c = rw (c .before .before .before .before .refused .ensures, c .before .before .before .before .before .packet-size .ensures, c .before .before .p3 .given .1)
 
+returns-4 : tie.Need-returns-4
+returns-4 c = rw (c .before .before .before .before .refused .ensures, c .before .before .before .before .before .packet-size .ensures, c .before .before .p4 .given .1)
+
 pub packet-fields-spec : {M : Type 1} → statement M
 packet-fields-spec =
     tie.close
-    (tie.spec (search needs) (search needs) (search needs) (search needs) (search needs) returns returns-2
-    returns-3)
+    (tie.spec (search needs) (search needs) (search needs) (search needs) (search needs) (search needs) returns
+    returns-2 returns-3 returns-4)
