@@ -40,6 +40,10 @@ fields accepted number kind size h v = record {
   «m_ato_rtbrq» = getD v 15 0;
 }
 
+-- a packet that was read, its content still 0
+abbrev pub begunView : ℕ → ℕ → Header → PacketFields
+begunView kind size h = fields true 0 kind size h []
+
 -- "The packet reader returns the packet's fields"
 abbrev read : Packet → Header → List ℕ → PacketFields
 read p = fields true 0 (packetView p .kind .number) (sizeOf p)
