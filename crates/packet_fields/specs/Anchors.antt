@@ -5,7 +5,7 @@ use mathlib.Core.Bool.{true, false}
 use mathlib.Core.List.{List, [], _∷_, map}
 use Rattle.packets.specs.declared.Packet.{Packet}
 use Rattle.packets.specs.Packets.{packetOf}
-use Rattle.packets.specs.Anchors.{header, timingPointBytes, jpReceivedBytes, atoStatusBytes}
+use Rattle.packets.specs.Anchors.{header, timingPointBytes, jpReceivedBytes, atoStatusBytes, tractionBrakeBytes}
 use Rattle.packet_fields.specs.View.{packetFieldsView, fieldsView}
 use Rattle.packet_fields.specs.declared.PacketFields.{PacketFields}
 
@@ -16,30 +16,32 @@ fieldsOf s = fieldsView (packetOf s)
 abbrev pub valuesIn : PacketFields → List ℕ
 valuesIn f =
     f .nidc ∷ f .nidtp ∷ f .«q_eoj_reached» ∷ f .alignment ∷ f .status ∷ f .stopping
-    ∷ f .atots ∷ f .date ∷ f .seconds ∷ f .counter ∷ f .state ∷ f .conditions ∷ []
+    ∷ f .atots ∷ f .date ∷ f .seconds ∷ f .counter ∷ f .state ∷ f .conditions
+    ∷ f .«m_ato_trabrrq» ∷ f .«m_ato_locobrrq» ∷ f .«q_ato_suptb» ∷ f .«m_ato_rtbrq» ∷ []
 
 abbrev pub jpWith : ℕ → Packet
 jpWith status = Packet.JpReceived (record { header = header; nidc = 1; atots = 2; date = 3; seconds = 4; counter = 5; status = status })
 
 -- a packet of each kind
-abbrev pub three : List (List ℕ)
-three = timingPointBytes 0x0D 0x55 ∷ jpReceivedBytes ∷ atoStatusBytes ∷ []
+abbrev pub four : List (List ℕ)
+four = timingPointBytes 0x0D 0x55 ∷ jpReceivedBytes ∷ atoStatusBytes ∷ tractionBrakeBytes ∷ []
 
 -- empty; no such packet; alignment 3
 abbrev pub refused : List (List ℕ)
 refused = [] ∷ (0 ∷ []) ∷ timingPointBytes 0x06 0x00 ∷ []
 
 pub record Anchors : Type 0 where
-  pub accepted : map (λ s. fieldsOf s .accepted) three ≡ true ∷ true ∷ true ∷ []
-  pub no-number : map (λ s. fieldsOf s .number) three ≡ 0 ∷ 0 ∷ 0 ∷ []
-  pub kinds : map (λ s. fieldsOf s .kind) three ≡ 62 ∷ 65 ∷ 68 ∷ []
-  pub sizes : map (λ s. fieldsOf s .size) three ≡ 25 ∷ 29 ∷ 19 ∷ []
-  pub headers : map (λ s. fieldsOf s .header) three ≡ header ∷ header ∷ header ∷ []
+  pub accepted : map (λ s. fieldsOf s .accepted) four ≡ true ∷ true ∷ true ∷ true ∷ []
+  pub no-number : map (λ s. fieldsOf s .number) four ≡ 0 ∷ 0 ∷ 0 ∷ 0 ∷ []
+  pub kinds : map (λ s. fieldsOf s .kind) four ≡ 62 ∷ 65 ∷ 68 ∷ 61 ∷ []
+  pub sizes : map (λ s. fieldsOf s .size) four ≡ 25 ∷ 29 ∷ 19 ∷ 22 ∷ []
+  pub headers : map (λ s. fieldsOf s .header) four ≡ header ∷ header ∷ header ∷ header ∷ []
   -- in the order of `valuesIn`; a field that the kind does not have is 0
-  pub values : map (λ s. valuesIn (fieldsOf s)) three
-      ≡ (0x02A5 ∷ 0xF0E1D2C3 ∷ 1 ∷ 2 ∷ 1 ∷ 0x55 ∷ 0 ∷ 0 ∷ 0 ∷ 0 ∷ 0 ∷ 0 ∷ [])
-      ∷ (1024 ∷ 0 ∷ 0 ∷ 0 ∷ 0 ∷ 0 ∷ 0x3A5B ∷ 0x7C1D ∷ 0x89ABCDEF ∷ 0xFE ∷ 0 ∷ 0 ∷ [])
-      ∷ (0 ∷ 0 ∷ 0 ∷ 0 ∷ 0 ∷ 0 ∷ 0 ∷ 0 ∷ 0 ∷ 0 ∷ 5 ∷ 0x1A6 ∷ [])
+  pub values : map (λ s. valuesIn (fieldsOf s)) four
+      ≡ (0x02A5 ∷ 0xF0E1D2C3 ∷ 1 ∷ 2 ∷ 1 ∷ 0x55 ∷ 0 ∷ 0 ∷ 0 ∷ 0 ∷ 0 ∷ 0 ∷ 0 ∷ 0 ∷ 0 ∷ 0 ∷ [])
+      ∷ (1024 ∷ 0 ∷ 0 ∷ 0 ∷ 0 ∷ 0 ∷ 0x3A5B ∷ 0x7C1D ∷ 0x89ABCDEF ∷ 0xFE ∷ 0 ∷ 0 ∷ 0 ∷ 0 ∷ 0 ∷ 0 ∷ [])
+      ∷ (0 ∷ 0 ∷ 0 ∷ 0 ∷ 0 ∷ 0 ∷ 0 ∷ 0 ∷ 0 ∷ 0 ∷ 5 ∷ 0x1A6 ∷ 0 ∷ 0 ∷ 0 ∷ 0 ∷ [])
+      ∷ (0 ∷ 0 ∷ 0 ∷ 0 ∷ 0 ∷ 0 ∷ 0 ∷ 0 ∷ 0 ∷ 0 ∷ 0 ∷ 0 ∷ 0x2B ∷ 0x4C ∷ 0x6D ∷ 0x8E5F ∷ [])
       ∷ []
   -- the status of a 65, which the reader takes only as 0
   pub status : packetFieldsView (jpWith 6) .status ≡ 6
@@ -64,4 +66,8 @@ pub record Anchors : Type 0 where
     counter = 0;
     state = 0;
     conditions = 0;
+    «m_ato_trabrrq» = 0;
+    «m_ato_locobrrq» = 0;
+    «q_ato_suptb» = 0;
+    «m_ato_rtbrq» = 0;
   }

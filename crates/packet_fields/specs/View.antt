@@ -34,7 +34,15 @@ fields accepted number kind size h v = record {
   counter = getD v 9 0;
   state = getD v 10 0;
   conditions = getD v 11 0;
+  «m_ato_trabrrq» = getD v 12 0;
+  «m_ato_locobrrq» = getD v 13 0;
+  «q_ato_suptb» = getD v 14 0;
+  «m_ato_rtbrq» = getD v 15 0;
 }
+
+-- a packet that was read, its content still 0
+abbrev pub begunView : ℕ → ℕ → Header → PacketFields
+begunView kind size h = fields true 0 kind size h []
 
 -- "The packet reader returns the packet's fields"
 abbrev read : Packet → Header → List ℕ → PacketFields
@@ -47,6 +55,10 @@ packetFieldsView (Packet.JpReceived p) =
     read (Packet.JpReceived p) (p .header) (p .nidc ∷ 0 ∷ 0 ∷ 0 ∷ p .status ∷ 0 ∷ p .atots ∷ p .date ∷ p .seconds ∷ p .counter ∷ [])
 packetFieldsView (Packet.AtoStatus p) =
     read (Packet.AtoStatus p) (p .header) (0 ∷ 0 ∷ 0 ∷ 0 ∷ 0 ∷ 0 ∷ 0 ∷ 0 ∷ 0 ∷ 0 ∷ p .state ∷ p .conditions ∷ [])
+packetFieldsView (Packet.TractionBrake p) =
+    let r = p .requested in
+    read (Packet.TractionBrake p) (p .header)
+    (0 ∷ 0 ∷ 0 ∷ 0 ∷ 0 ∷ 0 ∷ 0 ∷ 0 ∷ 0 ∷ 0 ∷ 0 ∷ 0 ∷ r .«m_ato_trabrrq» ∷ r .«m_ato_locobrrq» ∷ r .«q_ato_suptb» ∷ r .«m_ato_rtbrq» ∷ [])
 
 -- "Every refusal returns the number only"
 abbrev pub refusedView : ℕ → PacketFields

@@ -1,10 +1,14 @@
 // What the packet reader answers, as one struct of numbers: an exported function can hand over no enum.
 use packet_reader::PacketRead;
+use packets::AtoStatus;
 use packets::Header;
+use packets::JpReceived;
 use packets::Packet;
+use packets::TimingPoint;
+use packets::TractionBrake;
 ghost use mathlib.Core.Path.{_≡_};
 ghost use Rattle.packets.specs.Packets.{packetOf};
-ghost use Rattle.packet_fields.specs.View.{refusedView, packetFieldsView, fieldsView};
+ghost use Rattle.packet_fields.specs.View.{refusedView, begunView, packetFieldsView, fieldsView};
 
 // A packet that was read: its number as `kind`, its bytes as `size`, and its values. Else the number of the row that refuses.
 // All else is 0.
@@ -27,6 +31,10 @@ pub struct PacketFields {
     pub counter: u8,
     pub state: u8,
     pub conditions: u16,
+    pub m_ato_trabrrq: u8,
+    pub m_ato_locobrrq: u8,
+    pub q_ato_suptb: u8,
+    pub m_ato_rtbrq: u16,
 }
 
 fn refused(n: u8) -> PacketFields
@@ -57,48 +65,84 @@ fn refused(n: u8) -> PacketFields
         counter: 0,
         state: 0,
         conditions: 0,
+        m_ato_trabrrq: 0,
+        m_ato_locobrrq: 0,
+        q_ato_suptb: 0,
+        m_ato_rtbrq: 0,
     }
+}
+
+// A packet that was read, its content still to come.
+fn begun(kind: u8, size: usize, header: Header) -> PacketFields
+    ensures { λ r. ⌜ r ≡ begunView kind size header ⌝ }
+{
+    let mut fields = refused(0);
+    fields.accepted = true;
+    fields.kind = kind;
+    fields.size = size;
+    fields.header = header;
+    fields
+}
+
+fn timing_point_fields(p: TimingPoint) -> PacketFields
+    ensures { λ r. ⌜ r ≡ packetFieldsView (Packet.TimingPoint p) ⌝ }
+{
+    let mut fields = begun(packets::TIMING_POINT, packets::TIMING_POINT_SIZE, p.header);
+    fields.nidc = p.nidc;
+    fields.nidtp = p.nidtp;
+    fields.q_eoj_reached = p.q_eoj_reached;
+    fields.alignment = p.alignment;
+    fields.status = p.status;
+    fields.stopping = p.stopping;
+    fields
+}
+
+fn jp_received_fields(p: JpReceived) -> PacketFields
+    ensures { λ r. ⌜ r ≡ packetFieldsView (Packet.JpReceived p) ⌝ }
+{
+    let mut fields = begun(packets::JP_RECEIVED, packets::JP_RECEIVED_SIZE, p.header);
+    fields.nidc = p.nidc;
+    fields.atots = p.atots;
+    fields.date = p.date;
+    fields.seconds = p.seconds;
+    fields.counter = p.counter;
+    fields.status = p.status;
+    fields
+}
+
+fn ato_status_fields(p: AtoStatus) -> PacketFields
+    ensures { λ r. ⌜ r ≡ packetFieldsView (Packet.AtoStatus p) ⌝ }
+{
+    let mut fields = begun(packets::ATO_STATUS, packets::ATO_STATUS_SIZE, p.header);
+    fields.state = p.state;
+    fields.conditions = p.conditions;
+    fields
+}
+
+fn traction_brake_fields(p: TractionBrake) -> PacketFields
+    ensures { λ r. ⌜ r ≡ packetFieldsView (Packet.TractionBrake p) ⌝ }
+{
+    let mut fields = begun(
+        packets::TRACTION_BRAKE,
+        packets::TRACTION_BRAKE_SIZE,
+        p.header,
+    );
+    fields.m_ato_trabrrq = p.requested.m_ato_trabrrq;
+    fields.m_ato_locobrrq = p.requested.m_ato_locobrrq;
+    fields.q_ato_suptb = p.requested.q_ato_suptb;
+    fields.m_ato_rtbrq = p.requested.m_ato_rtbrq;
+    fields
 }
 
 fn packet_fields(p: Packet) -> PacketFields
     ensures { λ r. ⌜ r ≡ packetFieldsView p ⌝ }
 {
-    let size = packets::packet_size(p);
-    let mut fields = refused(0);
-    fields.accepted = true;
-    fields.size = size;
     match p {
-        Packet::TimingPoint(x) => {
-            let header = x.header;
-            fields.kind = packets::TIMING_POINT;
-            fields.header = header;
-            fields.nidc = x.nidc;
-            fields.nidtp = x.nidtp;
-            fields.q_eoj_reached = x.q_eoj_reached;
-            fields.alignment = x.alignment;
-            fields.status = x.status;
-            fields.stopping = x.stopping;
-        }
-        Packet::JpReceived(x) => {
-            let header = x.header;
-            fields.kind = packets::JP_RECEIVED;
-            fields.header = header;
-            fields.nidc = x.nidc;
-            fields.atots = x.atots;
-            fields.date = x.date;
-            fields.seconds = x.seconds;
-            fields.counter = x.counter;
-            fields.status = x.status;
-        }
-        Packet::AtoStatus(x) => {
-            let header = x.header;
-            fields.kind = packets::ATO_STATUS;
-            fields.header = header;
-            fields.state = x.state;
-            fields.conditions = x.conditions;
-        }
+        Packet::TimingPoint(x) => timing_point_fields(x),
+        Packet::JpReceived(x) => jp_received_fields(x),
+        Packet::AtoStatus(x) => ato_status_fields(x),
+        Packet::TractionBrake(x) => traction_brake_fields(x),
     }
-    fields
 }
 
 // One packet, exactly.

@@ -3,10 +3,12 @@ use packets::AtoStatus;
 use packets::Header;
 use packets::JpReceived;
 use packets::Packet;
+use packets::Requested;
 use packets::TimingPoint;
+use packets::TractionBrake;
 ghost use mathlib.Core.Path.{_≡_};
 ghost use Rattle.layout.specs.Layout.{valuesAt};
-ghost use Rattle.packets.specs.Layouts.{headerLayout, headerOf, kind62, kind65, kind68};
+ghost use Rattle.packets.specs.Layouts.{headerLayout, headerOf, kind62, kind65, kind68, kind61};
 ghost use Rattle.packets.specs.Packets.{packetAt, judgedPacket, packetOf};
 ghost use Rattle.packet_reader.specs.View.{readView};
 
@@ -69,6 +71,20 @@ fn get_ato_status(s: &[u8]) -> AtoStatus
     }
 }
 
+fn get_traction_brake(s: &[u8]) -> TractionBrake
+    ensures { λ r. ⌜ Packet.TractionBrake r ≡ packetAt kind61 (now (s .entry)) ⌝ }
+{
+    TractionBrake {
+        header: get_header(s),
+        requested: Requested {
+            m_ato_trabrrq: wire::be8(s, 17),
+            m_ato_locobrrq: wire::be8(s, 18),
+            q_ato_suptb: wire::be8(s, 19),
+            m_ato_rtbrq: wire::be16(s, 20),
+        },
+    }
+}
+
 // A packet whose values were read from so many bytes, judged by its length and its ranges.
 fn judge(n: usize, p: Packet) -> PacketRead
     ensures { λ r. ⌜ readView r ≡ judgedPacket n p ⌝ }
@@ -96,6 +112,7 @@ pub fn read_packet(s: &[u8]) -> PacketRead
         packets::TIMING_POINT => judge(n, Packet::TimingPoint(get_timing_point(s))),
         packets::JP_RECEIVED => judge(n, Packet::JpReceived(get_jp_received(s))),
         packets::ATO_STATUS => judge(n, Packet::AtoStatus(get_ato_status(s))),
+        packets::TRACTION_BRAKE => judge(n, Packet::TractionBrake(get_traction_brake(s))),
         _ => PacketRead::Refused(18),
     }
 }

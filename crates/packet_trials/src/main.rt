@@ -7,7 +7,9 @@ use packets::AtoStatus;
 use packets::Header;
 use packets::JpReceived;
 use packets::Packet;
+use packets::Requested;
 use packets::TimingPoint;
+use packets::TractionBrake;
 
 // What is tried: to read the packet's bytes; to write the packet at the front of the memory, or from the position on.
 const READ: u8 = 0;
@@ -57,6 +59,17 @@ fn print_header(number: u8, h: Header) {
     );
 }
 
+fn print_requested(r: Requested) {
+    print_values(
+        &[
+            r.m_ato_trabrrq as u64,
+            r.m_ato_locobrrq as u64,
+            r.q_ato_suptb as u64,
+            r.m_ato_rtbrq as u64,
+        ],
+    );
+}
+
 fn print_packet(p: Packet) {
     match p {
         Packet::TimingPoint(x) => {
@@ -89,10 +102,23 @@ fn print_packet(p: Packet) {
             print_header(packets::ATO_STATUS, x.header);
             print_values(&[x.state as u64, x.conditions as u64]);
         }
+        Packet::TractionBrake(x) => {
+            print_header(packets::TRACTION_BRAKE, x.header);
+            print_requested(x.requested);
+        }
     }
 }
 
 // ---- trials
+
+fn requested_of(s: &[u8]) -> Requested {
+    Requested {
+        m_ato_trabrrq: wire::be8(s, 17),
+        m_ato_locobrrq: wire::be8(s, 18),
+        q_ato_suptb: wire::be8(s, 19),
+        m_ato_rtbrq: wire::be16(s, 20),
+    }
+}
 
 // The packet to write: its number, header and content, each value in bytes of its own, so that all may be out of range.
 fn packet_of(s: &[u8]) -> Packet {
@@ -121,6 +147,10 @@ fn packet_of(s: &[u8]) -> Packet {
             seconds: wire::be32(s, 23),
             counter: wire::be8(s, 27),
             status: wire::be8(s, 28),
+        }),
+        packets::TRACTION_BRAKE => Packet::TractionBrake(TractionBrake {
+            header: header,
+            requested: requested_of(s),
         }),
         _ => Packet::AtoStatus(AtoStatus {
             header: header,

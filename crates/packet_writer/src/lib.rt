@@ -4,6 +4,7 @@ use packets::Header;
 use packets::JpReceived;
 use packets::Packet;
 use packets::TimingPoint;
+use packets::TractionBrake;
 ghost use mathlib.Core.Path.{_≡_};
 ghost use mathlib.Core.List.{_∷_, _++_};
 ghost use Prim.Native.Nat.{min, _+_, _*_, _%_};
@@ -79,6 +80,16 @@ fn put_ato_status(p: AtoStatus, out: &mut [u8])
     wire::put16(out, 17, status_word(p));
 }
 
+fn put_traction_brake(p: TractionBrake, out: &mut [u8])
+    ensures { λ _. ⌜ now (out .exit) ≡ sets (now (out .entry)) 0 (packetBytes (Packet.TractionBrake p)) ⌝ }
+{
+    put_header(packets::TRACTION_BRAKE, p.header, out);
+    wire::put8(out, 17, p.requested.m_ato_trabrrq);
+    wire::put8(out, 18, p.requested.m_ato_locobrrq);
+    wire::put8(out, 19, p.requested.q_ato_suptb);
+    wire::put16(out, 20, p.requested.m_ato_rtbrq);
+}
+
 fn put_front(p: Packet, out: &mut [u8])
     ensures { λ _. ⌜ now (out .exit) ≡ sets (now (out .entry)) 0 (packetBytes p) ⌝ }
 {
@@ -86,6 +97,7 @@ fn put_front(p: Packet, out: &mut [u8])
         Packet::TimingPoint(x) => put_timing_point(x, out),
         Packet::JpReceived(x) => put_jp_received(x, out),
         Packet::AtoStatus(x) => put_ato_status(x, out),
+        Packet::TractionBrake(x) => put_traction_brake(x, out),
     }
 }
 

@@ -3,16 +3,19 @@ use Rattle.packet_fields.proofs.packet_fields.Statement.{statement}
 use Rattle.packet_fields.proofs.packet_fields.Tie as tie
 
 returns : tie.Need-returns
-returns c = rw (c .before .before .before .before .refused .ensures, c .before .before .before .before .before .packet-size .ensures, c .before .before .p .given .1)
+returns c = rw (c .before .before .p .given .1) (c .timing-point-fields .ensures)
 
 returns-2 : tie.Need-returns-2
-returns-2 c = rw (c .before .before .before .before .refused .ensures, c .before .before .before .before .before .packet-size .ensures, c .before .before .p2 .given .1)
+returns-2 c = rw (c .before .before .p2 .given .1) (c .jp-received-fields .ensures)
 
 returns-3 : tie.Need-returns-3
-returns-3 c = rw (c .before .before .before .before .refused .ensures, c .before .before .before .before .before .packet-size .ensures, c .before .before .p3 .given .1)
+returns-3 c = rw (c .before .before .p3 .given .1) (c .ato-status-fields .ensures)
+
+returns-4 : tie.Need-returns-4
+returns-4 c = rw (c .before .before .p4 .given .1) (c .traction-brake-fields .ensures)
 
 pub packet-fields-spec : {M : Type 1} → statement M
 packet-fields-spec =
     tie.close
-    (tie.spec (search needs) (search needs) (search needs) (search needs) (search needs) returns returns-2
-    returns-3)
+    (tie.spec (search needs) (search needs) (search needs) (search needs) (search needs) (search needs)
+    (search needs) (search needs) returns returns-2 returns-3 returns-4)

@@ -28,12 +28,16 @@ returns-4 c = rw (ne-eqb _ _ (c .before .before .before .before .if1 .left), c .
 
 returns-5 : tie.Need-returns-5
 unfolding packetOf
-returns-5 c =
+returns-5 c = rw (ne-eqb _ _ (c .before .before .before .before .if1 .left), c .before .before .match .keys4, ← c .before .get-traction-brake .ensures) (c .judge4 .ensures)
+
+returns-6 : tie.Need-returns-6
+unfolding packetOf
+returns-6 c =
     let r = c .match .rest in
-    rw (ne-eqb _ _ (c .before .before .if1 .left), ne-eqb _ _ (r .0 .0 .1), ne-eqb _ _ (r .0 .1), ne-eqb _ _ (r .1))
+    rw (ne-eqb _ _ (c .before .before .if1 .left), ne-eqb _ _ (r .0 .0 .0 .1), ne-eqb _ _ (r .0 .0 .1), ne-eqb _ _ (r .0 .1), ne-eqb _ _ (r .1))
 
 pub read-packet-spec : {M : Type 1} → statement M
 read-packet-spec =
     tie.close
     (tie.spec returns (search needs) (search needs) (search needs) (search needs) (search needs) (search needs)
-    (search needs) returns-2 returns-3 returns-4 returns-5)
+    (search needs) (search needs) (search needs) returns-2 returns-3 returns-4 returns-5 returns-6)
