@@ -22,12 +22,12 @@ use Rattle.states.specs.ControlGroup.{controlAfter}
 use Rattle.layout.specs.Layout.{bytes, valuesAt}
 use Rattle.packets.specs.Packets.{valueBytes}
 use Rattle.engine_value.specs.declared.Engine.{Engine}
-use Rattle.call_values.specs.Packets.{timingPoint, jpReceived, atoStatus, statusDue, packetsOf}
+use Rattle.call_values.specs.Packets.{timingPoint, jpReceived, atoStatus, statusDue, tractionBrake, packetsOf}
 use Rattle.call_values.specs.Rows.{offsetBeyond}
 use Rattle.call.specs.Effect.{positionEffect, loadEffect, skipEffect, effect}
 use Rattle.call_values.specs.Call.{Call}
 use Rattle.call.specs.Call.{Outcome, conditionsIn, judge, judged, outcomeOf, stepOf}
 
 unfoldable pub computed : Engine → Call → Outcome
-unfolding number bytesOf field bitMap optional many counted listed valuesAt eventRows eventWith contentAmong eventOfKind eventOf bookPoint zoneRecord segmentRecord records bookOf nameRecord pointRecord headRecord journeyRecord placedAt startAt segmentOf pointOf checked journeyOf routeOf loadOf front beyond atStop targetFrom target looked reported passings stopFrom firstAhead conditions powerRows stateRow machineAfter controlAfter bytes valueBytes timingPoint jpReceived atoStatus statusDue packetsOf offsetBeyond positionEffect loadEffect skipEffect effect conditionsIn judge judged outcomeOf stepOf
+unfolding number bytesOf field bitMap optional many counted listed valuesAt eventRows eventWith contentAmong eventOfKind eventOf bookPoint zoneRecord segmentRecord records bookOf nameRecord pointRecord headRecord journeyRecord placedAt startAt segmentOf pointOf checked journeyOf routeOf loadOf front beyond atStop targetFrom target looked reported passings stopFrom firstAhead conditions powerRows stateRow machineAfter controlAfter bytes valueBytes timingPoint jpReceived atoStatus statusDue tractionBrake packetsOf offsetBeyond positionEffect loadEffect skipEffect effect conditionsIn judge judged outcomeOf stepOf
 computed e c = stepOf e c

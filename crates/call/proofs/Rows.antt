@@ -21,7 +21,9 @@ use Rattle.position.specs.Position.{pointCount}
 use Rattle.position.specs.Standing.{standing, standingCode}
 use Rattle.state_codes.specs.Codes.{stateAt}
 use Rattle.state_codes.specs.Numbers.{powerRows, stateRow}
-use Rattle.call.specs.Effect.{Effect, powerOff, effect, stored}
+use Rattle.states.specs.States.{machineAfter}
+use Rattle.states.specs.ControlGroup.{controlAfter}
+use Rattle.call.specs.Effect.{Effect, powerOff, effect}
 use Rattle.call_values.specs.Call.{Call}
 use Rattle.call.specs.Call.{Step, stepBy, judge, judged, outcomeOf, stepOf}
 use Rattle.call.specs.Shown.{standingIn, standingsIn}
@@ -41,7 +43,8 @@ module _ (e : Engine) (k : ℕ) where
   standings-more l s h t d = rw (add-one k, take-suc-set l k s h, t, d)
 
 -- "Power off returns to fresh."
-pub off-fresh : (e : Engine) → stored e powerOff ≡ fresh
+pub off-fresh : (e : Engine) → stepBy e Event.PowerOff powerOff .engine ≡ fresh
+unfolding controlAfter machineAfter
 off-fresh e = refl
 
 -- ---- a call by the rows

@@ -1,6 +1,6 @@
 -- No event writes more than 1,669 bytes, whatever engine it finds: with so much memory 16 does not come.
 use Prim.Native.Nat.{ℕ, zero, suc, _+_, _-_, _*_, _≤_}
-use mathlib.Core.Path.{_≡_, refl, ap, subst, _∙_}
+use mathlib.Core.Path.{_≡_, refl, sym, ap, subst, _∙_}
 use mathlib.Core.List.{List, [], _∷_, _++_, map}
 use mathlib.Core.Bool.{Bool, true, false, _&&_, _||_}
 use mathlib.Core.Option.{Option, none, some}
@@ -14,9 +14,13 @@ use Rattle.engine_value.specs.Engine.{Route, routeIn, progress}
 use Rattle.engine_value.specs.declared.Position.{Position}
 use Rattle.engine_value.specs.declared.Progress.{Progress}
 use Rattle.engine_value.specs.declared.Engine.{Engine}
+use Rattle.event.specs.declared.TractionRequest.{TractionRequest}
 use Rattle.event.specs.declared.Event.{Event}
+use Rattle.event.proofs.Known.{OfTraction, traction-of}
 use Rattle.event.specs.Kinds.{Role, off, load, report, other, skip, Carried, roleOf, carried}
 use Rattle.packets.specs.Packets.{packetBytes, joined}
+use Rattle.packets.specs.declared.Requested.{Requested}
+use Rattle.packets.specs.declared.Packet.{Packet}
 use Rattle.packets.proofs.PacketLaws.{length-packetBytes, length-joined, length-one}
 use Rattle.journey.specs.declared.Head.{Head}
 use Rattle.route.specs.Route.{LoadValue, loadOf}
@@ -29,12 +33,16 @@ use Rattle.position.specs.Standing.{standing, behind}
 use Rattle.timing.proofs.Steps.{reported-stays, reported-departs, reported-looks}
 use Rattle.position.specs.declared.Found.{Found}
 use Rattle.position.specs.declared.Found.the-variants.{At, Nothing}
-use Rattle.call_values.specs.Packets.{PointChange, timingPoint, jpReceived, atoStatus, received, statusDue, packetsOf}
-use Rattle.call.specs.Packets.{changeIn}
+use Rattle.call_values.specs.Packets.{PointChange, timingPoint, jpReceived, atoStatus, received, tractionBrake, tractionBrakes, statusDue, packetsOf}
+use Rattle.state_codes.specs.Codes.{stateAt}
+use Rattle.traction.specs.Requests.{writtenContent}
+use Rattle.traction.specs.View.{rememberedIn}
+use Rattle.traction.proofs.Laws.{not-written}
+use Rattle.call.specs.Packets.{changeIn, ownPackets}
 use Rattle.look_up.specs.LookUp.{positionAfter, lookUp}
 use Rattle.look_up.specs.declared.LookedUp.{LookedUp}
 use Rattle.call_values.specs.Rows.{offsetBeyond, sameBool}
-use Rattle.call.specs.Effect.{Effect, effectAs, effect, trainWith, positionEffect, reportedIn, loadEffect, skipAt, skipEffect, skippedIn, loadedIn}
+use Rattle.call.specs.Effect.{Effect, effectAs, effect, trainWith, valuesOnly, positionEffect, reportedIn, loadEffect, skipAt, skipEffect, skippedIn, loadedIn}
 use Rattle.call.specs.Call.{statusIn, stepBy}
 
 -- ---- the points that a report changes
@@ -117,6 +125,13 @@ small e journey book event = go (roleOf event) refl
     go other q = omega arith
     go (skip t on) q = small-skip e c on (lookUp e event .stop .skipped) (lookUp e event .stop .at)
 
+-- a traction request changes no point and loads nothing
+request-small : (e : Engine) (journey book : List ℕ) (x : TractionRequest) (f : Effect) → effect e journey book (Event.Traction x) ≡ accept f → loadBytes (f .loaded) + 25 * length (f .changes) ≡ 0
+unfolding effect
+request-small e journey book x f q =
+    let z : valuesOnly e (carried (Event.Traction x)) ≡ f = cc in
+    ap (λ (f : Effect). loadBytes (f .loaded) + 25 * length (f .changes)) (sym z)
+
 -- ---- the packets
 
 module _ (j : Route) (x : Position) where
@@ -135,6 +150,30 @@ module _ (j : Route) (x : Position) where
   size-68 true s n = omega (arith, length-one (atoStatus j x s n) 19 refl)
   size-68 false s n = omega arith
 
+  size-61 : (o : Option Requested) → length (joined (tractionBrakes j x o)) ≤ 22
+  unfolding tractionBrake
+  size-61 none = omega arith
+  size-61 (some r) = omega (arith, length-one (tractionBrake j x r) 22 refl)
+
+-- only a request writes a packet of its own
+own-none : (e : Engine) (event : Event) (m : Engine) → carried event .traction ≡ none → length (joined (ownPackets e event m)) ≡ 0
+own-none e event m q =
+    ap (λ (o : Option Requested). length (joined (tractionBrakes (routeIn m) (m .train .position) o)))
+    (not-written (stateAt (e .control .state)) event (rememberedIn (e .traction)) (rememberedIn (m .traction)) q)
+
+-- all but packet 68
+with-own : (e : Engine) (journey book : List ℕ) (event : Event) (f : Effect) (m : Engine) → effect e journey book event ≡ accept f
+    → loadBytes (f .loaded) + 25 * length (f .changes) + length (joined (ownPackets e event m)) ≤ 1650
+with-own e journey book event f m q = go (carried event .traction) refl (traction-of event)
+  where
+    go : (o : Option TractionRequest) → carried event .traction ≡ o → OfTraction o event → loadBytes (f .loaded) + 25 * length (f .changes) + length (joined (ownPackets e event m)) ≤ 1650
+    go none p k =
+        let h : loadBytes (f .loaded) + 25 * length (f .changes) ≤ 1650 = subst Small q (small e journey book event) in
+        omega (arith, h, own-none e event m p)
+    go (some x) p k =
+        let z = request-small e journey book x f (subst (λ (v : Event). effect e journey book v ≡ accept f) k q) in
+        omega (arith, z, size-61 (routeIn m) (m .train .position) (writtenContent (stateAt (e .control .state)) event (rememberedIn (e .traction)) (rememberedIn (m .traction))))
+
 -- "16 shorter than this event's packets"
 pub bytes-most : (e : Engine) (journey book : List ℕ) (event : Event) (f : Effect) → effect e journey book event ≡ accept f → length (joined (stepBy e event f .packets)) ≤ 1669
 unfolding packetsOf
@@ -142,13 +181,16 @@ bytes-most e journey book event f q =
     let m = stepBy e event f .engine in
     let j = routeIn m in
     let x = m .train .position in
-    let h : loadBytes (f .loaded) + 25 * length (f .changes) ≤ 1650 = subst Small q (small e journey book event) in
+    let h = with-own e journey book event f m q in
+    let own = ownPackets e event m in
     let due = statusDue (statusIn e) (statusIn m) in
     let changes = map (changeIn (m .load)) (f .changes) in
     let n : length changes ≡ length (f .changes) = length-map (f .changes) (changeIn (m .load)) in
-    let a = length-joined (received j x (f .loaded)) (map (timingPoint j x) changes ++ when due (atoStatus j x (statusIn m .state) (statusIn m .conditions))) in
-    let b = length-joined (map (timingPoint j x) changes) (when due (atoStatus j x (statusIn m .state) (statusIn m .conditions))) in
-    omega (arith, h, a, b, size-65 j x (f .loaded), size-62s j x changes, n, size-68 j x due (statusIn m .state) (statusIn m .conditions))
+    let last = when due (atoStatus j x (statusIn m .state) (statusIn m .conditions)) in
+    let a = length-joined (received j x (f .loaded)) (map (timingPoint j x) changes ++ (own ++ last)) in
+    let b = length-joined (map (timingPoint j x) changes) (own ++ last) in
+    let d = length-joined own last in
+    omega (arith, h, a, b, d, size-65 j x (f .loaded), size-62s j x changes, n, size-68 j x due (statusIn m .state) (statusIn m .conditions))
 
 -- with so much memory that row does not refuse
 pub row-16 : (e : Engine) (journey book memory : List ℕ) (event : Event) (f : Effect) → effect e journey book event ≡ accept f → 1669 ≤ length memory

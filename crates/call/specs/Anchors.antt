@@ -1,4 +1,4 @@
--- Values from document 01 that the definitions must give. What Trials and Further show from the bytes of calls is not shown again.
+-- Values from documents 01 and 02 that the definitions must give. What Trials and Further show from the bytes of calls is not shown again.
 use Prim.Native.Nat.{ℕ}
 use mathlib.Core.Path.{_≡_}
 use mathlib.Core.List.{List, [], _∷_, map}
@@ -8,7 +8,7 @@ use lib.ListN.{replicate}
 use Rattle.wire.specs.Numbers.{bytesOf}
 use Rattle.wire.specs.Judged.{Judged, _>>=_}
 use Rattle.wire.specs.Judged.Judged.{refuse, accept}
-use Rattle.engine_value.specs.Engine.{Route, noRoute, blankSegment, progress, fresh, noSkips}
+use Rattle.engine_value.specs.Engine.{Route, noRoute, blankSegment, progress, fresh, noSkips, noTraction}
 use Rattle.engine_value.specs.declared.Segment.{Segment}
 use Rattle.engine_value.specs.declared.Point.{Point}
 use Rattle.engine_value.specs.declared.Position.{Position}
@@ -16,10 +16,12 @@ use Rattle.engine_value.specs.declared.Progress.{Progress}
 use Rattle.engine_value.specs.declared.Train.{Train}
 use Rattle.engine_value.specs.declared.Inputs.{Inputs}
 use Rattle.engine_value.specs.declared.Control.{Control}
+use Rattle.engine_value.specs.declared.Traction.{Traction}
 use Rattle.engine_value.specs.declared.Engine.{Engine}
 use Rattle.event.specs.Kinds.{carried}
+use Rattle.event.specs.declared.TractionRequest.{TractionRequest}
 use Rattle.event.specs.declared.Event.{Event}
-use Rattle.event.specs.declared.Event.the-variants.{PowerOn, Configured, PowerOff, Fault, Reports, Mode, Lever, Press, PositionReport, Length, Load, Skip, Revoke}
+use Rattle.event.specs.declared.Event.the-variants.{PowerOn, Configured, PowerOff, Fault, Reports, Mode, Lever, Press, PositionReport, Length, Load, Skip, Revoke, Traction as Request}
 use Rattle.packets.specs.declared.Header.{Header}
 use Rattle.packets.specs.declared.Packet.{Packet}
 use Rattle.journey.specs.declared.Head.{Head}
@@ -71,9 +73,13 @@ control state press request = record { state = state; press = press; request = r
 abbrev pub skips : List Bool
 skips = false ∷ false ∷ false ∷ true ∷ false ∷ []
 
+-- with what is remembered of the traction requests
+abbrev pub engineWith : Traction → Route → List Bool → Train → Progress → Inputs → Control → Engine
+engineWith t j driver x p i c =
+    record { points = j .points; skips = driver; segments = j .segments; load = j .load; train = x; progress = p; inputs = i; control = c; traction = t }
+
 abbrev pub engine : Route → List Bool → Train → Progress → Inputs → Control → Engine
-engine j driver x p i c =
-    record { points = j .points; skips = driver; segments = j .segments; load = j .load; train = x; progress = p; inputs = i; control = c }
+engine = engineWith noTraction
 
 -- in state s; mode AD, lever at brake, reports 20
 abbrev pub inState : ℕ → Progress → Engine
@@ -96,6 +102,22 @@ engaged = engine journey skips (train 29999 7 400) (progress 2 false) (inputs 1 
 -- in RE with a press pending, standing at 7001, which is reached
 abbrev pub waiting : Engine
 waiting = engine journey skips (train 10000 0 400) (progress 0 true) (inputs 0 0 31) (control 4 true true)
+
+-- ---- traction requests
+
+-- a byte of request, and Q_ATO_SupTB
+abbrev pub request : ℕ → ℕ → TractionRequest
+request byte suptb = record { request = byte; content = record { «m_ato_trabrrq» = 1; «m_ato_locobrrq» = 2; «q_ato_suptb» = suptb; «m_ato_rtbrq» = 4 } }
+
+abbrev pub remembering : ℕ → ℕ → Traction
+remembering range suptb = record { remembered = true; range = range; suptb = suptb; spare = 0 }
+
+-- `engaged` in state s with the lever at l, and `waiting`, with what is remembered
+abbrev pub engagedIn : ℕ → ℕ → Traction → Engine
+engagedIn s l t = engineWith t journey skips (train 29999 7 400) (progress 2 false) (inputs 1 l 31) (control s false true)
+
+abbrev pub waitingWith : Traction → Engine
+waitingWith t = engineWith t journey skips (train 10000 0 400) (progress 0 true) (inputs 0 0 31) (control 4 true true)
 
 -- ---- another journey, by the train's rear: with a train of 4 m at 150 m, d of its points is 136 m, 126 m, 151 cm, 150 cm, -354 m
 
@@ -128,6 +150,9 @@ packet65 h = Packet.JpReceived (record { header = h; nidc = 17; atots = 5; date 
 abbrev pub packet68 : Header → ℕ → ℕ → Packet
 packet68 h s n = Packet.AtoStatus (record { header = h; state = s; conditions = n })
 
+abbrev pub packet61 : Header → ℕ → Packet
+packet61 h suptb = Packet.TractionBrake (record { header = h; requested = request 0 suptb .content })
+
 -- ---- what is asked
 
 -- the number of the row that refuses, 0 where none does
@@ -149,6 +174,13 @@ call event n = record { event = event; journey = 255 ∷ []; book = 255 ∷ []; 
 -- the numbers that calls with those bytes and no memory get in that state
 abbrev pub refusals : ℕ → List (List ℕ) → List ℕ
 refusals s events = map (λ (l : List ℕ). refusal (judged (inState s (progress 1 false)) (call l 0))) events
+
+-- what is remembered after an event, and its packets
+abbrev pub remembers : Engine → Event → Judged Traction
+remembers e v = does e v >>= (λ (f : Effect). accept (stepBy e v f .engine .traction))
+
+abbrev pub writes : Engine → Event → Judged (List Packet)
+writes e v = does e v >>= (λ (f : Effect). accept (stepBy e v f .packets))
 
 -- a report one cm beyond the segment's end; a driver skip
 abbrev pub beyondEnd : List ℕ
@@ -179,17 +211,17 @@ pub record Anchors : Type 0 where
   pub brought : map (does held) (Mode 0 ∷ Lever 1 ∷ Reports 31 ∷ Length 9 ∷ [])
       ≡ accept (values (train 15000 7 400) (inputs 0 2 20)) ∷ accept (values (train 15000 7 400) (inputs 1 1 20))
       ∷ accept (values (train 15000 7 400) (inputs 1 2 31)) ∷ accept (values (train 15000 7 9) (inputs 1 2 20)) ∷ []
-  pub nothing-brought : map (does held) (PowerOn ∷ Configured ∷ Fault ∷ Press ∷ []) ≡ replicate 4 (accept (values (train 15000 7 400) (inputs 1 2 20)))
+  pub nothing-brought : map (does held) (PowerOn ∷ Configured ∷ Fault ∷ Press ∷ Request (request 5 6) ∷ []) ≡ replicate 5 (accept (values (train 15000 7 400) (inputs 1 2 20)))
   -- no event but a position report, a load and power off moves the points; no event but the rows of the states uses the press up
   pub points-kept : map (λ (v : Event). does waiting v >>= (λ (f : Effect). accept (f .progress)))
-      (Fault ∷ Reports 0 ∷ Mode 1 ∷ Lever 1 ∷ Press ∷ Length 9 ∷ Skip 7005 ∷ Revoke 7004 ∷ []) ≡ replicate 8 (accept (progress 0 true))
+      (Fault ∷ Reports 0 ∷ Mode 1 ∷ Lever 1 ∷ Press ∷ Length 9 ∷ Skip 7005 ∷ Revoke 7004 ∷ Request (request 5 6) ∷ []) ≡ replicate 9 (accept (progress 0 true))
   pub press-kept : map (λ (v : Event). does waiting v >>= (λ (f : Effect). accept (f .control)))
       (Mode 1 ∷ PositionReport (at 5 6) ∷ Length 9 ∷ Skip 7005 ∷ Revoke 7004 ∷ []) ≡ replicate 5 (accept (control 4 true true))
   pub press-loaded : loadedIn waiting (carried Load) loading .control ≡ control 4 true true
   -- "Other kinds ignore the lent profiles."
   pub ignored : map (λ (v : Event). refusal (does held v))
-      (PowerOn ∷ Configured ∷ PowerOff ∷ Fault ∷ Reports 0 ∷ Mode 0 ∷ Lever 0 ∷ Press ∷ PositionReport (at 5 6) ∷ Length 9 ∷ Load ∷ Skip 7005 ∷ Revoke 7004 ∷ [])
-      ≡ 0 ∷ 0 ∷ 0 ∷ 0 ∷ 0 ∷ 0 ∷ 0 ∷ 0 ∷ 0 ∷ 0 ∷ 7 ∷ 0 ∷ 0 ∷ []
+      (PowerOn ∷ Configured ∷ PowerOff ∷ Fault ∷ Reports 0 ∷ Mode 0 ∷ Lever 0 ∷ Press ∷ PositionReport (at 5 6) ∷ Length 9 ∷ Load ∷ Skip 7005 ∷ Revoke 7004 ∷ Request (request 5 6) ∷ [])
+      ≡ 0 ∷ 0 ∷ 0 ∷ 0 ∷ 0 ∷ 0 ∷ 0 ∷ 0 ∷ 0 ∷ 0 ∷ 7 ∷ 0 ∷ 0 ∷ 0 ∷ []
   -- "Power off returns to fresh.", and writes the packet 68 of it alone
   pub power-off : does held PowerOff >>= judge held PowerOff (replicate 19 0)
       ≡ accept (record { engine = fresh; packets = packet68 (record { nidc = 0; nidsp = 0; offset = 16777215; speed = 0; operational = 0xFFFFFFFF }) 0 128 ∷ [] })
@@ -268,6 +300,26 @@ pub record Anchors : Type 0 where
         engine = engine journey skips (train 30001 9 400) (progress 3 false) (inputs 1 0 31) (control 6 false true);
         packets = packet62 (header 30001 9 0x12345678) 7003 0 0 ∷ packet68 (header 30001 9 0x12345678) 6 507 ∷ [];
       })
+  -- 02, Q-1: "the first request writes" (−23: range 1), and nothing else changes
+  pub first-request : does (engagedIn 5 0 noTraction) (Request (request 0xE9 7)) >>= judge (engagedIn 5 0 noTraction) (Request (request 0xE9 7)) (replicate 22 0)
+      ≡ accept (record { engine = engagedIn 5 0 (remembering 1 7); packets = packet61 (header 29999 7 0x12345678) 7 ∷ [] })
+  -- "on a change of range or of Q_ATO_SupTB", from range 2 with 7: 23 with 7, 23 with 6, 22 with 7
+  pub requests : map (λ (x : TractionRequest). writes (engagedIn 5 0 (remembering 2 7)) (Request x)) (request 23 7 ∷ request 23 6 ∷ request 22 7 ∷ [])
+      ≡ accept [] ∷ accept (packet61 (header 29999 7 0x12345678) 6 ∷ []) ∷ accept (packet61 (header 29999 7 0x12345678) 7 ∷ []) ∷ []
+  -- "In EG or DE", "In CO, NA, AV and RE the event is accepted and changes nothing": in CO, NA, AV, RE, EG, DE
+  pub requests-in : map (λ (s : ℕ). remembers (engagedIn s 0 (remembering 2 7)) (Request (request 22 9))) (1 ∷ 2 ∷ 3 ∷ 4 ∷ 5 ∷ 6 ∷ [])
+      ≡ map accept (remembering 2 7 ∷ remembering 2 7 ∷ remembering 2 7 ∷ remembering 2 7 ∷ remembering 1 9 ∷ remembering 1 9 ∷ [])
+  pub written-in : map (λ (s : ℕ). writes (engagedIn s 0 (remembering 2 7)) (Request (request 22 9))) (1 ∷ 3 ∷ 6 ∷ [])
+      ≡ accept [] ∷ accept [] ∷ accept (packet61 (header 29999 7 0x12345678) 9 ∷ []) ∷ []
+  -- "entering EG forgets both"; from EG to AV (the lever at brake) and to DE (reports 15) they are kept; power off
+  pub forgetting : remembers (waitingWith (remembering 2 7)) (Mode 1) ∷ remembers (engagedIn 5 0 (remembering 2 7)) (Lever 2)
+      ∷ remembers (engagedIn 5 0 (remembering 2 7)) (Reports 15) ∷ remembers (engagedIn 5 0 (remembering 2 7)) PowerOff ∷ []
+      ≡ map accept (noTraction ∷ remembering 2 7 ∷ remembering 2 7 ∷ noTraction ∷ [])
+  -- 61 before 68: with the lever at brake the rows lead from EG to AV
+  pub request-order : writes (engagedIn 5 2 noTraction) (Request (request 0 7))
+      ≡ accept (packet61 (header 29999 7 0x12345678) 7 ∷ packet68 (header 29999 7 0x12345678) 3 511 ∷ [])
+  -- a packet 61 has 22 bytes
+  pub row-16-request : map (λ (n : ℕ). refusal (judged (engagedIn 5 0 noTraction) (call (14 ∷ 22 ∷ 1 ∷ 2 ∷ 7 ∷ 0 ∷ 4 ∷ []) n))) (0 ∷ 21 ∷ 22 ∷ []) ≡ 16 ∷ 16 ∷ 0 ∷ []
   -- "16 shorter than this event's packets": a 68 has 19 bytes, a 62 and a 68 have 44
   pub row-16 : map (λ (n : ℕ). refusal (judged held (call (4 ∷ []) n))) (0 ∷ 18 ∷ 19 ∷ 20 ∷ []) ≡ 16 ∷ 16 ∷ 0 ∷ 0 ∷ []
   pub row-16-two : map (λ (n : ℕ). refusal (judged held (call (skip 7005) n))) (25 ∷ 43 ∷ 44 ∷ []) ≡ 16 ∷ 16 ∷ 0 ∷ []

@@ -7,6 +7,7 @@ use lib.Dec.{ltb}
 use Rattle.wire.specs.Judged.{Judged, thenJudge, row, _>>=_, _>>_}
 use Rattle.wire.specs.Judged.Judged.{refuse, accept}
 use Rattle.engine_value.specs.Engine.{routeIn, withControl}
+use Rattle.engine_value.specs.declared.Control.{Control}
 use Rattle.engine_value.specs.declared.Engine.{Engine}
 use Rattle.event.specs.Events.{eventOf}
 use Rattle.event.specs.Kinds.{kindOf}
@@ -18,6 +19,8 @@ use Rattle.state_codes.specs.Codes.{stateAt}
 use Rattle.conditions.specs.Conditions.{conditions}
 use Rattle.state_codes.specs.Numbers.{powerRows, stateRow}
 use Rattle.states.specs.ControlGroup.{controlAfter}
+use Rattle.traction.specs.Requests.{rememberedAfter}
+use Rattle.traction.specs.View.{rememberedIn, tractionOf}
 use Rattle.call_values.specs.Call.{Call, Accepted}
 use Rattle.call_values.specs.Packets.{Status, packetsOf}
 use Rattle.call.specs.Packets.{changeIn, ownPackets}
@@ -47,9 +50,15 @@ stepTo e event f m = record {
   packets = packetsOf (routeIn m) (m .train .position) (f .loaded) (map (changeIn (m .load)) (f .changes)) (ownPackets e event m) (statusIn e) (statusIn m);
 }
 
+-- engine m with the control group after the event, and with what is then remembered of the traction requests
+abbrev pub settled : Engine → Event → Engine → Control → Engine
+settled e event m c =
+    withControl m c (tractionOf (rememberedAfter (stateAt (e .control .state)) event (stateAt (c .state)) (rememberedIn (e .traction))))
+
 -- "After each accepted event": the rows of the states over the event's values
 abbrev pub stepBy : Engine → Event → Effect → Step
-stepBy e event f = stepTo e event f (withControl (stored e f) (controlAfter (f .inputs) (f .control) event (f .reached) (conditionsIn (stored e f))))
+stepBy e event f =
+    stepTo e event f (settled e event (stored e f) (controlAfter (f .inputs) (f .control) event (f .reached) (conditionsIn (stored e f))))
 
 -- ---- the four parts of a call: what the event looks up and its effect (`lookUp` in `effect`), the judgement of the effect (`judge`), and what is
 -- stored (`stored`, `outcomeOf`)

@@ -173,4 +173,5 @@ stored e f =
       progress = f .progress;
       inputs = f .inputs;
       control = f .control;
+      traction = e .traction;
     }

@@ -2,11 +2,11 @@
 use mathlib.Core.Path.{refl}
 use Rattle.position.specs.Position.{front}
 use Rattle.call_values.specs.Rows.{offsetBeyond}
-use Rattle.call_values.specs.Packets.{timingPoint, jpReceived, atoStatus, statusDue, packetsOf}
+use Rattle.call_values.specs.Packets.{timingPoint, jpReceived, atoStatus, statusDue, tractionBrake, packetsOf}
 use Rattle.call_values.specs.Anchors.{Anchors}
 
 pub anchors : Anchors
-unfolding front offsetBeyond timingPoint jpReceived atoStatus statusDue packetsOf
+unfolding front offsetBeyond timingPoint jpReceived atoStatus statusDue tractionBrake packetsOf
 anchors = record {
   header-with = refl;
   header-without = refl;
@@ -21,6 +21,8 @@ anchors = record {
   speed-fell = refl;
   order = refl;
   nothing-due = refl;
+  traction = refl;
+  traction-order = refl;
   row-13 = refl;
   row-15 = refl;
   row-15-revoked = refl;

@@ -1,4 +1,4 @@
--- Values from document 01 that the definitions must give.
+-- Values from documents 01 and 02 that the definitions must give.
 use Prim.Native.Nat.{ℕ}
 use mathlib.Core.Path.{_≡_}
 use mathlib.Core.List.{[], _∷_, map}
@@ -9,11 +9,12 @@ use Rattle.engine_value.specs.declared.Segment.{Segment}
 use Rattle.engine_value.specs.declared.Point.{Point}
 use Rattle.engine_value.specs.declared.Position.{Position}
 use Rattle.packets.specs.declared.Header.{Header}
+use Rattle.packets.specs.declared.Requested.{Requested}
 use Rattle.packets.specs.declared.Packet.{Packet}
 use Rattle.journey.specs.declared.Head.{Head}
 use Rattle.position.specs.Position.{segmentNamed}
 use Rattle.call_values.specs.Rows.{offsetBeyond, sameBool}
-use Rattle.call_values.specs.Packets.{header, pointChange, timingPoint, jpReceived, Status, statusDue, received, packetsOf}
+use Rattle.call_values.specs.Packets.{header, pointChange, timingPoint, jpReceived, Status, statusDue, received, tractionBrakes, packetsOf}
 
 -- ---- a journey with NID_OPERATIONAL 12345678 hexadecimal: segment 17/500 of 1,000 m, in the book and placed; 18/600, in the book but behind
 -- 19/700, which is not; point 7001 with NID_C 21, by the train's rear, with stopping data 55; point 7002 with NID_C 22, by its middle, with 66
@@ -53,6 +54,12 @@ packet65 h c = Packet.JpReceived (record { header = h; nidc = c; atots = 5; date
 abbrev pub packet68 : ℕ → ℕ → Packet
 packet68 s n = Packet.AtoStatus (record { header = headerAt 17 500 39900; state = s; conditions = n })
 
+abbrev pub requested : Requested
+requested = record { «m_ato_trabrrq» = 1; «m_ato_locobrrq» = 2; «q_ato_suptb» = 3; «m_ato_rtbrq» = 4 }
+
+abbrev pub packet61 : Packet
+packet61 = Packet.TractionBrake (record { header = headerAt 17 500 39900; requested = requested })
+
 abbrev pub shown : ℕ → ℕ → ℕ → Status
 shown state conditions speed = record { state = state; conditions = conditions; speed = speed }
 
@@ -82,6 +89,10 @@ pub record Anchors : Type 0 where
   pub order : packetsOf route (at 17 500 39900) (some head) (pointChange 0 2 true ∷ pointChange 1 0 false ∷ []) [] (shown 3 511 7) (shown 5 507 7)
       ≡ packet65 (headerAt 17 500 39900) 17 ∷ packet62 21 7001 1 2 2 0 ∷ packet62 22 7002 0 1 0 0 ∷ packet68 5 507 ∷ []
   pub nothing-due : packetsOf route (at 17 500 39900) none (pointChange 0 1 true ∷ []) [] (shown 3 511 7) (shown 3 511 0) ≡ packet62 21 7001 1 2 1 55 ∷ []
+  -- 61 with the header's values after the event and the event's content; "Order: 65, the 62s as they arise, 68", 61 before the 68
+  pub traction : map (tractionBrakes route (at 17 500 39900)) (none ∷ some requested ∷ []) ≡ [] ∷ (packet61 ∷ []) ∷ []
+  pub traction-order : packetsOf route (at 17 500 39900) none (pointChange 0 2 true ∷ []) (tractionBrakes route (at 17 500 39900) (some requested)) (shown 3 511 7) (shown 5 507 7)
+      ≡ packet62 21 7001 1 2 2 0 ∷ packet61 ∷ packet68 5 507 ∷ []
   -- "13 journey segment that is in the book, offset defined and beyond its length": it need not be placed
   pub row-13 : map (λ (x : Position). offsetBeyond (segmentNamed route x) x)
       (at 17 500 100000 ∷ at 17 500 100001 ∷ at 17 500 16777214 ∷ at 17 500 16777215 ∷ at 18 600 100001 ∷ at 19 700 100001 ∷ at 20 800 100001 ∷ at 17 600 100001 ∷ [])

@@ -1,4 +1,4 @@
--- Document 01, "Packets": which packets an event writes, and with what values. Header values are those after the event.
+-- Documents 01, "Packets", and 02, Q-1: which packets an event writes, and with what values. Header values are those after the event.
 use Prim.Native.Nat.{ℕ}
 use mathlib.Core.List.{List, [], _∷_, _++_, map}
 use mathlib.Core.Bool.{Bool, not, _&&_, _||_}
@@ -11,6 +11,7 @@ use Rattle.engine_value.specs.declared.Point.{Point}
 use Rattle.engine_value.specs.declared.Position.{Position}
 use Rattle.packets.specs.Layouts.{unknownNidc}
 use Rattle.packets.specs.declared.Header.{Header}
+use Rattle.packets.specs.declared.Requested.{Requested}
 use Rattle.packets.specs.declared.Packet.{Packet}
 use Rattle.journey.specs.declared.Head.{Head}
 use Rattle.position.specs.Position.{point, known}
@@ -94,7 +95,19 @@ abbrev pub received : Route → Position → Option Head → List Packet
 received j x none = []
 received j x (some h) = jpReceived j x h ∷ []
 
--- "Order: 65, the 62s as they arise, 68." The packets that one kind of event alone writes stand before the 68
+-- 61, of a traction request: its content is "the five bytes of packet 61" that the event carries
+abbrev pub tractionBrakeOf : Header → Requested → Packet
+tractionBrakeOf h r = Packet.TractionBrake (record { header = h; requested = r })
+
+unfoldable pub tractionBrake : Route → Position → Requested → Packet
+tractionBrake j x r = tractionBrakeOf (header j x) r
+
+-- where one is written, with that content
+abbrev pub tractionBrakes : Route → Position → Option Requested → List Packet
+tractionBrakes j x none = []
+tractionBrakes j x (some r) = tractionBrake j x r ∷ []
+
+-- "Order: 65, the 62s as they arise, 68." The packets that one kind of event alone writes, here 61, stand before the 68
 abbrev pub inOrder : List Packet → List Packet → List Packet → List Packet → List Packet
 inOrder packet65 packets62 own packet68 = packet65 ++ (packets62 ++ (own ++ packet68))
 
