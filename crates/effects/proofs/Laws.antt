@@ -106,6 +106,7 @@ number-kept (Event.Length m) trainLength n k = absurd (differs (Event.Length m) 
 number-kept Event.Load w n k = refl
 number-kept (Event.Skip t) w n k = refl
 number-kept (Event.Revoke t) w n k = refl
+number-kept (Event.Traction x) w n k = refl
 
 -- an effect with these values
 abbrev pub withValues : Effect → Train → Inputs → Effect

@@ -7,7 +7,7 @@ use Rattle.wire.specs.Judged.{Judged, thenJudge}
 use Rattle.wire.specs.Judged.Judged.{accept}
 use Rattle.wire.specs.View.{verdictView}
 use Rattle.wire.specs.declared.Verdict.{Verdict}
-use Rattle.engine_value.specs.Engine.{Route, routeIn, progress, noSkips}
+use Rattle.engine_value.specs.Engine.{Route, routeIn, progress, noSkips, noTraction}
 use Rattle.engine_value.specs.declared.Progress.{Progress}
 use Rattle.engine_value.specs.declared.Engine.{Engine}
 use Rattle.journey.specs.declared.Head.{Head}
@@ -82,6 +82,7 @@ journeyEngine k l =
       progress = progress 0 false;
       inputs = k .inputs;
       control = k .control;
+      traction = noTraction;
     }
 
 -- the effect of a load on the engine that has its journey

@@ -347,7 +347,7 @@ pub fn kept_of(e: Engine) -> Kept
     }
 }
 
-// An engine with the new journey: its points are looked up as those of any other.
+// An engine with the new journey: its points are looked up as those of any other. Of the traction requests it needs nothing.
 fn with_journey(k: Kept, l: Loaded) -> Engine
     ensures { λ r. ⌜ r ≡ journeyEngine k l ⌝ }
 {
@@ -371,6 +371,7 @@ fn with_journey(k: Kept, l: Loaded) -> Engine
         progress: progress,
         inputs: inputs,
         control: control,
+        traction: engine_value::no_traction(),
     }
 }
 

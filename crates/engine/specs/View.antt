@@ -43,6 +43,7 @@ withoutJourney e =
       progress = e .progress;
       inputs = e .inputs;
       control = e .control;
+      traction = e .traction;
     }
 
 abbrev pub withGroups : Engine → Judgement → Engine
@@ -56,6 +57,7 @@ withGroups e t =
       progress = t .progress;
       inputs = t .inputs;
       control = t .control;
+      traction = t .traction;
     }
 
 abbrev pub call : List ℕ → List ℕ → List ℕ → List ℕ → Call

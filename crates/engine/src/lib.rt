@@ -91,12 +91,14 @@ fn with_groups(e: Engine, t: Judgement) -> Engine
     let progress = t.progress;
     let inputs = t.inputs;
     let control = t.control;
+    let traction = t.traction;
     let mut m = e;
     m.load = load;
     m.train = train;
     m.progress = progress;
     m.inputs = inputs;
     m.control = control;
+    m.traction = traction;
     m
 }
 
@@ -132,11 +134,12 @@ pub fn step(e: Engine, event: &[u8], journey: &[u8], book: &[u8], out: &mut [u8]
         } else {
             let looked = look_up::look_up(m, v);
             let before = status_before(m, looked.before);
+            let remembered = m.traction;
             let room = out.len();
             let t = if event::is_report(v) {
-                judge::judge(before, v, effects::report(m, v, looked), room)
+                judge::judge(before, remembered, v, effects::report(m, v, looked), room)
             } else if event::is_skip(v) {
-                let t = judge::judge(before, v, effects::skip(m, v, looked), room);
+                let t = judge::judge(before, remembered, v, effects::skip(m, v, looked), room);
                 if is_accepted(t) {
                     let stop = looked.stop;
                     let at = stop.at;
@@ -146,7 +149,7 @@ pub fn step(e: Engine, event: &[u8], journey: &[u8], book: &[u8], out: &mut [u8]
                 }
                 t
             } else if event::is_power_off(v) {
-                let t = judge::judge(before, v, effects::power_off(), room);
+                let t = judge::judge(before, remembered, v, effects::power_off(), room);
                 if is_accepted(t) {
                     m = without_journey(m);
                     rewritten = true;
@@ -155,7 +158,7 @@ pub fn step(e: Engine, event: &[u8], journey: &[u8], book: &[u8], out: &mut [u8]
             } else if event::is_load(v) {
                 let l = effects::load(effects::kept_of(m), journey, book);
                 let f = l.effect;
-                let t = judge::judge(before, v, f, room);
+                let t = judge::judge(before, remembered, v, f, room);
                 if is_accepted(t) {
                     let points = l.points;
                     let segments = l.segments;
@@ -166,7 +169,7 @@ pub fn step(e: Engine, event: &[u8], journey: &[u8], book: &[u8], out: &mut [u8]
                 }
                 t
             } else {
-                judge::judge(before, v, effects::values(m, v, looked), room)
+                judge::judge(before, remembered, v, effects::values(m, v, looked), room)
             };
             if is_accepted(t) {
                 m = with_groups(m, t);

@@ -3,6 +3,7 @@ use Prim.Native.Nat.{ℕ, zero, suc, _+_, _-_, _*_, _≤_}
 use mathlib.Core.Path.{_≡_, refl, sym, ap, _∙_}
 use mathlib.Core.List.{List, [], _∷_, _++_, map, map-append, map-map, append-assoc, append-nil}
 use mathlib.Core.Bool.{Bool, true, false}
+use mathlib.Core.Option.{Option}
 use lib.ListN.{length, length-append}
 use lib.Seq.{sets}
 use native.Mathlib.Omega.{arith}
@@ -15,13 +16,16 @@ use Rattle.packets.specs.Packets.{packetBytes, joined, sizeOf}
 use Rattle.packets.proofs.PacketLaws.{length-packetBytes, joined-append, length-one}
 use Rattle.wire.proofs.NumberLaws.{sets-more}
 use Rattle.packets.specs.declared.Header.{Header}
+use Rattle.packets.specs.declared.Requested.{Requested}
 use Rattle.packets.specs.declared.Packet.{Packet}
 use Rattle.journey.specs.declared.Head.{Head}
 use Rattle.position.specs.Position.{point}
 use Rattle.timing.specs.Changes.{Change, change, passings, when, statusPassed, statusStopped}
-use Rattle.call_values.specs.Packets.{Status, statusDue, header, country, timingPoint, jpReceived, atoStatus, received, packetsOf, jpReceivedOf, atoStatusOf}
+use Rattle.call_values.specs.Packets.{Status, statusDue, header, country, timingPoint, jpReceived, atoStatus, received, tractionBrake, tractionBrakes, packetsOf, jpReceivedOf, tractionBrakeOf, atoStatusOf}
+use Rattle.traction.specs.View.{ownView}
+use Rattle.traction.specs.declared.Own.{Own}
 use Rattle.call.specs.Packets.{changeIn}
-use Rattle.event_packets.specs.View.{headerIn, timingPointView, timingPointIn, packets62, packets65, packets68, changesView, firstView, passingsView, stoppedView, receivedView, ownView, packetsView, receivedSize, sizeView, Put}
+use Rattle.event_packets.specs.View.{headerIn, timingPointView, timingPointIn, packets62, packets65, packets61, packets68, changesView, firstView, passingsView, stoppedView, receivedView, packetsView, receivedSize, ownSize, sizeView, Put}
 use Rattle.event_packets.specs.declared.Received.{Received}
 use Rattle.event_packets.specs.declared.Writes.{Writes}
 
@@ -49,6 +53,10 @@ size-65 : (h : Header) (nidc : ℕ) (r : Received) → length (joined (packets65
 size-65 h nidc Received.Nothing = refl
 size-65 h nidc (Received.Journey head) = length-one (jpReceivedOf h nidc head) 29 refl
 
+size-61 : (h : Header) (o : Own) → length (joined (packets61 h o)) ≡ ownSize o
+size-61 h Own.Nothing = refl
+size-61 h (Own.TractionBrake r) = length-one (tractionBrakeOf h r) 22 refl
+
 size-68 : (h : Header) (state : ℕ) (w : Writes) → length (joined (packets68 h state w)) ≡ 19 * flag (w .due)
 size-68 h state w = go (w .due) refl
   where
@@ -62,10 +70,10 @@ joined-in : (e : Engine) (w : Writes) (h : Header) → h ≡ headerIn e → join
     ++ (joined (packets62 h e (firstView (w .changes)))
     ++ (joined (packets62 h e (passingsView (w .changes)))
     ++ (joined (packets62 h e (stoppedView (w .changes) (e .progress)))
-    ++ (joined (ownView e w)
+    ++ (joined (packets61 h (w .own))
     ++ joined (packets68 h (e .control .state) w)))))
 joined-in e w h told =
-    rw told (parts (timingPointIn (headerIn e) e) (packets65 (headerIn e) (w .nidc) (w .received)) (firstView (w .changes)) (passingsView (w .changes)) (stoppedView (w .changes) (e .progress)) (ownView e w) (packets68 (headerIn e) (e .control .state) w))
+    rw told (parts (timingPointIn (headerIn e) e) (packets65 (headerIn e) (w .nidc) (w .received)) (firstView (w .changes)) (passingsView (w .changes)) (stoppedView (w .changes) (e .progress)) (packets61 (headerIn e) (w .own)) (packets68 (headerIn e) (e .control .state) w))
   where
     parts : (t : Change → Packet) (ps : List Packet) (a b c : List Change) (os qs : List Packet)
         → joined (ps ++ (map t (a ++ (b ++ c)) ++ (os ++ qs))) ≡ joined ps ++ (joined (map t a) ++ (joined (map t b) ++ (joined (map t c) ++ (joined os ++ joined qs))))
@@ -77,7 +85,7 @@ size-in e w =
     let h = headerIn e in
     let c = w .changes in
     ap length (joined-in e w h refl)
-    ∙ simp length-append (omega (arith, size-65 h (w .nidc) (w .received), size-when h e (c .first) (change (c .index) (c .status) (c .after)), size-passings h e (c .to - c .from) (c .from), size-when h e (c .stopped) (change (e .progress .next) statusStopped (e .progress)), size-68 h (e .control .state) w))
+    ∙ simp length-append (omega (arith, size-65 h (w .nidc) (w .received), size-when h e (c .first) (change (c .index) (c .status) (c .after)), size-passings h e (c .to - c .from) (c .from), size-when h e (c .stopped) (change (e .progress .next) statusStopped (e .progress)), size-61 h (w .own), size-68 h (e .control .state) w))
 
 -- ---- packets put one behind the other
 
@@ -92,7 +100,7 @@ module _ (at : ℕ) (l : List ℕ) where
     near = omega arith;
   }
 
--- the packet 65, a 62, the 68: where there is one, and where there is none
+-- the packet 65, a 62, the 61, the 68: where there is one, and where there is none
 module _ (h : Header) (at : ℕ) (l : List ℕ) where
   pub put-65 : (nidc : ℕ) (r : Received) (head : Head) (p : Packet) (m : List ℕ) → r ≡ Received.Journey head → p ≡ jpReceivedOf h nidc head
       → m ≡ sets l at (packetBytes p) → Put at (packets65 h nidc r) l m (at + 29)
@@ -108,6 +116,13 @@ module _ (h : Header) (at : ℕ) (l : List ℕ) where
   pub none-62 : (e : Engine) (b : Bool) (c : Change) → b ≡ false → Put at (packets62 h e (when b c)) l l at
   none-62 e b c q = put-none at l _ (rw q)
 
+  pub put-61 : (o : Own) (r : Requested) (p : Packet) (m : List ℕ) → o ≡ Own.TractionBrake r → p ≡ tractionBrakeOf h r
+      → m ≡ sets l at (packetBytes p) → Put at (packets61 h o) l m (at + 22)
+  put-61 o r p m q t s = put-one at l p _ 22 m (rw (q, t)) (ap sizeOf t) (omega arith) s
+
+  pub none-61 : (o : Own) → o ≡ Own.Nothing → Put at (packets61 h o) l l at
+  none-61 o q = put-none at l _ (rw q)
+
   pub put-68 : (state : ℕ) (w : Writes) (p : Packet) (m : List ℕ) → w .due ≡ true → p ≡ atoStatusOf h state (w .conditions)
       → m ≡ sets l at (packetBytes p) → m ≡ sets l at (joined (packets68 h state w))
   put-68 state w p m q t s = put-one at l p (packets68 h state w) 19 m (rw (q, t)) (ap sizeOf t) (omega arith) s .memory
@@ -120,15 +135,17 @@ behind : (at : ℕ) (ps : List Packet) (l m : List ℕ) (r : ℕ) (bytes : List 
 behind at ps l m r bytes t = rw (t .memory, t .next) (sets-more (joined ps) bytes l at)
 
 -- an event's packets, put kind by kind
-pub put-all : (e : Engine) (w : Writes) (h : Header) → h ≡ headerIn e → (l m₁ m₂ m₃ m₄ m₅ : List ℕ) (a b c d : ℕ)
+pub put-all : (e : Engine) (w : Writes) (h : Header) → h ≡ headerIn e → (l m₁ m₂ m₃ m₄ m₅ m₆ : List ℕ) (a b c d f : ℕ)
     → Put 0 (packets65 h (w .nidc) (w .received)) l m₁ a
     → Put a (packets62 h e (firstView (w .changes))) m₁ m₂ b
     → Put b (packets62 h e (passingsView (w .changes))) m₂ m₃ c
     → Put c (packets62 h e (stoppedView (w .changes) (e .progress))) m₃ m₄ d
-    → m₅ ≡ sets m₄ d (joined (packets68 h (e .control .state) w))
-    → m₅ ≡ sets l 0 (joined (packetsView e w))
-put-all e w h told l m₁ m₂ m₃ m₄ m₅ a b c d t₁ t₂ t₃ t₄ t₅ =
-    t₅
+    → Put d (packets61 h (w .own)) m₄ m₅ f
+    → m₆ ≡ sets m₅ f (joined (packets68 h (e .control .state) w))
+    → m₆ ≡ sets l 0 (joined (packetsView e w))
+put-all e w h told l m₁ m₂ m₃ m₄ m₅ m₆ a b c d f t₁ t₂ t₃ t₄ t₅ t₆ =
+    t₆
+    ∙ behind _ _ _ _ _ _ t₅
     ∙ behind _ _ _ _ _ _ t₄
     ∙ behind _ _ _ _ _ _ t₃
     ∙ behind _ _ _ _ _ _ t₂
@@ -161,10 +178,16 @@ unfolding jpReceived
 packets65-in j x n Received.Nothing q = refl
 packets65-in j x n (Received.Journey h) q = rw (q h refl)
 
-pub packets-in : (m : Engine) (w : Writes) (before after : Status)
+-- a packet 61, where there is one
+packets61-in : (j : Route) (x : Position) (o : Own) → packets61 (header j x) o ≡ tractionBrakes j x (ownView o)
+unfolding tractionBrake
+packets61-in j x Own.Nothing = refl
+packets61-in j x (Own.TractionBrake r) = refl
+
+pub packets-in : (m : Engine) (w : Writes) (own : Option Requested) (before after : Status)
     → ((h : Head) → w .received ≡ Received.Journey h → w .nidc ≡ country (routeIn m) (m .train .position))
-    → w .due ≡ statusDue before after → m .control .state ≡ after .state → w .conditions ≡ after .conditions
-    → packetsView m w ≡ packetsOf (routeIn m) (m .train .position) (receivedView (w .received)) (map (changeIn (m .load)) (changesView (w .changes) (m .progress))) (ownView m w) before after
+    → w .due ≡ statusDue before after → m .control .state ≡ after .state → w .conditions ≡ after .conditions → ownView (w .own) ≡ own
+    → packetsView m w ≡ packetsOf (routeIn m) (m .train .position) (receivedView (w .received)) (map (changeIn (m .load)) (changesView (w .changes) (m .progress))) (tractionBrakes (routeIn m) (m .train .position) own) before after
 unfolding packetsOf timingPoint atoStatus timingPointView
-packets-in m w before after n d s c =
-    rw (packets65-in (routeIn m) (m .train .position) (w .nidc) (w .received) n, d, s, c, map-map (timingPoint (routeIn m) (m .train .position)) (changeIn (m .load)) (changesView (w .changes) (m .progress)))
+packets-in m w own before after n d s c o =
+    rw (packets65-in (routeIn m) (m .train .position) (w .nidc) (w .received) n, packets61-in (routeIn m) (m .train .position) (w .own), o, d, s, c, map-map (timingPoint (routeIn m) (m .train .position)) (changeIn (m .load)) (changesView (w .changes) (m .progress)))

@@ -12,7 +12,7 @@ use Rattle.engine_value.specs.declared.Point.{Point}
 use Rattle.engine_value.specs.declared.Progress.{Progress}
 use Rattle.engine_value.specs.declared.Engine.{Engine}
 use Rattle.journey.specs.declared.Head.{Head}
-use Rattle.packets.specs.Layouts.{kindSize, kind62, kind65, kind68}
+use Rattle.packets.specs.Layouts.{kindSize, kind62, kind65, kind68, kind61}
 use Rattle.packets.specs.Packets.{joined}
 use Rattle.packets.specs.declared.Header.{Header}
 use Rattle.packets.specs.declared.Packet.{Packet}
@@ -20,7 +20,8 @@ use Rattle.position.specs.Position.{point}
 use Rattle.position.specs.Standing.{standing}
 use Rattle.timing.specs.Changes.{Change, change, passings, when, statusStopped}
 use Rattle.conditions.specs.Conditions.{endAhead}
-use Rattle.call_values.specs.Packets.{Status, headerOf, inOrder, timingPointOf, jpReceivedOf, atoStatusOf}
+use Rattle.call_values.specs.Packets.{Status, headerOf, inOrder, timingPointOf, jpReceivedOf, tractionBrakeOf, atoStatusOf}
+use Rattle.traction.specs.declared.Own.{Own}
 use Rattle.event_packets.specs.declared.Changes.{Changes}
 use Rattle.event_packets.specs.declared.Received.{Received}
 use Rattle.event_packets.specs.declared.Status as code
@@ -70,25 +71,31 @@ packets65 h nidc (Received.Journey head) = jpReceivedOf h nidc head ∷ []
 abbrev pub packets68 : Header → ℕ → Writes → List Packet
 packets68 h state w = when (w .due) (atoStatusOf h state (w .conditions))
 
--- the packets that one kind of event alone writes; the kinds of document 01 have none
-abbrev pub ownView : Engine → Writes → List Packet
-ownView e w = []
+-- what one kind of event alone writes
+abbrev pub packets61 : Header → Own → List Packet
+packets61 h Own.Nothing = []
+packets61 h (Own.TractionBrake r) = tractionBrakeOf h r ∷ []
 
 abbrev pub packetsView : Engine → Writes → List Packet
 packetsView e w =
     let h = headerIn e in
-    inOrder (packets65 h (w .nidc) (w .received)) (packets62 h e (changesView (w .changes) (e .progress))) (ownView e w) (packets68 h (e .control .state) w)
+    inOrder (packets65 h (w .nidc) (w .received)) (packets62 h e (changesView (w .changes) (e .progress))) (packets61 h (w .own)) (packets68 h (e .control .state) w)
 
 -- the bytes of a packet 65, where there is one
 abbrev pub receivedSize : Received → ℕ
 receivedSize Received.Nothing = 0
 receivedSize (Received.Journey h) = kindSize kind65
 
--- their bytes: 29, 25 and 19 each
+abbrev pub ownSize : Own → ℕ
+ownSize Own.Nothing = 0
+ownSize (Own.TractionBrake r) = kindSize kind61
+
+-- their bytes: 29, 25, 22 and 19 each
 abbrev pub sizeView : Writes → ℕ
 sizeView w =
     receivedSize (w .received)
     + kindSize kind62 * (flag (w .changes .first) + (w .changes .to - w .changes .from) + flag (w .changes .stopped))
+    + ownSize (w .own)
     + kindSize kind68 * flag (w .due)
 
 -- packets put from a position on, and the position r behind them; they are at most 255

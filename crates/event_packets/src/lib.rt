@@ -10,9 +10,12 @@ use packets::AtoStatus;
 use packets::Header;
 use packets::JpReceived;
 use packets::Packet;
+use packets::Requested;
 use packets::TimingPoint;
+use packets::TractionBrake;
 use position::Front;
 use position::Named;
+use traction::Own;
 ghost use mathlib.Core.Path.{_≡_};
 ghost use Prim.Native.Nat.{_-_, _≤_};
 ghost use lib.Dec.{eqb};
@@ -22,8 +25,8 @@ ghost use Rattle.engine_value.specs.Engine.{Route, routeIn};
 ghost use Rattle.packets.specs.Packets.{joined};
 ghost use Rattle.position.specs.Position.{point, segmentNamed};
 ghost use Rattle.timing.specs.Changes.{change, passings, statusStopped};
-ghost use Rattle.call_values.specs.Packets.{headerOf, country, statusDue, jpReceivedOf, atoStatusOf};
-ghost use Rattle.event_packets.specs.View.{statusView, firstView, stoppedView, timingPointView, timingPointIn, packets62, packets65, packets68, packetsView, receivedSize, sizeView, Put};
+ghost use Rattle.call_values.specs.Packets.{headerOf, country, statusDue, jpReceivedOf, tractionBrakeOf, atoStatusOf};
+ghost use Rattle.event_packets.specs.View.{statusView, firstView, stoppedView, timingPointView, timingPointIn, packets62, packets65, packets61, packets68, packetsView, receivedSize, ownSize, sizeView, Put};
 
 // What an event changes of the points: first, perhaps, a departure, a skip or its revocation; then the points from `from` to `to`, without that one,
 // pass; last, perhaps, the first point not passed becomes reached.
@@ -67,11 +70,12 @@ pub struct Status {
     pub speed: u16,
 }
 
-// What an event writes, beside the values of the engine after it; `nidc` is that of a packet 65.
+// What an event writes, beside the values of the engine after it; `nidc` is that of a packet 65, `own` what its kind alone writes.
 pub struct Writes {
     pub received: Received,
     pub nidc: u16,
     pub changes: Changes,
+    pub own: Own,
     pub due: bool,
     pub conditions: u16,
 }
@@ -165,6 +169,16 @@ fn jp_received(header: Header, nidc: u16, head: Head) -> Packet
     })
 }
 
+// Packet 61 for a traction request.
+fn traction_brake(header: Header, requested: Requested) -> Packet
+    ensures { λ r. ⌜ r ≡ tractionBrakeOf header requested ⌝ }
+{
+    Packet::TractionBrake(TractionBrake {
+        header: header,
+        requested: requested,
+    })
+}
+
 // Packet 68 with the engine's state.
 fn ato_status(header: Header, state: u8, conditions: u16) -> Packet
     ensures { λ r. ⌜ r ≡ atoStatusOf header state conditions ⌝ }
@@ -212,14 +226,25 @@ fn received_size(r: Received) -> usize
     }
 }
 
+fn own_size(own: Own) -> usize
+    ensures { λ n. ⌜ (n ≡ ownSize own) × (n ≤ 22) ⌝ }
+{
+    match own {
+        Own::Nothing => 0,
+        Own::TractionBrake(_) => packets::TRACTION_BRAKE_SIZE,
+    }
+}
+
 pub fn size(w: Writes) -> usize
     ensures { λ r. ⌜ r ≡ sizeView w ⌝ }
 {
     let c = w.changes;
     let changed = one_if(c.first) + count_of(c.from, c.to) + one_if(c.stopped);
     let received = w.received;
+    let own = w.own;
     received_size(received)
         + packets::TIMING_POINT_SIZE * changed
+        + own_size(own)
         + packets::ATO_STATUS_SIZE * one_if(w.due)
 }
 
@@ -287,6 +312,19 @@ fn put_stopped(e: Engine, header: Header, c: Changes, out: &mut [u8], at: usize)
     at + packets::TIMING_POINT_SIZE
 }
 
+fn put_own(header: Header, w: Writes, out: &mut [u8], at: usize) -> usize
+    requires { ⌜ at ≤ 100000 ⌝ }
+    ensures { λ r. ⌜ Put at (packets61 header (w .own)) (now (out .entry)) (now (out .exit)) r ⌝ }
+{
+    let own = w.own;
+    let Own::TractionBrake(requested) = own else {
+        return at;
+    };
+    let p = traction_brake(header, requested);
+    packet_writer::put_packet(p, out, at);
+    at + packets::TRACTION_BRAKE_SIZE
+}
+
 fn put_status(header: Header, state: u8, w: Writes, out: &mut [u8], at: usize)
     ensures { λ _. ⌜ now (out .exit) ≡ sets (now (out .entry)) at (joined (packets68 header state w)) ⌝ }
 {
@@ -306,6 +344,7 @@ pub fn write(e: Engine, w: Writes, out: &mut [u8])
     let first = put_received(header, w, out);
     let passings = put_first(e, header, c, out, first);
     let stopped = put_passings(e, header, c.from, c.to, out, passings);
-    let status = put_stopped(e, header, c, out, stopped);
+    let own = put_stopped(e, header, c, out, stopped);
+    let status = put_own(header, w, out, own);
     put_status(header, e.control.state, w, out, status);
 }

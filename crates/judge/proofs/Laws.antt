@@ -13,6 +13,7 @@ use Rattle.wire.specs.View.{verdictView}
 use Rattle.wire.specs.declared.Verdict.{Verdict}
 use Rattle.engine_value.specs.declared.Load.{Load}
 use Rattle.engine_value.specs.declared.Control.{Control}
+use Rattle.engine_value.specs.declared.Traction.{Traction}
 use Rattle.engine_value.specs.declared.Engine.{Engine}
 use Rattle.event.specs.declared.Event.{Event}
 use Rattle.packets.specs.Packets.{joined}
@@ -21,6 +22,10 @@ use Rattle.position.specs.Standing.{standing}
 use Rattle.conditions.specs.Conditions.{nine, wordOf, conditions}
 use Rattle.conditions.specs.declared.RouteConditions.{RouteConditions}
 use Rattle.states.specs.ControlGroup.{controlAfter}
+use Rattle.state_codes.specs.Codes.{stateAt}
+use Rattle.traction.specs.Requests.{rememberedAfter, writtenContent}
+use Rattle.traction.specs.View.{rememberedIn, tractionOf, ownView}
+use Rattle.traction.specs.declared.Own.{Own}
 use Rattle.call_values.specs.Packets as packets
 use Rattle.call_values.specs.Packets.{statusDue}
 use Rattle.call.specs.Effect as model
@@ -66,7 +71,10 @@ module _ (e : Engine) (j : JourneyAfter) (v : Event) (memory : List ℕ) (x : Ju
     (word : ℕ) (nine-after : word ≡ wordOf (nine (f .load) (f .inputs .reports) (f .after) (standing (f .progress))))
     (control : Control) (rows-of-states : control ≡ controlAfter (f .inputs) (f .control) v (f .reached) word)
     (shown-after : after ≡ statusOf control (f .train) word)
-    (due : Bool) (is-due : due ≡ statusDue (statusView before) (statusView after)) where
+    (due : Bool) (is-due : due ≡ statusDue (statusView before) (statusView after))
+    (remembered : Traction) (told : remembered ≡ e .traction)
+    (traction : Traction) (requests : traction ≡ tractionOf (rememberedAfter (stateAt (before .state)) v (stateAt (control .state)) (rememberedIn remembered)))
+    (own : Own) (its-own : ownView own ≡ writtenContent (stateAt (before .state)) v (rememberedIn remembered) (rememberedIn traction)) where
   -- the step of the meaning
   abbrev step : Step
   step = stepBy e v (acceptedView j f)
@@ -92,20 +100,38 @@ module _ (e : Engine) (j : JourneyAfter) (v : Event) (memory : List ℕ) (x : Ju
   due-after : due ≡ statusDue (statusIn e) (statusIn (step .engine))
   due-after = is-due ∙ ap (λ (s : packets.Status). statusDue s (statusView after)) shown ∙ ap (statusDue (statusIn e)) status-after
 
-  packets-after : packetsView (step .engine) (effectWrites f due word) ≡ step .packets
-  packets-after = packets-in (step .engine) (effectWrites f due word) (statusIn e) (statusIn (step .engine)) (given .nidc) due-after refl word-after
+  state-before : before .state ≡ e .control .state
+  state-before = ap (λ (s : packets.Status). s .state) shown
 
-  module _ (room : ℕ) (lent : room ≡ length memory) (w : Writes) (written : w ≡ effectWrites f due word) (size : ℕ) (sized : size ≡ sizeView w)
+  traction-after : traction ≡ step .engine .traction
+  unfolding conditionsIn
+  traction-after =
+      requests
+      ∙ ap (λ (n : ℕ). tractionOf (rememberedAfter (stateAt n) v (stateAt (control .state)) (rememberedIn remembered))) state-before
+      ∙ ap (λ (c : Control). tractionOf (rememberedAfter (stateAt (e .control .state)) v (stateAt (c .state)) (rememberedIn remembered))) control-after
+      ∙ ap (λ (t : Traction). tractionOf (rememberedAfter (stateAt (e .control .state)) v (stateAt (step .engine .control .state)) (rememberedIn t))) told
+
+  own-after : ownView own ≡ writtenContent (stateAt (e .control .state)) v (rememberedIn (e .traction)) (rememberedIn (step .engine .traction))
+  own-after =
+      its-own
+      ∙ ap (λ (n : ℕ). writtenContent (stateAt n) v (rememberedIn remembered) (rememberedIn traction)) state-before
+      ∙ ap (λ (t : Traction). writtenContent (stateAt (e .control .state)) v (rememberedIn t) (rememberedIn traction)) told
+      ∙ ap (λ (t : Traction). writtenContent (stateAt (e .control .state)) v (rememberedIn (e .traction)) (rememberedIn t)) traction-after
+
+  packets-after : packetsView (step .engine) (effectWrites f own due word) ≡ step .packets
+  packets-after = packets-in (step .engine) (effectWrites f own due word) _ (statusIn e) (statusIn (step .engine)) (given .nidc) due-after refl word-after own-after
+
+  module _ (room : ℕ) (lent : room ≡ length memory) (w : Writes) (written : w ≡ effectWrites f own due word) (size : ℕ) (sized : size ≡ sizeView w)
       (verdict : Verdict) (rows : verdictView verdict ≡ outputRow (verdictView (f .verdict)) room size) where
     abbrev judgement : Judgement
     judgement =
-        record { verdict = verdict; load = f .load; train = f .train; progress = f .progress; inputs = f .inputs; control = control; writes = w; size = size }
+        record { verdict = verdict; load = f .load; train = f .train; progress = f .progress; inputs = f .inputs; control = control; traction = traction; writes = w; size = size }
 
     abbrev stepOn : Engine → Writes → Step
     stepOn m u = record { engine = m; packets = packetsView m u }
 
     engine-after : engineWith e j judgement ≡ step .engine
-    engine-after = rw (given .load, control-after)
+    engine-after = rw (given .load, control-after, traction-after)
 
     step-after : stepView e j judgement ≡ step
     step-after =

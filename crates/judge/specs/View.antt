@@ -21,6 +21,7 @@ use Rattle.event_packets.specs.View.{packetsView}
 use Rattle.event_packets.specs.declared.Status.{Status}
 use Rattle.event_packets.specs.declared.Writes.{Writes}
 use Rattle.effects.specs.declared.Effect.{Effect}
+use Rattle.traction.specs.declared.Own.{Own}
 use Rattle.judge.specs.declared.Judgement.{Judgement}
 
 -- output: "16 shorter than this event's packets", where no row before it refuses
@@ -30,8 +31,8 @@ outputRow before room size = before >> row 16 (ltb room size)
 abbrev pub statusOf : Control → Train → ℕ → Status
 statusOf c t n = record { state = c .state; conditions = n; speed = t .position .speed }
 
-abbrev pub effectWrites : Effect → Bool → ℕ → Writes
-effectWrites f due n = record { received = f .received; nidc = f .nidc; changes = f .changes; due = due; conditions = n }
+abbrev pub effectWrites : Effect → Own → Bool → ℕ → Writes
+effectWrites f own due n = record { received = f .received; nidc = f .nidc; changes = f .changes; own = own; due = due; conditions = n }
 
 -- the engine with the groups of a judgement, and with what becomes of the journey
 abbrev pub engineWith : Engine → JourneyAfter → Judgement → Engine
@@ -45,6 +46,7 @@ engineWith e j r =
       progress = r .progress;
       inputs = r .inputs;
       control = r .control;
+      traction = r .traction;
     }
 
 -- the step that it stands for, or the number of the row that refuses

@@ -4,10 +4,12 @@ use engine_value::Control;
 use engine_value::Inputs;
 use engine_value::Load;
 use engine_value::Progress;
+use engine_value::Traction;
 use engine_value::Train;
 use event::Event;
 use event_packets::Status;
 use event_packets::Writes;
+use traction::Own;
 use wire::Verdict;
 ghost use mathlib.Core.Path.{_≡_};
 ghost use mathlib.Core.List.{List};
@@ -30,6 +32,7 @@ pub struct Judgement {
     pub progress: Progress,
     pub inputs: Inputs,
     pub control: Control,
+    pub traction: Traction,
     pub writes: Writes,
     pub size: usize,
 }
@@ -45,8 +48,8 @@ pub fn status(control: Control, train: Train, conditions: u16) -> Status
 }
 
 // What the packets are made of.
-fn writes_of(f: Effect, due: bool, conditions: u16) -> Writes
-    ensures { λ r. ⌜ r ≡ effectWrites f due conditions ⌝ }
+fn writes_of(f: Effect, own: Own, due: bool, conditions: u16) -> Writes
+    ensures { λ r. ⌜ r ≡ effectWrites f own due conditions ⌝ }
 {
     let received = f.received;
     let changes = f.changes;
@@ -54,6 +57,7 @@ fn writes_of(f: Effect, due: bool, conditions: u16) -> Writes
         received: received,
         nidc: f.nidc,
         changes: changes,
+        own: own,
         due: due,
         conditions: conditions,
     }
@@ -72,13 +76,16 @@ fn output_row(verdict: Verdict, room: usize, size: usize) -> Verdict
     Verdict::Accepted
 }
 
-pub fn judge(before: Status, v: Event, f: Effect, room: usize) -> Judgement
-    ensures { λ r. ⌜ ((e : engine.Engine) (j : model.JourneyAfter) (memory : List ℕ) (x : Judged model.Effect) → statusView before ≡ statusIn e → room ≡ length memory → Gives e j x f → Judges e j v memory x r) ⌝ }
+// `before` and `remembered` are of the engine before the event.
+pub fn judge(before: Status, remembered: Traction, v: Event, f: Effect, room: usize) -> Judgement
+    ensures { λ r. ⌜ ((e : engine.Engine) (j : model.JourneyAfter) (memory : List ℕ) (x : Judged model.Effect) → statusView before ≡ statusIn e → remembered ≡ e .traction → room ≡ length memory → Gives e j x f → Judges e j v memory x r) ⌝ }
 {
     let word = conditions::word_of(f.load, f.inputs.reports, f.after, f.progress);
     let control = states::control_after(f.inputs, f.control, v, f.reached, word);
     let due = event_packets::status_due(before, status(control, f.train, word));
-    let w = writes_of(f, due, word);
+    let traction = traction::traction_after(before.state, v, control.state, remembered);
+    let own = traction::own_of(before.state, v, remembered, traction);
+    let w = writes_of(f, own, due, word);
     let size = event_packets::size(w);
     let verdict = f.verdict;
     let load = f.load;
@@ -92,6 +99,7 @@ pub fn judge(before: Status, v: Event, f: Effect, room: usize) -> Judgement
         progress: progress,
         inputs: inputs,
         control: control,
+        traction: traction,
         writes: w,
         size: size,
     }
