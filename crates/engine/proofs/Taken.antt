@@ -134,7 +134,7 @@ module _ (e : Engine) (v : Event) (journey book memory : List ℕ) where
   -- the engine with these arrays
   abbrev pub arrays : List Point → List Bool → List Segment → Engine
   arrays ps ss gs =
-      record { points = ps; skips = ss; segments = gs; load = e .load; train = e .train; progress = e .progress; inputs = e .inputs; control = e .control }
+      record { points = ps; skips = ss; segments = gs; load = e .load; train = e .train; progress = e .progress; inputs = e .inputs; control = e .control; traction = e .traction }
 
   skip-stored : (at : Found) (on : Bool) (t : Judgement) → withGroups (arrays (e .points) (skipsFor (e .skips) at on) (e .segments)) t ≡ engineWith e (skipJourney on at) t
   skip-stored (At k) on t = refl
