@@ -11,3 +11,4 @@ pub mod player;
 pub mod points;
 pub mod refusals;
 pub mod story;
+pub mod traction;
