@@ -359,13 +359,14 @@ impl Rules {
         self.moments[k].state == EG && (k == 0 || self.moments[k - 1].state != EG)
     }
 
-    /// Range and Q_ATO_SupTB after so many moments, by the requests made in EG or DE since EG was last entered.
+    /// Range and Q_ATO_SupTB, the content's third byte, after so many moments: by the requests made in EG or DE since EG
+    /// was last entered.
     fn traction(&self, count: usize) -> Option<(u8, u8)> {
         let entered = (0..count).rfind(|&k| self.enters_eg(k))?;
         let made = (entered + 1..count).filter(|&k| self.made_in_eg_or_de(k));
         made.fold(None, |had: Option<(u8, u8)>, k| match self.moments[k].event {
             Event::Traction(request, content) => {
-                Some((range_after(had.map(|(range, _)| range), request), content.q_ato_suptb))
+                Some((range_after(had.map(|(range, _)| range), request), content.bytes()[2]))
             }
             _ => had,
         })
