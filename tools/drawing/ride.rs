@@ -23,6 +23,8 @@ pub struct Reported {
     pub position: Position,
     /// The last event was a position report.
     pub now: bool,
+    /// Of a traction request, where the last event was one.
+    pub request: Option<i8>,
 }
 
 impl Reported {
@@ -34,6 +36,7 @@ impl Reported {
         speed: 0,
         position: Position { nidc: 0, nidsp: 0, offset: UNDEFINED },
         now: false,
+        request: None,
     };
 
     fn accept(&mut self, event: Event) {
@@ -47,6 +50,7 @@ impl Reported {
             _ => {}
         }
         self.now = matches!(event, Event::Report(..));
+        self.request = if let Event::Traction(request, _) = event { Some(request) } else { None };
     }
 }
 
@@ -109,7 +113,7 @@ impl Ride {
             let (reason, traction) = told(&mut model, step, &StepNames::of(scenario, ride.journey(), step));
             let answer = engine.step(&step.call.event, &step.call.journey, &step.call.book, &mut out);
             let (mut packets, mut refused) = (Vec::new(), None);
-            reported.now = false;
+            (reported.now, reported.request) = (false, None);
             match read_event(&step.call.event) {
                 Ok(event) if answer.accepted => {
                     reported.accept(event);
