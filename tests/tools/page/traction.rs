@@ -1,6 +1,6 @@
 //! The tables of packet 61's ranges, played in EG and in DE.
 
-use crate::engines::{engines, play};
+use crate::engines::{calls_to, engines, play};
 use crate::text::{same, wrong, Checked, Page, Row};
 use model::calls::Call;
 use model::engine::{DE, EG};
@@ -82,19 +82,49 @@ impl Ranges {
         same(row.line, "from range", row.text("From range")?, &self.remembered(&pair, row.line)?)?;
         let written = writes(&mut pair, row.number("Request")?, row.line)?;
         same(row.line, "to range", row.text("To range")?, &self.remembered(&pair, row.line)?)?;
-        same(row.line, "packet 61", row.text("Packet 61")?, if written { "written" } else { "no" })
+        same(row.line, "packet 61", row.text("Packet 61")?, written_in_words(written))
     }
+}
+
+fn request_of(request: i8, q_ato_suptb: u8) -> Call {
+    Call::traction(request, TractionBrake { q_ato_suptb, ..TractionBrake::default() })
 }
 
 /// Whether the request writes packet 61; it is accepted, and writes nothing else.
 fn writes(pair: &mut Pair, request: i64, line: usize) -> Checked<bool> {
     let Ok(byte) = i8::try_from(request) else { return wrong(line, format!("{request} is no signed byte")) };
-    let (answer, packets) = play(pair, &[Call::traction(byte, TractionBrake::default())], line)?;
+    let (answer, packets) = play(pair, &[request_of(byte, 0)], line)?;
     match &packets[..] {
         [] if answer.starts_with('A') => Ok(false),
         [packet] if packet[0] == 61 => Ok(true),
         _ => wrong(line, format!("the request {request} is answered {answer}")),
     }
+}
+
+fn written_in_words(written: bool) -> &'static str {
+    if written {
+        "written"
+    } else {
+        "no"
+    }
+}
+
+/// Whether the second of two equal requests is written, by what comes between them.
+fn check_between(row: &Row, mut pair: Pair, load: &Call) -> Checked<()> {
+    let again = [vec![Call::power_off()], calls_to(EG, load)].concat();
+    let between = match row.text("Between two equal requests")? {
+        "nothing" => vec![],
+        "a request that is refused" => vec![request_of(101, 0)],
+        "the change from EG to DE" => vec![Call::reports(0)],
+        "a request with another Q_ATO_SupTB" => vec![request_of(50, 128)],
+        "EG left and entered again" => vec![Call::mode(0), request_of(10, 0), Call::press(), Call::mode(1)],
+        "power off, and on to EG again" => again,
+        other => return wrong(row.line, format!("'{other}' is not known here")),
+    };
+    writes(&mut pair, 50, row.line)?;
+    play(&mut pair, &between, row.line)?;
+    let written = writes(&mut pair, 50, row.line)?;
+    same(row.line, "the second", row.text("The second")?, written_in_words(written))
 }
 
 /// How many examples there are. `load` is one that leads to every state.
@@ -107,5 +137,7 @@ pub fn check(page: &Page, load: &Call) -> Checked<usize> {
         ranges.check_ends(fresh)?;
         examples.iter().try_for_each(|row| ranges.check_example(row, fresh.clone()))?;
     }
-    Ok(examples.len())
+    let kept = page.table("Packet 61", "Between two equal requests")?;
+    kept.iter().try_for_each(|row| check_between(row, engines[usize::from(EG)].clone(), load))?;
+    Ok(examples.len() + kept.len())
 }
