@@ -21,6 +21,8 @@ procedure Example is
    function "&" (Text : String; N : Unsigned_32) return String is (Text & size_t (N));
    function "&" (Text : String; N : Unsigned_16) return String is (Text & size_t (N));
    function "&" (Text : String; N : Unsigned_8) return String is (Text & size_t (N));
+   --  An INT16 that is handed over as its unsigned 16 bits.
+   function Signed (N : Unsigned_16) return String is (if N < 2**15 then "" & N else "-" & (-N));
    Symbols : constant String := "0123456789ABCDEF";
    function Hex (N : Unsigned_32; Width : Natural) return String is
      (if Width = 0 then "" else Hex (N / 16, Width - 1) & Symbols (Natural (N mod 16) + 1));
@@ -42,6 +44,9 @@ procedure Example is
          when Packet_Jp_Received =>
             Put_Line (": nidc " & P.Nidc & " atots " & P.Atots & " date " & P.Date & " seconds " & P.Seconds
                       & " counter " & P.Counter & " status " & P.Status);
+         when Packet_Traction_Brake =>
+            Put_Line (": trabrrq " & P.M_Ato_Trabrrq & " locobrrq " & P.M_Ato_Locobrrq & " suptb " & P.Q_Ato_Suptb
+                      & " rtbrq " & Signed (P.M_Ato_Rtbrq));
          when others =>
             Put_Line (": state " & P.State & " conditions " & Hex (Unsigned_32 (P.Conditions), 3));
       end case;
@@ -73,6 +78,14 @@ procedure Example is
       Call ((Kind_Position_Report, 0, 17, 0, 0, 16#01#, 16#F4#, 0, Byte (Offset / 65_536), Byte (Offset / 256),
              Byte (Offset), 0, Speed));
    end Position;
+
+   --  A request from -100 to 100, in two's complement; with it M_ATO_TraBrRq 20, M_ATO_LocoBrRq 0, Q_ATO_SupTB 1 and
+   --  M_ATO_RTBRq -2.
+   procedure Traction (Request : Integer_8) is
+      Byte : constant Unsigned_8 := Unsigned_8'Mod (Request);
+   begin
+      Call ((Kind_Traction, Byte, 20, 0, 1, 16#FF#, 16#FE#));
+   end Traction;
 
    procedure Show is
       S : constant Shown := Show (E);
@@ -113,6 +126,12 @@ begin
    Call ((Kind_Reports, 31));
    Call ((1 => Kind_Configured));         --  P8
    Show;
+   Call ((1 => Kind_Press));
+   Call ((Kind_Mode, Mode_AD));           --  engaged
+   Traction (20);                         --  the first request: packet 61, range 1
+   Traction (-27);                        --  still range 1: no packet
+   Traction (-28);                        --  range 2: packet 61
+   Call ((Kind_Mode, Mode_Other));
    Position (39_900, 0);                  --  P7: the stop is reached
    Show;
    Position (39_900, 50);                 --  departed

@@ -25,6 +25,9 @@ static void show_packet(const uint8_t *bytes, size_t n) {
     else if (p.kind == HOLLWERN_PACKET_JP_RECEIVED)
         printf(" nidc %u atots %u date %u seconds %u counter %u status %u\n", p.nidc, p.atots, p.date, p.seconds,
                p.counter, p.status);
+    else if (p.kind == HOLLWERN_PACKET_TRACTION_BRAKE)
+        printf(" trabrrq %u locobrrq %u suptb %u rtbrq %d\n", p.m_ato_trabrrq, p.m_ato_locobrrq, p.q_ato_suptb,
+               (int16_t)p.m_ato_rtbrq);
     else
         printf(" state %u conditions %03X\n", p.state, p.conditions);
 }
@@ -52,6 +55,13 @@ static void position(uint32_t offset, uint8_t speed) {
     call(event, sizeof event);
 }
 
+/* A request from -100 to 100, in two's complement; with it M_ATO_TraBrRq 20, M_ATO_LocoBrRq 0, Q_ATO_SupTB 1 and
+ * M_ATO_RTBRq -2. */
+static void traction(int8_t request) {
+    const uint8_t event[] = {HOLLWERN_KIND_TRACTION, (uint8_t)request, 20, 0, 1, 0xFF, 0xFE};
+    call(event, sizeof event);
+}
+
 static void show(void) {
     hollwern_shown s = hollwern_show(&engine);
     printf("state %u request %u conditions %03X points", s.state, s.request, s.conditions);
@@ -75,6 +85,8 @@ static void damaged_packets(void) {
 
 int main(void) {
     const uint8_t all_reports[] = {HOLLWERN_KIND_REPORTS, 31};
+    const uint8_t mode_ad[] = {HOLLWERN_KIND_MODE, HOLLWERN_MODE_AD};
+    const uint8_t mode_other[] = {HOLLWERN_KIND_MODE, HOLLWERN_MODE_OTHER};
     if (hollwern_version() != HOLLWERN_VERSION) {
         fprintf(stderr, "example: header and libhollwern.a are of different versions\n");
         return 1;
@@ -87,6 +99,12 @@ int main(void) {
     call(all_reports, sizeof all_reports);
     call_kind(HOLLWERN_KIND_CONFIGURED); /* P8 */
     show();
+    call_kind(HOLLWERN_KIND_PRESS);
+    call(mode_ad, sizeof mode_ad); /* engaged */
+    traction(20);                  /* the first request: packet 61, range 1 */
+    traction(-27);                 /* still range 1: no packet */
+    traction(-28);                 /* range 2: packet 61 */
+    call(mode_other, sizeof mode_other);
     position(39900, 0); /* P7: the stop is reached */
     show();
     position(39900, 50); /* departed */

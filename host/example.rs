@@ -31,6 +31,10 @@ fn show_packet(bytes: &[u8]) {
             print!(" nidc {} atots {} date {} seconds {}", p.nidc, p.atots, p.date, p.seconds);
             println!(" counter {} status {}", p.counter, p.status)
         }
+        PACKET_TRACTION_BRAKE => {
+            print!(" trabrrq {} locobrrq {} suptb {}", p.m_ato_trabrrq, p.m_ato_locobrrq, p.q_ato_suptb);
+            println!(" rtbrq {}", p.m_ato_rtbrq as i16)
+        }
         _ => println!(" state {} conditions {:03X}", p.state, p.conditions),
     }
 }
@@ -52,6 +56,12 @@ fn call(e: &mut Engine, event: &[u8]) {
 fn position(e: &mut Engine, offset: u32, speed: u16) {
     let event = [KIND_POSITION_REPORT, 0, 17, 0, 0, 0x01, 0xF4];
     call(e, &[&event[..], &offset.to_be_bytes(), &speed.to_be_bytes()].concat());
+}
+
+/// A request from -100 to 100, in two's complement; with it M_ATO_TraBrRq 20, M_ATO_LocoBrRq 0, Q_ATO_SupTB 1 and
+/// M_ATO_RTBRq -2.
+fn traction(e: &mut Engine, request: i8) {
+    call(e, &[KIND_TRACTION, request as u8, 20, 0, 1, 0xFF, 0xFE]);
 }
 
 fn show(e: &Engine) {
@@ -89,6 +99,12 @@ fn main() {
     call(&mut e, &[KIND_REPORTS, 31]);
     call(&mut e, &[KIND_CONFIGURED]); // P8
     show(&e);
+    call(&mut e, &[KIND_PRESS]);
+    call(&mut e, &[KIND_MODE, MODE_AD]); // engaged
+    traction(&mut e, 20); // the first request: packet 61, range 1
+    traction(&mut e, -27); // still range 1: no packet
+    traction(&mut e, -28); // range 2: packet 61
+    call(&mut e, &[KIND_MODE, MODE_OTHER]);
     position(&mut e, 39_900, 0); // P7: the stop is reached
     show(&e);
     position(&mut e, 39_900, 50); // departed

@@ -9,12 +9,12 @@ private with System;
 package Hollwern is
    --  The version of these declarations; Linked_Version tells that of the archive. They must be equal.
    Version_Major : constant := 1;
-   Version_Minor : constant := 0;
+   Version_Minor : constant := 1;
    Version_Patch : constant := 0;
    Version : constant := Version_Major * 65_536 + Version_Minor * 256 + Version_Patch;
 
    --  Bytes of an engine.
-   Engine_Size : constant := 3_456;
+   Engine_Size : constant := 3_460;
    --  No event writes more bytes than this.
    Bytes_Most : constant := 1_669;
    --  The most points of a journey.
@@ -50,6 +50,7 @@ package Hollwern is
    Kind_Load : constant := 11;
    Kind_Skip : constant := 12;
    Kind_Revoke : constant := 13;
+   Kind_Traction : constant := 14;
 
    --  Kind 5: bits of the reports.
    Report_Etcs : constant := 1;
@@ -122,6 +123,7 @@ package Hollwern is
    Standing_Passed : constant := 3;
 
    --  Packets: the first byte of each.
+   Packet_Traction_Brake : constant := 61;
    Packet_Timing_Point : constant := 62;
    Packet_Jp_Received : constant := 65;
    Packet_Ato_Status : constant := 68;
@@ -188,8 +190,8 @@ package Hollwern is
       Operational : Unsigned_32;
    end record with Convention => C_Pass_By_Copy, Object_Size => 8 * 20;
 
-   --  Where accepted: Number 0, Kind the packet's number, Size its bytes, the header and the fields that the kind has.
-   --  Where refused: Number. All else is 0.
+   --  Where accepted: Number 0, Kind the packet's number, Size its bytes, the header and the fields that the kind has;
+   --  M_ATO_RTBRq, an INT16, as its unsigned 16 bits. Where refused: Number. All else is 0.
    type Packet_Fields is record
       Accepted : C_bool;
       Number : Unsigned_8;
@@ -208,7 +210,11 @@ package Hollwern is
       Counter : Unsigned_8;
       State : Unsigned_8;
       Conditions : Unsigned_16;
-   end record with Convention => C_Pass_By_Copy, Object_Size => 8 * 64;
+      M_Ato_Trabrrq : Unsigned_8;
+      M_Ato_Locobrrq : Unsigned_8;
+      Q_Ato_Suptb : Unsigned_8;
+      M_Ato_Rtbrq : Unsigned_16;
+   end record with Convention => C_Pass_By_Copy, Object_Size => 8 * 72;
 
    --  The version of the archive, to be compared with Version.
    function Linked_Version return Unsigned_32

@@ -37,12 +37,12 @@
 
 /* The version of these declarations; hollwern_version tells that of the archive. They must be equal. */
 #define HOLLWERN_VERSION_MAJOR 1
-#define HOLLWERN_VERSION_MINOR 0
+#define HOLLWERN_VERSION_MINOR 1
 #define HOLLWERN_VERSION_PATCH 0
 #define HOLLWERN_VERSION (HOLLWERN_VERSION_MAJOR * 65536 + HOLLWERN_VERSION_MINOR * 256 + HOLLWERN_VERSION_PATCH)
 
 /* Bytes of an engine; its alignment is 4. */
-#define HOLLWERN_ENGINE_SIZE 3456
+#define HOLLWERN_ENGINE_SIZE 3460
 /* No event writes more bytes than this. */
 #define HOLLWERN_BYTES_MOST 1669
 /* The most points and segments of a journey, records of a book, points and zones of a record; and so the most bytes of
@@ -75,6 +75,7 @@
 #define HOLLWERN_KIND_LOAD 11
 #define HOLLWERN_KIND_SKIP 12
 #define HOLLWERN_KIND_REVOKE 13
+#define HOLLWERN_KIND_TRACTION 14 /* its first field is signed: the request, -100 to 100 */
 
 /* Kind 5: bits of the reports. */
 #define HOLLWERN_REPORT_ETCS 1
@@ -146,6 +147,7 @@
 #define HOLLWERN_STANDING_PASSED 3
 
 /* Packets: the first byte of each. */
+#define HOLLWERN_PACKET_TRACTION_BRAKE 61
 #define HOLLWERN_PACKET_TIMING_POINT 62
 #define HOLLWERN_PACKET_JP_RECEIVED 65
 #define HOLLWERN_PACKET_ATO_STATUS 68
@@ -174,8 +176,8 @@
 #define HOLLWERN_REFUSED_NO_STOP 14        /* skip or revocation: no stop of that name */
 #define HOLLWERN_REFUSED_SKIP 15           /* point reached or passed; skip given already, or none to revoke */
 #define HOLLWERN_REFUSED_OUTPUT 16         /* `out` shorter than the event's packets */
-#define HOLLWERN_REFUSED_PACKET_LENGTH 17  /* empty, or 62, 65 or 68 of wrong length */
-#define HOLLWERN_REFUSED_PACKET_NUMBER 18  /* another number than 62, 65 and 68 */
+#define HOLLWERN_REFUSED_PACKET_LENGTH 17  /* empty, or 61, 62, 65 or 68 of wrong length */
+#define HOLLWERN_REFUSED_PACKET_NUMBER 18  /* another number than 61, 62, 65 and 68 */
 #define HOLLWERN_REFUSED_PACKET_RANGE 19   /* field of the packet out of its range */
 
 /* An engine. Only the calls below look inside. */
@@ -215,6 +217,7 @@ typedef struct hollwern_header {
  * - 62: nidc, nidtp, q_eoj_reached (0 once the End of Journey is reached or passed), alignment, status, stopping data;
  * - 65: nidc, atots, date, seconds, counter, status;
  * - 68: state, conditions;
+ * - 61: m_ato_trabrrq, m_ato_locobrrq, q_ato_suptb, and m_ato_rtbrq, an INT16, as its unsigned 16 bits;
  * all else 0. Refused: `number`, all else 0. */
 typedef struct hollwern_packet_fields {
     bool accepted;
@@ -234,6 +237,10 @@ typedef struct hollwern_packet_fields {
     uint8_t counter;
     uint8_t state;
     uint16_t conditions;
+    uint8_t m_ato_trabrrq;
+    uint8_t m_ato_locobrrq;
+    uint8_t q_ato_suptb;
+    uint16_t m_ato_rtbrq;
 } hollwern_packet_fields;
 
 #if defined(__cplusplus) && __cplusplus >= 201103L
@@ -249,7 +256,7 @@ HOLLWERN_ASSERT(answer, sizeof(hollwern_answer) == 16 && offsetof(hollwern_answe
 HOLLWERN_ASSERT(shown, sizeof(hollwern_shown) == 70 && offsetof(hollwern_shown, standings) == 5);
 HOLLWERN_ASSERT(header, sizeof(hollwern_header) == 20 && offsetof(hollwern_header, operational) == 16);
 HOLLWERN_ASSERT(packet_fields,
-                sizeof(hollwern_packet_fields) == 64 && offsetof(hollwern_packet_fields, conditions) == 58);
+                sizeof(hollwern_packet_fields) == 72 && offsetof(hollwern_packet_fields, m_ato_rtbrq) == 64);
 #undef HOLLWERN_ASSERT
 
 /* No pointer may be null: GCC and Clang warn where they see one. */

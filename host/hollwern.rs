@@ -10,12 +10,12 @@ compile_error!("hollwern.rs: libhollwern.a is for x86-64 Linux only");
 
 /// The version of these declarations; `version` tells that of the archive. They must be equal.
 pub const VERSION_MAJOR: u32 = 1;
-pub const VERSION_MINOR: u32 = 0;
+pub const VERSION_MINOR: u32 = 1;
 pub const VERSION_PATCH: u32 = 0;
 pub const VERSION: u32 = VERSION_MAJOR * 65_536 + VERSION_MINOR * 256 + VERSION_PATCH;
 
 /// Bytes of an engine.
-pub const ENGINE_SIZE: usize = 3_456;
+pub const ENGINE_SIZE: usize = 3_460;
 /// No event writes more bytes than this.
 pub const BYTES_MOST: usize = 1_669;
 /// The most points of a journey.
@@ -51,6 +51,7 @@ pub const KIND_LENGTH: u8 = 10;
 pub const KIND_LOAD: u8 = 11;
 pub const KIND_SKIP: u8 = 12;
 pub const KIND_REVOKE: u8 = 13;
+pub const KIND_TRACTION: u8 = 14;
 
 // Kind 5: bits of the reports.
 pub const REPORT_ETCS: u8 = 1;
@@ -123,6 +124,7 @@ pub const STANDING_REACHED: u8 = 2;
 pub const STANDING_PASSED: u8 = 3;
 
 // Packets: the first byte of each.
+pub const PACKET_TRACTION_BRAKE: u8 = 61;
 pub const PACKET_TIMING_POINT: u8 = 62;
 pub const PACKET_JP_RECEIVED: u8 = 65;
 pub const PACKET_ATO_STATUS: u8 = 68;
@@ -197,7 +199,7 @@ pub struct Header {
 }
 
 /// Where accepted: `number` 0, `kind` the packet's number, `size` its bytes, the header and the fields that the kind
-/// has. Where refused: `number`. All else is 0.
+/// has; M_ATO_RTBRq, an INT16, as its unsigned 16 bits. Where refused: `number`. All else is 0.
 #[repr(C)]
 #[derive(Clone, Copy, PartialEq, Eq, Debug, Default)]
 pub struct PacketFields {
@@ -218,6 +220,10 @@ pub struct PacketFields {
     pub counter: u8,
     pub state: u8,
     pub conditions: u16,
+    pub m_ato_trabrrq: u8,
+    pub m_ato_locobrrq: u8,
+    pub q_ato_suptb: u8,
+    pub m_ato_rtbrq: u16,
 }
 
 unsafe extern "C" {

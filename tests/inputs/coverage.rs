@@ -1,8 +1,8 @@
 //! Counts what the lists of calls bring up.
 
 use model::calls::Call;
-use model::engine::{Answer, Engine, EG};
-use model::events::{LOAD, POSITION_REPORT, UNDEFINED};
+use model::engine::{Answer, Engine, Traction, DE, EG, NP};
+use model::events::{LOAD, POSITION_REPORT, TRACTION, UNDEFINED};
 use model::packets::{split_packets, Content, Packet};
 use model::route::Segment;
 use model::words::STATES;
@@ -17,12 +17,19 @@ pub struct Coverage {
     numbers: BTreeMap<u8, usize>,
     packets: BTreeMap<String, usize>,
     moves: BTreeMap<(u8, u8), usize>,
+    /// Traction requests, also refused ones, by the state that they come in.
+    requests: BTreeMap<u8, usize>,
+    /// From the range that was remembered, if one was, to that of the request.
+    jumps: BTreeMap<(Option<u8>, u8), usize>,
     situations: BTreeMap<&'static str, usize>,
 }
 
 impl Coverage {
     pub fn count(&mut self, call: &Call, before: &Engine, after: &Engine, answer: Result<Answer, u8>, out: &[u8]) {
         self.calls += 1;
+        if call.event.first() == Some(&TRACTION) {
+            *self.requests.entry(before.now.state).or_default() += 1;
+        }
         match answer {
             Err(number) => *self.numbers.entry(number).or_default() += 1,
             Ok(Answer { state, bytes, .. }) => {
@@ -31,6 +38,7 @@ impl Coverage {
                 *self.moves.entry((before.now.state, state)).or_default() += 1;
                 split_packets(&out[..bytes]).iter().for_each(|packet| self.count_packet(packet));
                 self.count_situations(call.event[0], before, after);
+                self.count_traction(call.event[0], before, after, bytes);
             }
         }
     }
@@ -68,6 +76,30 @@ impl Coverage {
         note("reached stop held in EG", now.reached && now.state == EG);
     }
 
+    /// What is remembered of traction requests, and whether packet 61 is written: a request writes no other.
+    fn count_traction(&mut self, kind: u8, before: &Engine, after: &Engine, bytes: usize) {
+        let (was, now) = (&before.now, &after.now);
+        let (request, written) = (kind == TRACTION, bytes > 0);
+        if let (true, EG | DE, Some(traction)) = (request, was.state, now.traction) {
+            *self.jumps.entry((was.traction.map(|traction| traction.range), traction.range)).or_default() += 1;
+        }
+        let range = |traction: Option<Traction>| traction.map(|traction| traction.range);
+        let mut note = |name, holds: bool| *self.situations.entry(name).or_default() += usize::from(holds);
+        note("request written in EG", request && was.state == EG && written);
+        note("request written in DE", request && was.state == DE && written);
+        note("request in EG as remembered", request && was.state == EG && !written);
+        note("request in DE as remembered", request && was.state == DE && !written);
+        note(
+            "request elsewhere, one remembered",
+            request && was.state != EG && was.state != DE && was.traction.is_some(),
+        );
+        note("request with another SupTB alone", request && written && range(was.traction) == range(now.traction));
+        note("first request in DE", request && was.state == DE && was.traction.is_none());
+        note("request remembered from EG to DE", was.state == EG && now.state == DE && was.traction.is_some());
+        note("request forgotten at EG", was.state != EG && now.state == EG && was.traction.is_some());
+        note("request forgotten at power off", now.state == NP && was.traction.is_some());
+    }
+
     fn count_packet(&mut self, bytes: &[u8]) {
         let name = match Packet::read(bytes).map(|packet| packet.content) {
             Ok(Content::Point { status, .. }) => format!("62/{status}"),
@@ -89,6 +121,10 @@ impl Coverage {
             "state changes:      {}",
             list(moved.map(|(&(a, b), n)| format!("{}>{} {n}", name(a), name(b))).collect())
         );
+        println!("traction requests:  {}", list(self.requests.iter().map(state).collect()));
+        let from = |range: Option<u8>| range.map_or("none".into(), |range| range.to_string());
+        let jump = |(&(was, now), count): (&(Option<u8>, u8), &usize)| format!("{}>{now} {count}", from(was));
+        println!("ranges:             {}", list(self.jumps.iter().map(jump).collect()));
         println!("situations:         {}", list(self.situations.iter().map(|(k, n)| format!("{k}: {n};")).collect()));
     }
 }

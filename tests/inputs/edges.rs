@@ -8,6 +8,7 @@ use crate::trials::all_trials;
 use model::calls::Call;
 use model::engine::behind_front;
 use model::events::{LOAD, POSITION_REPORT, REVOKE, SKIP, UNDEFINED};
+use model::packets::TractionBrake;
 use model::values::JourneyPoint;
 
 /// Trials P1 to P8 of document 01.
@@ -315,6 +316,56 @@ fn false_turns(script: &mut Script) {
     script.start(Start::Engaged).at(95_000, 50).off();
 }
 
+/// Q-1's four numbers and the jumps over a range; then, from a request that one range alone holds, each border and one
+/// beside, in EG and in DE, with either sign.
+fn traction_ranges(script: &mut Script) {
+    script.start(Start::Engaged).traction(20, 0).traction(27, 0).traction(28, 0).traction(23, 0).traction(22, 0);
+    script.traction(75, 0).traction(98, 0).traction(75, 0).traction(80, 0).traction(92, 0).traction(25, 0).off();
+    for start in [Start::Engaged, Start::Disengaging] {
+        script.start(start);
+        for only in [0, 10, 50, 80, 98] {
+            for size in [0, 1, 22, 23, 27, 28, 72, 73, 77, 78, 90, 91, 95, 96, 100] {
+                script.traction(only, 0).traction(-size, 0).traction(-only, 0).traction(size, 0);
+            }
+        }
+        script.off();
+    }
+}
+
+/// The first request writes, whatever its range. Of the content only Q_ATO_SupTB counts, and all its bits; where it
+/// changes, the range is that of the request all the same.
+fn traction_content(script: &mut Script) {
+    for start in [Start::Engaged, Start::Disengaging] {
+        for request in [0, 10, 25, 50, 75, 80, 93, 98, 100, -100] {
+            script.start(start).traction(request, 0).traction(request, 0).off();
+        }
+        script.start(start).traction(50, 0);
+        for bit in 0..8 {
+            script.traction(50, 1 << bit).traction(-50, 1 << bit).traction(50, 255).traction(50, 255 ^ 1 << bit);
+        }
+        for (m_ato_trabrrq, m_ato_locobrrq, m_ato_rtbrq) in [(1, 0, 0), (0, 255, 0), (0, 0, 1), (255, 1, 65_535)] {
+            let content = TractionBrake { m_ato_trabrrq, m_ato_locobrrq, q_ato_suptb: 127, m_ato_rtbrq };
+            script.call(Call::traction(50, content));
+        }
+        script.traction(25, 127).traction(25, 128).traction(28, 128).traction(75, 0).traction(72, 0).off();
+    }
+}
+
+/// What was remembered is kept into DE and out of it, and forgotten where EG is entered and at power off. What comes in
+/// other states is not remembered, also with a press pending.
+fn traction_memory(script: &mut Script) {
+    for start in STARTS {
+        script.start(start).traction(75, 1).traction(-100, 1).traction(0, 2).mode(1).traction(75, 2);
+        script.traction(75, 2).at(20_000, 3).traction(75, 2).reports(15).traction(75, 2).lever(1).traction(80, 2).off();
+    }
+    for leave in [Call::mode(0), Call::lever(2), Call::position(17, 500, 40_000, 0), Call::reports(15)] {
+        script.start(Start::Engaged).traction(98, 5).call(leave).traction(98, 5).traction(50, 6).mode(0).lever(0);
+        script.traction(98, 5).reports(31).traction(98, 7).press().traction(75, 5).mode(1).traction(75, 5);
+        script.traction(75, 5).call(Call::fault()).traction(75, 5).off();
+    }
+    script.start(Start::Engaged).traction(98, 5).load(&p_journey()).traction(93, 5).length(10).traction(93, 5).off();
+}
+
 /// What the player alone decides: a load of wrong length still brings its profiles; a call with no event.
 fn odd_input(script: &mut Script) {
     let good = p_journey().load();
@@ -324,7 +375,7 @@ fn odd_input(script: &mut Script) {
 
 pub fn all_edges() -> Vec<Call> {
     let mut script = Script::default();
-    let cases: [fn(&mut Script); 19] = [
+    let cases: [fn(&mut Script); 22] = [
         trials_p,
         kinds_in_states,
         pairs_of_events,
@@ -342,6 +393,9 @@ pub fn all_edges() -> Vec<Call> {
         power_cycles,
         speeds,
         false_turns,
+        traction_ranges,
+        traction_content,
+        traction_memory,
         odd_input,
         |script| script.calls.extend(all_trials().into_iter().map(|trial| trial.call)),
     ];

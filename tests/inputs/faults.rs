@@ -2,6 +2,7 @@
 
 use crate::profiles::Profiles;
 use model::calls::Call;
+use model::packets::TractionBrake;
 use model::values::{JourneyPoint, Record, RecordPoint};
 
 /// A fault with the number that refuses it. The `usize` picks the record or the point.
@@ -238,13 +239,14 @@ pub fn good_events() -> Vec<Vec<u8>> {
         Call::load(vec![], vec![]),
         Call::skip(100),
         Call::revoke(100),
+        Call::traction(-20, TractionBrake { m_ato_trabrrq: 1, m_ato_locobrrq: 2, q_ato_suptb: 3, m_ato_rtbrq: 0x0405 }),
     ];
     calls.map(|call| call.event).to_vec()
 }
 
 /// Events that 1 refuses: empty, unknown kinds, each kind a byte too short and too long.
 pub fn wrong_lengths() -> Vec<Vec<u8>> {
-    let mut events = vec![vec![], vec![0], vec![14], vec![16], vec![128], vec![255], vec![0; 13]];
+    let mut events = vec![vec![], vec![0], vec![15], vec![16], vec![128], vec![255], vec![0; 13]];
     for event in good_events() {
         events.push([&event[..], &[0]].concat());
         if event.len() > 1 {
@@ -263,5 +265,6 @@ pub fn wrong_ranges() -> Vec<Vec<u8>> {
     calls.extend([3, 4, 255].map(Call::lever));
     calls.extend([position(1024, 5), position(65_535, 5), position(17, 16_777_216), position(17, u32::MAX)]);
     calls.extend([0, 100_001, u32::MAX].map(Call::length));
+    calls.extend([101, 127, -101, -128].map(|request| Call::traction(request, TractionBrake::default())));
     calls.into_iter().map(|call| call.event).collect()
 }

@@ -7,12 +7,15 @@ use crate::random::Random;
 use model::calls::{Call, MEMORY};
 use model::engine::{behind_front, Engine, AV, CO, DE, EG, NA, NP, RE};
 use model::events::UNDEFINED;
+use model::packets::TractionBrake;
 
 struct Generator {
     random: Random,
     engine: Engine,
     /// The profiles of the last good load.
     profiles: Profiles,
+    /// How often a traction request comes in EG and DE, in percent.
+    requests: usize,
 }
 
 /// A list of calls from a fresh engine.
@@ -20,7 +23,8 @@ pub fn new_list(seed: u64) -> Vec<Call> {
     let mut random = Random(seed);
     let profiles = new_profiles(&mut random);
     let length = 20 + random.below(110);
-    let mut generator = Generator { random, engine: Engine::fresh(), profiles };
+    let requests = random.pick(&[5, 5, 10, 60]);
+    let mut generator = Generator { random, engine: Engine::fresh(), profiles, requests };
     (0..length).map(|_| generator.next_call()).collect()
 }
 
@@ -41,6 +45,9 @@ impl Generator {
         let now = self.engine.now;
         if now.skips != 0 && self.random.chance(8) {
             return self.revoke();
+        }
+        if matches!(now.state, EG | DE) && self.random.chance(self.requests) {
+            return self.traction();
         }
         match self.random.weighed(&[91, 4, 3, 2]) {
             0 => match now.state {
@@ -68,7 +75,7 @@ impl Generator {
     }
 
     fn any_call(&mut self) -> Call {
-        match self.random.weighed(&[1, 1, 1, 1, 3, 3, 4, 3, 6, 3, 6, 5, 5]) {
+        match self.random.weighed(&[1, 1, 1, 1, 3, 3, 4, 3, 6, 3, 6, 5, 5, 5]) {
             0 => Call::power_on(),
             1 => Call::configured(),
             2 => Call::power_off(),
@@ -81,7 +88,8 @@ impl Generator {
             9 => self.length(),
             10 => self.load(),
             11 => self.skip(),
-            _ => self.revoke(),
+            12 => self.revoke(),
+            _ => self.traction(),
         }
     }
 
@@ -170,6 +178,25 @@ impl Generator {
     fn length(&mut self) -> Call {
         let any = self.random.between(1, 40_000);
         Call::length(self.random.pick(&[1, 2, 3, 199, 200, 201, 20_000, 99_999, 100_000, any]))
+    }
+
+    /// Often at a border of a range or one beside, and with the Q_ATO_SupTB that is remembered, or one bit of it another.
+    fn traction(&mut self) -> Call {
+        let border = self.random.pick(&[0, 1, 22, 23, 27, 28, 72, 73, 77, 78, 90, 91, 95, 96, 100]);
+        let size = if self.random.chance(80) { border } else { self.random.between(0, 100) as i8 };
+        let request = if self.random.chance(50) { size } else { -size };
+        let any = self.random.next().to_be_bytes();
+        let request = if self.random.chance(2) { any[0] as i8 } else { request };
+        let remembered = self.engine.now.traction.map_or(0, |traction| traction.suptb);
+        let q_ato_suptb = match self.random.weighed(&[70, 20, 5, 5]) {
+            0 => remembered,
+            1 => remembered ^ 1 << self.random.below(8),
+            2 => 0,
+            _ => any[1],
+        };
+        let m_ato_rtbrq = u16::from_be_bytes([any[4], any[5]]);
+        let content = TractionBrake { m_ato_trabrrq: any[2], m_ato_locobrrq: any[3], q_ato_suptb, m_ato_rtbrq };
+        Call::traction(request, content)
     }
 
     fn skip(&mut self) -> Call {

@@ -1,7 +1,7 @@
 //! Trials of the reader and the writer of one packet: the input of `crates/packet_trials`, and the lines that the model
 //! answers. Each trial says which number it expects; `None` is accepted.
 
-use model::packets::{Content, Header, Packet, SIZE_62, SIZE_65, SIZE_68};
+use model::packets::{Content, Header, Packet, TractionBrake, SIZE_61, SIZE_62, SIZE_65, SIZE_68};
 use model::words::hex;
 
 enum Tried {
@@ -64,6 +64,7 @@ fn values_in_bytes(packet: &Packet) -> Vec<u8> {
             (65, [&numbers[..], &seconds.to_be_bytes(), &[counter, status]].concat())
         }
         Content::State { state, conditions } => (68, [&[state][..], &conditions.to_be_bytes()].concat()),
+        Content::Traction(content) => (61, content.bytes().to_vec()),
     };
     [&[number][..], &header, &content].concat()
 }
@@ -80,6 +81,10 @@ fn values_in_words(packet: &Packet) -> String {
             format!("65 {header} {nidc} {atots} {date} {seconds} {counter} {status}")
         }
         Content::State { state, conditions } => format!("68 {header} {state} {conditions}"),
+        Content::Traction(content) => {
+            let TractionBrake { m_ato_trabrrq, m_ato_locobrrq, q_ato_suptb, m_ato_rtbrq } = content;
+            format!("61 {header} {m_ato_trabrrq} {m_ato_locobrrq} {q_ato_suptb} {m_ato_rtbrq}")
+        }
     }
 }
 
@@ -143,6 +148,25 @@ fn received(nidc: u16, atots: u16, date: u16, status: u8) -> Packet {
     Packet { header: NO_HEADER, content }
 }
 
+/// M_ATO_TraBrRq, M_ATO_LocoBrRq, Q_ATO_SupTB and M_ATO_RTBRq.
+fn traction(header: Header, bytes: [u8; 3], m_ato_rtbrq: u16) -> Packet {
+    let [m_ato_trabrrq, m_ato_locobrrq, q_ato_suptb] = bytes;
+    let content = TractionBrake { m_ato_trabrrq, m_ato_locobrrq, q_ato_suptb, m_ato_rtbrq };
+    Packet { header, content: Content::Traction(content) }
+}
+
+/// Each field of 61 another: 0102030405.
+fn requested() -> Packet {
+    let header = Header { nidc: 17, nidsp: 500, offset: 39_900, speed: 0, operational: u32::MAX };
+    traction(header, [1, 2, 3], 0x0405)
+}
+
+/// Each field of 61 at its end.
+fn most_requested() -> Packet {
+    let header = Header { nidc: 1023, nidsp: u32::MAX, offset: 16_777_215, speed: 65_535, operational: u32::MAX };
+    traction(header, [255, 255, 255], 65_535)
+}
+
 /// "Input 00 01 01 prints .. 4400000000000000FFFFFF0000FFFFFFFF0801."
 fn power_on() -> Packet {
     let header = Header { offset: 16_777_215, operational: u32::MAX, ..NO_HEADER };
@@ -184,6 +208,8 @@ fn written() -> Vec<PacketTrial> {
         whole("65 at its ends", received(1024, 16_384, 32_767, 0)),
         // 7 + 16 × 511 is 1FF7
         whole("68 at its ends", state(7, 511)),
+        whole("61", requested()),
+        whole("61 at its ends", most_requested()),
     ]
 }
 
@@ -197,11 +223,13 @@ fn appended() -> Vec<PacketTrial> {
     vec![append("P7 behind power on", 45, None), append("P7 with one byte less than it needs", 43, Some(16))]
 }
 
-/// 16: one byte less than the packet has, and far less.
+/// 16: one byte less than the packet has, and far less; not with just enough.
 fn no_room() -> Vec<PacketTrial> {
     vec![
         write("68 into 18 bytes", power_on(), SIZE_68 - 1, Some(16)),
         write("62 into 4 bytes", stopped(), 4, Some(16)),
+        write("61 into 21 bytes", requested(), SIZE_61 - 1, Some(16)),
+        write("61 into 22 bytes", requested(), SIZE_61, None),
     ]
 }
 
@@ -224,6 +252,8 @@ fn out_of_range() -> Vec<PacketTrial> {
         beyond("offset 16777216", headed(0, 16_777_216)),
         beyond("68 state 8", state(8, 0)),
         beyond("68 conditions 512", state(0, 512)),
+        beyond("61 header NID_C 1024", traction(Header { nidc: 1024, ..NO_HEADER }, [0; 3], 0)),
+        beyond("61 offset 16777216", traction(Header { offset: 16_777_216, ..NO_HEADER }, [0; 3], 0)),
     ]
 }
 
@@ -246,6 +276,8 @@ fn read_back() -> Vec<PacketTrial> {
         back("62 at its ends", greatest()),
         back("65 at its ends", received(1024, 16_384, 32_767, 0)),
         back("68 at its ends", state(7, 511)),
+        back("61", requested()),
+        back("61 at its ends", most_requested()),
     ]
 }
 
@@ -256,7 +288,7 @@ fn zeros(number: u8, count: usize) -> Vec<u8> {
     bytes
 }
 
-/// 17: empty, or for 62, 65, 68 not 25, 29, 19 bytes. 18: another number, whatever the length.
+/// 17: empty, or for 61, 62, 65, 68 not 22, 25, 29, 19 bytes. 18: another number, whatever the length.
 fn lengths_and_numbers() -> Vec<PacketTrial> {
     let sized = |name, number, count, expected| read(name, zeros(number, count), Some(expected));
     vec![
@@ -267,8 +299,11 @@ fn lengths_and_numbers() -> Vec<PacketTrial> {
         sized("65 of 30 bytes", 65, 30, 17),
         sized("68 of 18 bytes", 68, 18, 17),
         sized("68 of 20 bytes", 68, 20, 17),
+        sized("61 alone", 61, 1, 17),
+        sized("61 of 21 bytes", 61, 21, 17),
+        sized("61 of 23 bytes", 61, 23, 17),
         sized("0 alone", 0, 1, 18),
-        sized("61 of 22 bytes", 61, 22, 18),
+        sized("60 of 22 bytes", 60, 22, 18),
         sized("63 of 25 bytes", 63, 25, 18),
         sized("67 of 19 bytes", 67, 19, 18),
         sized("255 of 29 bytes", 255, 29, 18),
@@ -325,8 +360,22 @@ fn alter68() -> Vec<PacketTrial> {
     ]
 }
 
+/// The content, from 17 on, is free.
+fn alter61() -> Vec<PacketTrial> {
+    let zero = zeros(61, SIZE_61);
+    vec![
+        altered("61 header NID_C 1024", &zero, 1, 0x04, Some(19)),
+        altered("61 offset 16777216", &zero, 7, 0x01, Some(19)),
+        altered("61 M_ATO_TraBrRq 255", &zero, 17, 0xFF, None),
+        altered("61 M_ATO_LocoBrRq 255", &zero, 18, 0xFF, None),
+        altered("61 Q_ATO_SupTB 255", &zero, 19, 0xFF, None),
+        altered("61 M_ATO_RTBRq 65280", &zero, 20, 0xFF, None),
+        altered("61 M_ATO_RTBRq 255", &zero, 21, 0xFF, None),
+    ]
+}
+
 pub fn packet_trials() -> Vec<PacketTrial> {
     let writer = [written(), appended(), no_room(), out_of_range()];
-    let reader = [read_back(), lengths_and_numbers(), alter62(), alter65(), alter68()];
+    let reader = [read_back(), lengths_and_numbers(), alter62(), alter65(), alter68(), alter61()];
     writer.into_iter().chain(reader).flatten().collect()
 }

@@ -3,6 +3,7 @@
 use crate::profiles::Profiles;
 use crate::sizes::{largest, point_name, profiles, reversed, segment};
 use model::calls::Call;
+use model::packets::TractionBrake;
 
 pub struct Row {
     pub name: &'static str,
@@ -30,6 +31,16 @@ pub fn ready(profiles: &Profiles, k: usize) -> Vec<Call> {
     [on(), calls.to_vec()].concat()
 }
 
+/// Engaged there.
+pub fn engaged(profiles: &Profiles, k: usize) -> Vec<Call> {
+    [ready(profiles, k), vec![Call::press(), Call::mode(1)]].concat()
+}
+
+/// A traction request, which writes packet 61 where it is the first since EG was entered.
+pub fn traction() -> Call {
+    Call::traction(50, TractionBrake::default())
+}
+
 fn bounded(name: &'static str, before: &[Call], call: Call, most: usize) -> Row {
     Row { name, before: before.to_vec(), call, most: Some(most) }
 }
@@ -52,6 +63,7 @@ pub fn rows() -> Vec<Row> {
         bounded("lever", &first, Call::lever(2), 2),
         bounded("press", &first, Call::press(), 2),
         bounded("train length", &first, Call::length(30), 2),
+        bounded("traction request", &engaged(&largest, 0), traction(), 2),
         bounded("report that passes 64 points", &first, at(39, 9_000, 100), 3),
         bounded("power off", &first, Call::power_off(), 5),
     ];

@@ -3,6 +3,7 @@
 use crate::profiles::{p_journey, Profiles};
 use model::calls::Call;
 use model::events::UNDEFINED;
+use model::packets::TractionBrake;
 
 #[derive(Default)]
 pub struct Script {
@@ -88,6 +89,12 @@ impl Script {
     /// On segment (17, 500).
     pub fn at(&mut self, offset: u32, speed: u16) -> &mut Script {
         self.position(17, 500, offset, speed)
+    }
+
+    /// A request with this Q_ATO_SupTB, its size as M_ATO_TraBrRq.
+    pub fn traction(&mut self, request: i8, q_ato_suptb: u8) -> &mut Script {
+        let content = TractionBrake { m_ato_trabrrq: request.unsigned_abs(), q_ato_suptb, ..TractionBrake::default() };
+        self.call(Call::traction(request, content))
     }
 
     /// Offset undefined, standing.

@@ -4,6 +4,7 @@
 use crate::faults::{good_events, wrong_lengths, wrong_ranges, Fault, BOOK_FAULTS, JOURNEY_FAULTS};
 use crate::profiles::{base, greatest_values, record, Profiles};
 use model::calls::Call;
+use model::packets::TractionBrake;
 use model::values::{JourneyPoint, Record, RecordPoint};
 
 pub struct Trial {
@@ -227,6 +228,10 @@ pub fn all_trials() -> Vec<Trial> {
     trials.push(trial("kind 1 in CO", Call::power_on(), Some(4)));
     trials.push(trial("press in CO", Call::press(), Some(6)));
     trials.push(trial("load a byte too long, profiles good", longer, Some(1)));
+    let content = TractionBrake { m_ato_trabrrq: 255, m_ato_locobrrq: 255, q_ato_suptb: 255, m_ato_rtbrq: 65_535 };
+    for request in [-100, 100] {
+        trials.push(trial(format!("request {request}, greatest content"), Call::traction(request, content), None));
+    }
     trials.extend(load_trials());
     trials.push(trial("fault", Call::fault(), None));
     trials.extend(event_trials());

@@ -1,9 +1,9 @@
 //! The player's input as a list of calls, and the player's lines for an answer, written and read.
 
 use crate::engine::{Answer, Engine};
-use crate::events::{LOAD, POSITION_REPORT, REVOKE, SKIP};
+use crate::events::{LOAD, POSITION_REPORT, REVOKE, SKIP, TRACTION};
 use crate::numbers::Numbers;
-use crate::packets::split_packets;
+use crate::packets::{split_packets, TractionBrake};
 use crate::words::{hex, STATES};
 
 /// Bytes of output memory that the player lends.
@@ -78,6 +78,10 @@ impl Call {
 
     pub fn revoke(nidtp: u32) -> Call {
         Call::with_number(REVOKE, nidtp)
+    }
+
+    pub fn traction(request: i8, content: TractionBrake) -> Call {
+        Call::of([&[TRACTION][..], &request.to_be_bytes(), &content.bytes()].concat())
     }
 
     /// A load of wrong length still brings its profiles.

@@ -1,6 +1,6 @@
 //! The model with every check around each call: refusals change nothing and have a reason, memory behind the packets is
-//! kept, too short memory is 16, the packets read back, the literal rules agree, and what was told since the load tells
-//! where each point stands.
+//! kept, too short memory is 16, the packets read back and stand in order, the literal rules agree, and what was told
+//! since the load tells where each point stands.
 
 use crate::calls::{Call, MEMORY};
 use crate::engine::{Answer, Engine};
@@ -9,6 +9,9 @@ use crate::packets::{split_packets, Content, Packet};
 use crate::reasons::{reason, ByPlace};
 use crate::rules::Rules;
 use crate::told::Told;
+
+/// The packets of a call, by their numbers: only 62 stands there more than once.
+const ORDER: [u8; 4] = [65, 62, 61, 68];
 
 pub struct Checked {
     pub engine: Engine,
@@ -41,6 +44,7 @@ impl Checked {
                 }
                 self.rules.accept(call);
                 self.check_packets(bytes)?;
+                self.rules.check_packets(call, &split_packets(&self.out[..bytes]))?;
                 let event = read_event(&call.event).map_err(|_| "an event that is not read was accepted")?;
                 self.told.accept(event, &split_packets(&self.out[..bytes]), &self.engine);
                 let step = |engine: &mut Engine, out: &mut [u8]| engine.call(call, out);
@@ -56,6 +60,11 @@ impl Checked {
         let packets = split_packets(&self.out[..bytes]);
         if packets.iter().map(|packet| packet.len()).sum::<usize>() != bytes {
             return Err("bytes written are not packets".into());
+        }
+        let place = |packet: &[u8]| ORDER.iter().position(|&number| number == packet[0]);
+        let follows = |pair: &[&[u8]]| place(pair[0]) < place(pair[1]) || pair[0][0] == 62 && pair[1][0] == 62;
+        if !packets.windows(2).all(follows) {
+            return Err("the packets are not in their order".into());
         }
         for bytes in packets {
             let packet = Packet::read(bytes).map_err(|number| format!("own packet refused by {number}"))?;

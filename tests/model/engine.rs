@@ -2,7 +2,7 @@
 
 use crate::calls::Call;
 use crate::events::{read_event, Event, Position, UNDEFINED};
-use crate::packets::{Content, Header, Packet, SIZE_62, SIZE_65, SIZE_68};
+use crate::packets::{Content, Header, Packet, TractionBrake, SIZE_61, SIZE_62, SIZE_65, SIZE_68};
 use crate::route::{Book, Point, Route, Stamp};
 use std::cmp::Ordering;
 
@@ -19,6 +19,9 @@ const AD: u8 = 1;
 const NEUTRAL: u8 = 0;
 const BRAKE: u8 = 2;
 const ALL_NINE: u16 = 0x1FF;
+
+/// what each range holds of a request's size without sign, both ends inside.
+const RANGES: [(u8, u8); 5] = [(0, 0), (1, 27), (23, 77), (73, 95), (91, 100)];
 
 /// Where a point stands, numbered as the C interface shows it.
 #[derive(Clone, Copy, PartialEq, Eq, Debug)]
@@ -59,6 +62,14 @@ pub struct Now {
     /// A bit for each point that the driver skips.
     pub skips: u64,
     pub conditions: u16,
+    /// Range and Q_ATO_SupTB of the last request made in EG or DE, until EG is entered.
+    pub traction: Option<Traction>,
+}
+
+#[derive(Clone, Copy, PartialEq, Eq, Debug)]
+pub struct Traction {
+    pub range: u8,
+    pub suptb: u8,
 }
 
 const FRESH: Now = Now {
@@ -78,7 +89,22 @@ const FRESH: Now = Now {
     reached: false,
     skips: 0,
     conditions: 0x080,
+    traction: None,
 };
+
+fn range_holds(range: u8, size: u8) -> bool {
+    let (low, high) = RANGES[usize::from(range)];
+    low <= size && size <= high
+}
+
+/// The range of a request: it stays in the one it had while that holds it, else takes the lowest that does.
+fn range_of(request: i8, had: Option<u8>) -> u8 {
+    let size = request.unsigned_abs();
+    match had {
+        Some(range) if range_holds(range, size) => range,
+        _ => (0..5).find(|&range| range_holds(range, size)).expect("a request from -100 to 100"),
+    }
+}
 
 /// How far behind the train's front the alignment lies: front, middle or rear.
 pub fn behind_front(length: u32, alignment: u8) -> u32 {
@@ -106,6 +132,7 @@ enum Changes {
         status: u8,
     },
     Load(Stamp),
+    Traction(TractionBrake),
 }
 
 impl Changes {
@@ -119,6 +146,7 @@ impl Changes {
             Changes::Report { from, to, reached, .. } => SIZE_62 * (usize::from(to - from) + usize::from(reached)),
             Changes::Driver { .. } => SIZE_62,
             Changes::Load(_) => SIZE_65,
+            Changes::Traction(_) => SIZE_61,
         }
     }
 }
@@ -201,6 +229,7 @@ impl Now {
             Event::Report(position, speed) => return self.report(position, speed, route),
             Event::Skip(nidtp) => return self.skip(nidtp, route, true),
             Event::Revoke(nidtp) => return self.skip(nidtp, route, false),
+            Event::Traction(request, content) => return Ok(self.request_traction(request, content)),
             Event::PowerOn | Event::Configured | Event::Fault | Event::Load => {}
         }
         Ok(Changes::None)
@@ -310,10 +339,31 @@ impl Now {
         Ok(Changes::Driver { point: k, status: if give { 5 } else { 6 } })
     }
 
+    /// A traction request, in the state that it comes in. In EG and DE it is remembered, and told where that changes
+    /// what was; in other states it changes nothing.
+    fn request_traction(&mut self, request: i8, content: TractionBrake) -> Changes {
+        if self.state != EG && self.state != DE {
+            return Changes::None;
+        }
+        let range = range_of(request, self.traction.map(|traction| traction.range));
+        let now = Some(Traction { range, suptb: content.q_ato_suptb });
+        let changed = self.traction != now;
+        self.traction = now;
+        if changed {
+            Changes::Traction(content)
+        } else {
+            Changes::None
+        }
+    }
+
     /// Conditions, state, press and request after an accepted event.
     fn settle(&mut self, event: Event, route: &Route, point_reached: bool) {
         self.conditions = self.nine_conditions(route);
+        let before = self.state;
         self.move_state(event, point_reached);
+        if before != EG && self.state == EG {
+            self.traction = None;
+        }
         let wanted = match self.state {
             RE | EG | DE => true,
             AV => self.mode == AD && self.lever == NEUTRAL,
@@ -398,6 +448,9 @@ fn finish(before: &Now, now: &Now, route: &Route, changes: Changes, out: &mut [u
         put(load_content(now, route, stamp));
     }
     put_points(now, route, changes, &mut put);
+    if let Changes::Traction(content) = changes {
+        put(Content::Traction(content));
+    }
     if tells_state {
         put(Content::State { state: now.state, conditions: now.conditions });
     }
@@ -423,7 +476,7 @@ fn put_points(now: &Now, route: &Route, changes: Changes, put: &mut impl FnMut(C
             }
         }
         Changes::Driver { point, status } => put(point_content(route, point, now.end_not_reached(route), status)),
-        Changes::None | Changes::Load(_) => {}
+        Changes::None | Changes::Load(_) | Changes::Traction(_) => {}
     }
 }
 

@@ -1,6 +1,7 @@
-//! Document 01, "Events": one byte kind, then its fields.
+//! Document 01, "Events": one byte kind, then its fields. Kind 14: document 02, Q-1.
 
 use crate::numbers::{within, Numbers};
+use crate::packets::TractionBrake;
 
 pub const UNDEFINED: u32 = 16_777_215;
 
@@ -9,6 +10,7 @@ pub const POSITION_REPORT: u8 = 9;
 pub const LOAD: u8 = 11;
 pub const SKIP: u8 = 12;
 pub const REVOKE: u8 = 13;
+pub const TRACTION: u8 = 14;
 
 #[derive(Clone, Copy, PartialEq, Eq, Debug)]
 pub struct Position {
@@ -32,6 +34,8 @@ pub enum Event {
     Load,
     Skip(u32),
     Revoke(u32),
+    /// The request, and the content of packet 61.
+    Traction(i8, TractionBrake),
 }
 
 /// Numbers 1 and 2.
@@ -42,6 +46,7 @@ pub fn read_event(bytes: &[u8]) -> Result<Event, u8> {
         5..=7 => 1,
         POSITION_REPORT => 12,
         10 | SKIP | REVOKE => 4,
+        TRACTION => 6,
         _ => return Err(1),
     };
     if fields.len() != size {
@@ -70,6 +75,7 @@ fn read_fields(kind: u8, mut fields: Numbers) -> Option<Event> {
         10 => Event::Length(within(fields.u32()?, 1, 100_000)?),
         LOAD => Event::Load,
         SKIP => Event::Skip(fields.u32()?),
-        _ => Event::Revoke(fields.u32()?),
+        REVOKE => Event::Revoke(fields.u32()?),
+        _ => Event::Traction(within(fields.i8()?, -100, 100)?, TractionBrake::read(&mut fields)?),
     })
 }

@@ -1,4 +1,4 @@
-//! Unsigned numbers, most significant byte first.
+//! Unsigned numbers, most significant byte first; one signed byte, in two's complement.
 
 /// Reads numbers from the front of a slice; `None` where it is too short.
 pub struct Numbers<'a>(pub &'a [u8]);
@@ -18,6 +18,10 @@ impl<'a> Numbers<'a> {
 
     pub fn u8(&mut self) -> Option<u8> {
         self.chunk::<1>().map(|b| b[0])
+    }
+
+    pub fn i8(&mut self) -> Option<i8> {
+        self.chunk().map(i8::from_be_bytes)
     }
 
     pub fn u16(&mut self) -> Option<u16> {

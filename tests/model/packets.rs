@@ -1,4 +1,4 @@
-//! Document 01, "Packets": 62, 65 and 68, written and read one at a time.
+//! Document 01, "Packets": 62, 65 and 68, and document 02's 61, written and read one at a time.
 
 use crate::numbers::{within, Numbers};
 
@@ -11,6 +11,16 @@ pub struct Header {
     pub operational: u32,
 }
 
+/// The content of packet 61, as SUBSET-140 lists it (Table 4): all of it is free. The last is an INT16 there, here its
+/// unsigned 16 bits.
+#[derive(Clone, Copy, PartialEq, Eq, Debug, Default)]
+pub struct TractionBrake {
+    pub m_ato_trabrrq: u8,
+    pub m_ato_locobrrq: u8,
+    pub q_ato_suptb: u8,
+    pub m_ato_rtbrq: u16,
+}
+
 #[derive(Clone, Copy, PartialEq, Eq, Debug)]
 pub enum Content {
     /// Packet 62. Q_EOJ_REACHED is 0 once the End of Journey is reached or passed.
@@ -19,6 +29,8 @@ pub enum Content {
     Load { nidc: u16, atots: u16, date: u16, seconds: u32, counter: u8, status: u8 },
     /// Packet 68.
     State { state: u8, conditions: u16 },
+    /// Packet 61.
+    Traction(TractionBrake),
 }
 
 #[derive(Clone, Copy, PartialEq, Eq, Debug)]
@@ -27,13 +39,15 @@ pub struct Packet {
     pub content: Content,
 }
 
+pub const SIZE_61: usize = 22;
 pub const SIZE_62: usize = 25;
 pub const SIZE_65: usize = 29;
 pub const SIZE_68: usize = 19;
 
 /// The length of the packet with this number.
-fn size_of_number(number: u8) -> Option<usize> {
+pub fn size_of_number(number: u8) -> Option<usize> {
     match number {
+        61 => Some(SIZE_61),
         62 => Some(SIZE_62),
         65 => Some(SIZE_65),
         68 => Some(SIZE_68),
@@ -89,12 +103,29 @@ impl Header {
     }
 }
 
+impl TractionBrake {
+    pub fn bytes(&self) -> [u8; 5] {
+        let [high, low] = self.m_ato_rtbrq.to_be_bytes();
+        [self.m_ato_trabrrq, self.m_ato_locobrrq, self.q_ato_suptb, high, low]
+    }
+
+    pub(crate) fn read(from: &mut Numbers) -> Option<TractionBrake> {
+        Some(TractionBrake {
+            m_ato_trabrrq: from.u8()?,
+            m_ato_locobrrq: from.u8()?,
+            q_ato_suptb: from.u8()?,
+            m_ato_rtbrq: from.u16()?,
+        })
+    }
+}
+
 impl Content {
     fn number(&self) -> u8 {
         match self {
             Content::Point { .. } => 62,
             Content::Load { .. } => 65,
             Content::State { .. } => 68,
+            Content::Traction(_) => 61,
         }
     }
 
@@ -108,6 +139,7 @@ impl Content {
                 nidc <= 1024 && atots <= 16_384 && date <= 32_767 && status == 0
             }
             Content::State { state, conditions } => state <= 7 && conditions <= 0x1FF,
+            Content::Traction(_) => true,
         }
     }
 
@@ -126,12 +158,14 @@ impl Content {
                 to.put([counter, status]);
             }
             Content::State { state, conditions } => to.put((u16::from(state) + 16 * conditions).to_be_bytes()),
+            Content::Traction(traction) => to.put(traction.bytes()),
         }
     }
 
     /// The content as its bytes say; `None` for spare bits that stand.
     fn read(number: u8, from: &mut Numbers) -> Option<Content> {
         Some(match number {
+            61 => Content::Traction(TractionBrake::read(from)?),
             62 => {
                 let (nidc, nidtp) = (from.u16()?, from.u32()?);
                 let info = within(from.u8()?, 0, 127)?;
@@ -160,6 +194,7 @@ impl Packet {
             Content::Point { .. } => SIZE_62,
             Content::Load { .. } => SIZE_65,
             Content::State { .. } => SIZE_68,
+            Content::Traction(_) => SIZE_61,
         }
     }
 

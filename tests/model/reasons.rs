@@ -3,8 +3,9 @@
 
 use crate::calls::Call;
 use crate::engine::{Engine, Standing, CO, FA, NP, RE};
-use crate::events::{Event, Position, LOAD, POSITION_REPORT, REVOKE, SKIP, UNDEFINED};
+use crate::events::{Event, Position, LOAD, POSITION_REPORT, REVOKE, SKIP, TRACTION, UNDEFINED};
 use crate::numbers::Numbers;
+use crate::packets::TractionBrake;
 use crate::values::{read_book, Journey, Record};
 use crate::words::{grouped, STATES};
 
@@ -60,6 +61,16 @@ impl Fields<'_> {
         }
     }
 
+    /// A byte in two's complement.
+    fn signed(&mut self, what: &str, low: i8, high: i8) -> Result<i8, String> {
+        let value = self.free(what, 1)? as u8 as i8;
+        if low <= value && value <= high {
+            Ok(value)
+        } else {
+            Err(format!("{what} is {value}; it must be {low} to {high}"))
+        }
+    }
+
     fn left(&self) -> usize {
         self.0 .0.len()
     }
@@ -104,6 +115,7 @@ fn read_event(bytes: &[u8]) -> Result<Event, Refused> {
         5..=7 => 2,
         POSITION_REPORT => 13,
         10 | SKIP | REVOKE => 5,
+        TRACTION => 7,
         _ => return Err((1, format!("no kind of event has the number {kind}"))),
     };
     if bytes.len() != size {
@@ -131,7 +143,17 @@ fn read_fields(kind: u8, mut from: Fields) -> Result<Event, String> {
         10 => Event::Length(from.number("the train length", 4, 1, 100_000)?),
         LOAD => Event::Load,
         SKIP => Event::Skip(from.free("NID_TP", 4)?),
-        _ => Event::Revoke(from.free("NID_TP", 4)?),
+        REVOKE => Event::Revoke(from.free("NID_TP", 4)?),
+        _ => {
+            let request = from.signed("the request", -100, 100)?;
+            let content = TractionBrake {
+                m_ato_trabrrq: from.free("M_ATO_TraBrRq", 1)? as u8,
+                m_ato_locobrrq: from.free("M_ATO_LocoBrRq", 1)? as u8,
+                q_ato_suptb: from.free("Q_ATO_SupTB", 1)? as u8,
+                m_ato_rtbrq: from.free("M_ATO_RTBRq", 2)? as u16,
+            };
+            Event::Traction(request, content)
+        }
     })
 }
 

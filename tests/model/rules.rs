@@ -1,5 +1,6 @@
-//! The history rule and the engagement rule of document 01, read literally over the accepted events, and the States rows
-//! run over the conditions that follow from them. Nothing here looks at an engine, but for the comparison at the end.
+//! The history rule and the engagement rule of document 01 and the range of document 02, read literally over the
+//! accepted events, and the States rows run over the conditions that follow from them. Nothing here looks at an engine,
+//! but for the comparison at the end.
 
 use crate::calls::Call;
 use crate::engine::{Engine, Standing, AV, CO, DE, EG, FA, NA, NP, RE};
@@ -139,6 +140,7 @@ struct Moment {
     standings: Vec<Standing>,
     became_reached: bool,
     conditions: u16,
+    state: u8,
 }
 
 impl Moment {
@@ -239,6 +241,24 @@ fn where_conditions(position: Position, load: &Load) -> (bool, bool) {
     (true, !record.is_some_and(|record| record.zones.iter().any(inside)))
 }
 
+/// Whether the range holds a request of this size without sign.
+fn range_holds(range: u8, size: i32) -> bool {
+    match range {
+        0 => size == 0,
+        1 => (1..=27).contains(&size),
+        2 => (23..=77).contains(&size),
+        3 => (73..=95).contains(&size),
+        _ => (91..=100).contains(&size),
+    }
+}
+
+/// "It stays in the range it had while that range holds it, else takes the lowest that does."
+fn range_after(had: Option<u8>, request: i8) -> u8 {
+    let size = i32::from(request).abs();
+    let lowest = || [0, 1, 2, 3, 4].into_iter().find(|&range| range_holds(range, size)).unwrap();
+    had.filter(|&range| range_holds(range, size)).unwrap_or_else(lowest)
+}
+
 /// The accepted events since power off.
 #[derive(Debug)]
 pub struct Rules {
@@ -263,7 +283,8 @@ impl Rules {
         let before = self.moments.last();
         let values = before.map_or(Values::fresh(), |moment| moment.values.clone()).after(event, call);
         let reached_before = before.map_or(Vec::new(), |moment| moment.standings.clone());
-        self.moments.push(Moment { event, values, standings: Vec::new(), became_reached: false, conditions: 0 });
+        let standings = Vec::new();
+        self.moments.push(Moment { event, values, standings, became_reached: false, conditions: 0, state: NP });
         let standings = history(&self.moments);
         let moment = self.moments.last_mut().unwrap();
         let reached_now = |k: usize| standings[k] == Standing::Reached && reached_before[k] != Standing::Reached;
@@ -271,6 +292,7 @@ impl Rules {
         moment.conditions = nine_conditions(&moment.values, &standings);
         moment.standings = standings;
         self.run_rows();
+        self.moments.last_mut().unwrap().state = self.state;
     }
 
     /// The rows of "States" and the AD request, for the last moment.
@@ -328,6 +350,48 @@ impl Rules {
             && moments[i - 1..j].iter().all(|moment| moment.otn() && !moment.ad())
     }
 
+    /// Whether the moment's event was made in EG or DE.
+    fn made_in_eg_or_de(&self, k: usize) -> bool {
+        k > 0 && matches!(self.moments[k - 1].state, EG | DE)
+    }
+
+    fn enters_eg(&self, k: usize) -> bool {
+        self.moments[k].state == EG && (k == 0 || self.moments[k - 1].state != EG)
+    }
+
+    /// Range and Q_ATO_SupTB, the content's third byte, after so many moments: by the requests made in EG or DE since EG
+    /// was last entered.
+    fn traction(&self, count: usize) -> Option<(u8, u8)> {
+        let entered = (0..count).rfind(|&k| self.enters_eg(k))?;
+        let made = (entered + 1..count).filter(|&k| self.made_in_eg_or_de(k));
+        made.fold(None, |had: Option<(u8, u8)>, k| match self.moments[k].event {
+            Event::Traction(request, content) => {
+                Some((range_after(had.map(|(range, _)| range), request), content.bytes()[2]))
+            }
+            _ => had,
+        })
+    }
+
+    /// Packet 61 is due for a request made in EG or DE where nothing was remembered before it, or another range or
+    /// Q_ATO_SupTB is after it.
+    fn traction_due(&self) -> bool {
+        let Some(last) = self.moments.len().checked_sub(1) else { return false };
+        let request = matches!(self.moments[last].event, Event::Traction(..)) && self.made_in_eg_or_de(last);
+        let (before, after) = (self.traction(last), self.traction(last + 1));
+        request && (before.is_none() || after != before)
+    }
+
+    /// Of the packets of the last accepted call: 61 stands among them just where it is due, with the event's bytes.
+    pub fn check_packets(&self, call: &Call, packets: &[&[u8]]) -> Result<(), String> {
+        let due = if self.traction_due() { vec![&call.event[2..]] } else { vec![] };
+        let written: Vec<&[u8]> = packets.iter().filter(|packet| packet[0] == 61).map(|packet| &packet[17..]).collect();
+        if due == written {
+            Ok(())
+        } else {
+            Err(format!("packet 61: by the rules with {due:02X?}, written with {written:02X?}"))
+        }
+    }
+
     /// The first thing in which an engine differs from the rules.
     pub fn check(&self, engine: &Engine) -> Result<(), String> {
         let now = &engine.now;
@@ -347,6 +411,10 @@ impl Rules {
         if (self.state, self.press, self.request) != (now.state, now.press, now.request) {
             let rows = (self.state, self.press, self.request);
             return differs("state, press, request", &rows, &(now.state, now.press, now.request));
+        }
+        let (by_rules, held) = (self.traction(self.moments.len()), now.traction.map(|held| (held.range, held.suptb)));
+        if by_rules != held {
+            return differs("range and Q_ATO_SupTB", &by_rules, &held);
         }
         if self.engaged() != (now.state == EG) {
             return differs("engaged", &self.engaged(), &now.state);

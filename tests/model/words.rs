@@ -2,7 +2,7 @@
 
 use crate::calls::Call;
 use crate::events::{read_event, Event, UNDEFINED};
-use crate::packets::{Content, Header, Packet};
+use crate::packets::{Content, Header, Packet, TractionBrake};
 use crate::values::{read_book, Journey, JourneyPoint, Record};
 
 pub const STATES: [&str; 8] = ["NP", "CO", "NA", "AV", "RE", "EG", "DE", "FA"];
@@ -111,7 +111,17 @@ fn event_in_words(event: Event) -> String {
         Event::Load => "load".into(),
         Event::Skip(nidtp) => format!("driver skip {nidtp}"),
         Event::Revoke(nidtp) => format!("driver revokes skip {nidtp}"),
+        Event::Traction(request, content) => format!("traction {request}: {}", traction_in_words(&content)),
     }
+}
+
+/// The last is an INT16.
+fn traction_in_words(content: &TractionBrake) -> String {
+    let TractionBrake { m_ato_trabrrq, m_ato_locobrrq, q_ato_suptb, m_ato_rtbrq } = *content;
+    format!(
+        "M_ATO_TraBrRq {m_ato_trabrrq}, M_ATO_LocoBrRq {m_ato_locobrrq}, Q_ATO_SupTB {q_ato_suptb}, M_ATO_RTBRq {}",
+        m_ato_rtbrq as i16
+    )
 }
 
 fn point_in_words(point: &JourneyPoint) -> String {
@@ -196,6 +206,7 @@ fn content_in_words(content: &Content, name: &dyn Fn(u32) -> String) -> String {
         Content::State { state, conditions } => {
             format!("68 state {}: {}", STATES[usize::from(state)], lacking(conditions))
         }
+        Content::Traction(content) => format!("61 traction and brakes requested: {}", traction_in_words(&content)),
     }
 }
 

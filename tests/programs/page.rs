@@ -1,7 +1,7 @@
 //! `page FILE HEADER`: plays the interface page (docs/INTERFACE.md) through the proved engine and the model, so that it
 //! cannot say what is not so. The session is played call by call; the tables of events, profiles and packets are tried
-//! at both ends of every range and next to them; names are looked for in the header. What differs is told with its
-//! line.
+//! at both ends of every range and next to them, those of traction requests in EG and DE; names are looked for in the
+//! header. What differs is told with its line.
 
 #[path = "../tools/page/engines.rs"]
 mod engines;
@@ -15,6 +15,8 @@ mod profiles;
 mod session;
 #[path = "../tools/page/text.rs"]
 mod text;
+#[path = "../tools/page/traction.rs"]
+mod traction;
 #[path = "../tools/page/words.rs"]
 mod words;
 
@@ -26,10 +28,12 @@ fn check(page: &Page, header: &str) -> Checked<String> {
     let kinds = events::check(page, &load)?;
     let fields = profiles::check(page)?;
     let packets = packets::check(page)?;
+    let requests = traction::check(page, &load)?;
     let conditions = words::check(page, header)?;
     Ok(format!(
-        "{calls} calls of the session, {kinds} kinds of events, {fields} fields of book and journey, {packets} packets \
-         and {conditions} application conditions are as proved engine, model and header have them"
+        "{calls} calls of the session, {kinds} kinds of events, {fields} fields of book and journey, \
+         {packets} packets, {requests} traction requests and {conditions} application conditions are as proved engine, \
+         model and header have them"
     ))
 }
 

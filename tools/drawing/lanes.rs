@@ -85,6 +85,14 @@ impl Figures {
         of: |moment| moment.reported.now.then(|| moment.reported.speed.to_string()),
     };
 
+    /// The traction request, where one was made.
+    const REQUEST: Figures = Figures {
+        height: 18.0,
+        label: ("head", "Traction request"),
+        class: "speed",
+        of: |moment| moment.reported.request.map(|request| request.to_string()),
+    };
+
     fn line(&self) -> f64 {
         self.height / 2.0 + 3.0
     }
@@ -249,19 +257,25 @@ impl Lane for Heading {
     fn columns(&self, _: usize, _: &[Moment], _: &mut Svg) {}
 }
 
-/// Request, mode, lever, and what O, T and N are made of.
-pub fn inputs() -> Vec<Box<dyn Lane>> {
+/// Request, mode, lever, traction requests where there are any, and what O, T and N are made of.
+pub fn inputs(ride: &Ride) -> Vec<Box<dyn Lane>> {
     let mut lanes: Vec<Box<dyn Lane>> = vec![
         Bar::request(),
         Box::new(Named { head: "ETCS mode", names: &MODES, of: |moment| moment.reported.mode }),
         Box::new(Named { head: "Lever", names: &LEVERS, of: |moment| moment.reported.lever }),
         Box::new(Figures::SPEED),
+    ];
+    if ride.moments.iter().any(|moment| moment.reported.request.is_some()) {
+        lanes.push(Box::new(Figures::REQUEST));
+    }
+    let needs: [Box<dyn Lane>; 5] = [
         Box::new(Heading("Engaging needs")),
         Bar::condition("O all nine conditions", |moment| moment.shown.conditions == 0x1FF),
         Bar::condition("T train conditions", |moment| moment.reported.reports & 16 != 0),
         Bar::condition("N lever neutral", |moment| moment.reported.lever == 0),
         Box::new(Heading("Nine conditions")),
     ];
+    lanes.extend(needs);
     for (k, name) in CONDITIONS.iter().enumerate() {
         let holds = move |moment: &Moment| moment.shown.conditions >> k & 1 == 1;
         lanes.push(Bar::condition(&format!("{k} {name}"), holds));

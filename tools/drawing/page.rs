@@ -20,7 +20,7 @@ const NOTES: [&str; 2] = [
 /// Every lane, from above.
 pub fn lanes(ride: &Ride) -> Vec<Box<dyn Lane + '_>> {
     let mut lanes: Vec<Box<dyn Lane + '_>> = vec![Box::new(Events::of(ride)), Box::new(States)];
-    lanes.extend(inputs());
+    lanes.extend(inputs(ride));
     lanes.push(Box::new(Journey::of(ride)));
     lanes.push(Box::new(Packets::of(ride)));
     lanes.push(Box::new(Figures::NUMBERS));

@@ -10,6 +10,7 @@ use std::ops::Range;
 use tools::language::{Scenario, Step};
 use tools::points::points_in_words;
 use tools::story::StepNames;
+use tools::traction::request_in_words;
 
 /// What the latest accepted events since power off that carry them say, else fresh.
 #[derive(Clone, Copy, PartialEq)]
@@ -22,6 +23,8 @@ pub struct Reported {
     pub position: Position,
     /// The last event was a position report.
     pub now: bool,
+    /// Of a traction request, where the last event was one.
+    pub request: Option<i8>,
 }
 
 impl Reported {
@@ -33,6 +36,7 @@ impl Reported {
         speed: 0,
         position: Position { nidc: 0, nidsp: 0, offset: UNDEFINED },
         now: false,
+        request: None,
     };
 
     fn accept(&mut self, event: Event) {
@@ -46,6 +50,7 @@ impl Reported {
             _ => {}
         }
         self.now = matches!(event, Event::Report(..));
+        self.request = if let Event::Traction(request, _) = event { Some(request) } else { None };
     }
 }
 
@@ -76,6 +81,8 @@ pub struct Moment {
     pub later: bool,
     pub refused: Option<Refusal>,
     pub shown: Shown,
+    /// Of a traction request, its range.
+    pub traction: String,
     /// The points that it passed or put behind, and the one that is targeted or reached.
     pub points: String,
     pub reported: Reported,
@@ -103,11 +110,10 @@ impl Ride {
         let (mut reported, mut skips, mut model) = (Reported::FRESH, Vec::new(), model::engine::Engine::fresh());
         for step in steps {
             let mut out = [0; MEMORY];
-            let reason = reason(&model, &step.call, &StepNames::of(scenario, ride.journey(), step));
-            let _ = model.call(&step.call, &mut [0; MEMORY]);
+            let (reason, traction) = told(&mut model, step, &StepNames::of(scenario, ride.journey(), step));
             let answer = engine.step(&step.call.event, &step.call.journey, &step.call.book, &mut out);
             let (mut packets, mut refused) = (Vec::new(), None);
-            reported.now = false;
+            (reported.now, reported.request) = (false, None);
             match read_event(&step.call.event) {
                 Ok(event) if answer.accepted => {
                     reported.accept(event);
@@ -115,10 +121,7 @@ impl Ride {
                     packets = ride.read_packets(&out[..answer.bytes], scenario);
                     follow_skips(&mut skips, event, &packets);
                 }
-                _ => {
-                    let reason = reason.map_or(String::new(), |(_, reason)| reason);
-                    refused = Some(Refusal { number: answer.number, reason });
-                }
+                _ => refused = Some(Refusal { number: answer.number, reason }),
             }
             let shown = engine.show();
             ride.add(Moment {
@@ -128,6 +131,7 @@ impl Ride {
                 later: false,
                 refused,
                 shown,
+                traction,
                 points: ride.points_in_words(&shown),
                 reported,
                 packets,
@@ -197,6 +201,14 @@ impl Ride {
         self.stretches.retain(|stretch| !stretch.moments.is_empty());
         self
     }
+}
+
+/// What the model says of a step: why it is refused; of a traction request, its range.
+fn told(model: &mut model::engine::Engine, step: &Step, names: &StepNames) -> (String, String) {
+    let (reason, before) = (reason(model, &step.call, names), model.now);
+    let _ = model.call(&step.call, &mut [0; MEMORY]);
+    let traction = request_in_words(&step.call.event, &before, &model.now);
+    (reason.map_or(String::new(), |(_, reason)| reason), traction)
 }
 
 /// Driver skips as the packets tell of them: given by status 5, revoked by 6, cleared by a load and power off.

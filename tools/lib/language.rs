@@ -6,6 +6,7 @@ use crate::line::{without_comment, Words};
 use crate::named::Named;
 use model::calls::Call;
 use model::events::UNDEFINED;
+use model::packets::TractionBrake;
 use model::values::{write_book, Journey, JourneyPoint, Record, RecordPoint};
 use model::words::{bytes_of_hex, grouped, ALIGNMENTS, LEVERS, MODES};
 
@@ -146,7 +147,7 @@ impl Scenario {
         words.keyword("on")?;
         let segment = words.next("the segment")?;
         let place = words.value("at")?;
-        let reach = if words.takes("R") { words.number("R")? } else { 0 };
+        let reach = words.optional("R")?;
         let record = self.segments.find_mut(segment)?;
         one_more(record.points.len(), &format!("points on '{segment}'"))?;
         self.points.add(line, name, DeclaredPoint { nidtp, segment: segment.into() })?;
@@ -235,6 +236,7 @@ impl Scenario {
             "length" => Call::length(words.number("length")?),
             "skip" => Call::skip(self.read_point_name(words)?),
             "revoke" => Call::revoke(self.read_point_name(words)?),
+            "traction" => read_traction(words)?,
             _ => Call::of(read_bytes(words)?),
         })
     }
@@ -300,6 +302,15 @@ fn read_reports(words: &mut Words) -> Result<u8, String> {
         reports |= 1 << words.choice(&REPORTS)?;
     }
     Ok(reports)
+}
+
+/// The request, and the content of packet 61.
+fn read_traction(words: &mut Words) -> Result<Call, String> {
+    let request = words.signed("the request")?;
+    let (m_ato_trabrrq, m_ato_locobrrq) = (words.optional("trabrrq")?, words.optional("locobrrq")?);
+    let q_ato_suptb = words.optional("suptb")?;
+    let m_ato_rtbrq = if words.takes("rtbrq") { words.signed::<i16>("rtbrq")? as u16 } else { 0 };
+    Ok(Call::traction(request, TractionBrake { m_ato_trabrrq, m_ato_locobrrq, q_ato_suptb, m_ato_rtbrq }))
 }
 
 fn read_bytes(words: &mut Words) -> Result<Vec<u8>, String> {

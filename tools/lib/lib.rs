@@ -1,5 +1,5 @@
 //! What the tools share: the scenario language, the player and its lines, a scenario told in words, where points stand,
-//! and what is recorded over many orders of events.
+//! what comes of a traction request, and what is recorded over many orders of events.
 
 pub mod answers;
 pub mod language;
@@ -11,3 +11,4 @@ pub mod player;
 pub mod points;
 pub mod refusals;
 pub mod story;
+pub mod traction;

@@ -3,7 +3,7 @@
 use model::words::grouped;
 
 /// Every line of a scenario by its first word.
-const FORMS: [(&str, &str); 21] = [
+const FORMS: [(&str, &str); 22] = [
     ("segment", "NAME NID_C n NID_SP n length n"),
     ("point", "NAME NID_TP n on SEGMENT at n [R n]"),
     ("zone", "on SEGMENT from n to n"),
@@ -24,6 +24,7 @@ const FORMS: [(&str, &str); 21] = [
     ("load", "JOURNEY BOOK"),
     ("skip", "POINT"),
     ("revoke", "POINT"),
+    ("traction", "n [trabrrq n] [locobrrq n] [suptb n] [rtbrq n]"),
     ("bytes", "HEXADECIMAL .."),
 ];
 
@@ -90,6 +91,28 @@ impl<'a> Words<'a> {
         let value = word.parse::<u64>().ok().and_then(|value| T::try_from(value).ok());
         let most = grouped((1 << (8 * size_of::<T>())) - 1);
         value.ok_or_else(|| format!("{what}: {word} is more than the bytes of that field hold, {most}"))
+    }
+
+    /// A number of so many bytes in two's complement, with a minus in front where it is below 0.
+    pub fn signed<T: TryFrom<i64>>(&mut self, what: &str) -> Result<T, String> {
+        let word = self.next(&format!("a number for {what}"))?;
+        let digits = word.strip_prefix('-').unwrap_or(word);
+        if digits.is_empty() || !digits.bytes().all(|byte| byte.is_ascii_digit()) {
+            return Err(self.wrong(format!("{what}: '{word}' is not a whole number in plain digits")));
+        }
+        let value = word.parse::<i64>().ok().and_then(|value| T::try_from(value).ok());
+        let beyond: u64 = 1 << (8 * size_of::<T>() - 1);
+        let (least, most) = (grouped(beyond), grouped(beyond - 1));
+        value.ok_or_else(|| format!("{what}: {word} is beyond what the bytes of that field hold, -{least} to {most}"))
+    }
+
+    /// The number behind the keyword if that is the next word, else 0.
+    pub fn optional<T: TryFrom<u64> + Default>(&mut self, word: &str) -> Result<T, String> {
+        if self.takes(word) {
+            self.number(word)
+        } else {
+            Ok(T::default())
+        }
     }
 
     /// A keyword with its number.

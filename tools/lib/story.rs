@@ -4,6 +4,7 @@
 use crate::answers::{read_answers, Answered};
 use crate::language::{Scenario, Step};
 use crate::points::points_in_words;
+use crate::traction::request_in_words;
 use model::calls::{write_lines, MEMORY};
 use model::engine::{Answer, Engine};
 use model::events::LOAD;
@@ -56,7 +57,7 @@ impl<'a> Story<'a> {
 
     fn tell_step(&mut self, step: &'a Step, answered: &Answered) -> Result<(), String> {
         let reason = reason(&self.model, &step.call, &StepNames::of(self.scenario, self.journey, step));
-        let before = self.standings();
+        let (before, was) = (self.standings(), self.model.now);
         let mut out = [0; MEMORY];
         let answer = self.model.call(&step.call, &mut out);
         let packets = split_packets(&out[..answer.map_or(0, |answer| answer.bytes)]);
@@ -72,7 +73,8 @@ impl<'a> Story<'a> {
             Ok(answer) => {
                 self.accepted += 1;
                 self.note_journey(step);
-                self.tell_answer(answer, step.loads.is_none().then_some(&before[..]));
+                let request = request_in_words(&step.call.event, &was, &self.model.now);
+                self.tell_answer(answer, &request, step.loads.is_none().then_some(&before[..]));
                 packets.into_iter().for_each(|packet| self.tell_packet(packet));
             }
         }
@@ -88,15 +90,15 @@ impl<'a> Story<'a> {
         }
     }
 
-    /// `before`: where the points stood; none for a load.
-    fn tell_answer(&mut self, answer: Answer, before: Option<&[u8]>) {
+    /// `traction`: of a request; `before`: where the points stood, none for a load.
+    fn tell_answer(&mut self, answer: Answer, traction: &str, before: Option<&[u8]>) {
         let k = usize::from(answer.state);
         let first = !std::mem::replace(&mut self.known[k], true);
         let name = if first { format!(" ({})", STATE_NAMES[k]) } else { String::new() };
         let request = if answer.request { "AD requested" } else { "AD not requested" };
         let names = self.journey.map(|journey| self.scenario.point_names(journey));
         let points = names.map_or(String::new(), |names| points_in_words(names, before, &self.standings()));
-        self.text += &format!("    {}{name}, {request}{points}\n", STATES[k]);
+        self.text += &format!("    {}{name}, {request}{traction}{points}\n", STATES[k]);
         if first {
             self.text += &format!("        {}: the driver may {}\n", STATES[k], DRIVER[k][1]);
         }

@@ -1,5 +1,5 @@
-//! Packets 62, 65 and 68 field by field, as SUBSET-140 lays them out (Tables 3, 5, 8, 11): the name of each, its bytes
-//! and bits, its range in document 01, where the proved reader's answer has it, and its value in words.
+//! Packets 61, 62, 65 and 68 field by field, as SUBSET-140 lays them out (Tables 3, 4, 5, 8, 11): the name of each, its
+//! bytes and bits, its range in document 01, where the proved reader's answer has it, and its value in words.
 
 use crate::words;
 use proved::hollwern::PacketFields;
@@ -61,6 +61,14 @@ const INFO: &str = "TP_INFO";
 const STOPPING: &str = "STOPPING_DATA";
 const CHANGE: &str = "ATO_STATE_CHANGE";
 
+/// Table 4.
+static TRACTION_BRAKE: [Field; 4] = [
+    field("M_ATO_TraBrRq", 17, 1, FREE, |p| p.m_ato_trabrrq.into(), words::unsigned),
+    field("M_ATO_LocoBrRq", 18, 1, FREE, |p| p.m_ato_locobrrq.into(), words::unsigned),
+    field("Q_ATO_SupTB", 19, 1, FREE, |p| p.q_ato_suptb.into(), words::bits),
+    field("M_ATO_RTBRq", 20, 2, FREE, |p| p.m_ato_rtbrq.into(), words::signed),
+];
+
 /// Table 5.
 static TIMING_POINT: [Field; 9] = [
     field("NID_C", 17, 2, 1023, |p| p.nidc.into(), words::country),
@@ -94,6 +102,7 @@ static ATO_STATUS: [Field; 3] = [
 /// The fields of the packet with this number.
 pub fn fields(number: u8) -> Option<impl Iterator<Item = &'static Field>> {
     let content: &[Field] = match number {
+        61 => &TRACTION_BRAKE,
         62 => &TIMING_POINT,
         65 => &JP_RECEIVED,
         68 => &ATO_STATUS,

@@ -108,6 +108,10 @@ impl Table {
 /// The content of a packet in one line.
 fn content_in_words(p: &PacketFields) -> String {
     match p.kind {
+        61 => {
+            let brakes = format!("M_ATO_TraBrRq {} M_ATO_LocoBrRq {}", p.m_ato_trabrrq, p.m_ato_locobrrq);
+            format!("{brakes} Q_ATO_SupTB {:02X} M_ATO_RTBRq {}", p.q_ato_suptb, p.m_ato_rtbrq as i16)
+        }
         62 => {
             let end = if p.q_eoj_reached == 0 { "EoJ reached" } else { "EoJ not reached" };
             let (status, alignment) = (words::status(p.status.into()), ALIGNMENTS[usize::from(p.alignment)]);
@@ -137,7 +141,7 @@ pub fn reason(bytes: &[u8]) -> String {
             format!("17, {what}: packet {} has {size} bytes, {there} there", named(number))
         }
         (17, None) => "17, empty".into(),
-        (18, Some(&number)) => format!("18, another number than 62, 65, 68: {}", named(number)),
+        (18, Some(&number)) => format!("18, another number than 61, 62, 65, 68: {}", named(number)),
         (19, Some(&number)) => format!("19, value out of range in packet {}", named(number)),
         (number, _) => format!("{number}"),
     }

@@ -103,6 +103,22 @@ pub fn operational(value: u32) -> String {
     }
 }
 
+pub fn unsigned(_: u32) -> String {
+    "see SUBSET-139 7.3.1".into()
+}
+
+/// The bits of a byte that stand.
+pub fn bits(value: u32) -> String {
+    let standing: Vec<String> = (0..8).filter(|k| value >> k & 1 == 1).map(|k| k.to_string()).collect();
+    let standing = if standing.is_empty() { "none".into() } else { standing.join(" ") };
+    format!("bits that stand: {standing}; see SUBSET-139 7.3.1")
+}
+
+/// Two bytes that are an INT16.
+pub fn signed(value: u32) -> String {
+    format!("as an INT16 {}; see SUBSET-139 7.3.1", value as u16 as i16)
+}
+
 pub fn timing_point(value: u32) -> String {
     if value == u32::MAX {
         "undefined value".into()

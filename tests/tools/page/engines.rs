@@ -46,7 +46,7 @@ pub fn packets_of(calls: &[Call], line: usize) -> Checked<Vec<PacketFields>> {
 }
 
 /// From fresh to the state with this code, by this load.
-fn calls_to(state: u8, load: &Call) -> Vec<Call> {
+pub fn calls_to(state: u8, load: &Call) -> Vec<Call> {
     let (nidc, nidsp) = Journey::read(&load.journey).map_or((0, 0), |journey| journey.segments[0]);
     let located = [Call::power_on(), load.clone(), Call::position(nidc, nidsp, 0, 0), Call::reports(31)].to_vec();
     let then = |before: Vec<Call>, calls: &[Call]| [&before[..], calls].concat();

@@ -1,7 +1,7 @@
 //! The tables of events: kinds, lengths, states, fields and their ranges.
 
 use crate::engines::{engines, play, refusal};
-use crate::text::{bounds, in_range, most, put, same, wrong, Checked, Page, Row};
+use crate::text::{bounds, in_range, put, same, wrong, Checked, Page, Row};
 use model::calls::Call;
 use model::words::STATES;
 use proved::pair::Pair;
@@ -13,8 +13,8 @@ struct Field {
     line: usize,
     offset: usize,
     width: usize,
-    low: u64,
-    high: u64,
+    low: i64,
+    high: i64,
 }
 
 struct Kind {
@@ -27,7 +27,7 @@ struct Kind {
 
 fn field_of(row: &Row) -> Checked<Field> {
     let (low, high) = row.range("Range")?;
-    let (offset, width) = (row.number_to("Offset", LONGEST as u64)?, row.width()?);
+    let (offset, width) = (row.number_to("Offset", LONGEST as i64)?, row.width()?);
     Ok(Field { line: row.line, offset, width, low, high })
 }
 
@@ -49,7 +49,7 @@ fn kinds(page: &Page) -> Checked<Vec<Kind>> {
                 own.push(field_of(field)?);
             }
         }
-        let (size, taken) = (row.number_to("Bytes", LONGEST as u64)?, states_of(&row)?);
+        let (size, taken) = (row.number_to("Bytes", LONGEST as i64)?, states_of(&row)?);
         kinds.push(Kind { line: row.line, kind: kind as u8, size, taken, fields: own });
     }
     Ok(kinds)
@@ -57,7 +57,7 @@ fn kinds(page: &Page) -> Checked<Vec<Kind>> {
 
 impl Kind {
     /// The event with its fields at their lowest, but for one.
-    fn event(&self, changed: Option<(&Field, u64)>) -> Vec<u8> {
+    fn event(&self, changed: Option<(&Field, i64)>) -> Vec<u8> {
         let mut bytes = vec![self.kind];
         for field in &self.fields {
             let value = changed.filter(|(other, _)| other.offset == field.offset).map_or(field.low, |(_, value)| value);
@@ -87,7 +87,7 @@ impl Kind {
 
     fn check_ranges(&self, fresh: &Pair) -> Checked<()> {
         for field in &self.fields {
-            for (value, inside) in bounds(field.line, field.low, field.high, most(field.width))? {
+            for (value, inside) in bounds(field.line, field.low, field.high, 8 * field.width)? {
                 let number = refusal(fresh, &Call::of(self.event(Some((field, value)))), field.line)?;
                 in_range(field.line, value, inside, number == 2)?;
             }

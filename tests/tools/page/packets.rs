@@ -10,7 +10,7 @@ struct Field<'a> {
     /// How many bits from the packet's last one on, taken as one number, its least and its most significant bit stand.
     low_bit: usize,
     bits: usize,
-    range: Option<(u64, u64)>,
+    range: Option<(i64, i64)>,
 }
 
 struct Layout<'a> {
@@ -21,7 +21,7 @@ struct Layout<'a> {
 }
 
 /// What the reader answers under the name.
-fn value_in(packet: &PacketFields, name: &str) -> Option<u64> {
+fn value_in(packet: &PacketFields, name: &str) -> Option<i64> {
     let header = packet.header;
     Some(match name {
         "kind" => packet.kind.into(),
@@ -42,15 +42,19 @@ fn value_in(packet: &PacketFields, name: &str) -> Option<u64> {
         "counter" => packet.counter.into(),
         "state" => packet.state.into(),
         "conditions" => packet.conditions.into(),
+        "m_ato_trabrrq" => packet.m_ato_trabrrq.into(),
+        "m_ato_locobrrq" => packet.m_ato_locobrrq.into(),
+        "q_ato_suptb" => packet.q_ato_suptb.into(),
+        "m_ato_rtbrq" => packet.m_ato_rtbrq.into(),
         _ => return None,
     })
 }
 
 fn field_of<'a>(row: &Row<'a>, size: usize) -> Checked<Field<'a>> {
     let width = row.width()?;
-    let end = row.number_to("Offset", size as u64)? + width;
+    let end = row.number_to("Offset", size as i64)? + width;
     let (low, high) = row.range("Bits")?;
-    if end > size || high < low || high >= 8 * width as u64 {
+    if end > size || low < 0 || high < low || high >= 8 * width as i64 {
         return wrong(row.line, "the field is not within the packet");
     }
     let range = if row.text("Range")?.is_empty() { None } else { Some(row.range("Range")?) };
@@ -70,7 +74,7 @@ fn layout_of<'a>(page: &'a Page, row: &Row<'a>) -> Checked<Layout<'a>> {
 }
 
 impl Field<'_> {
-    fn put(&self, value: u64, to: &mut [u8]) {
+    fn put(&self, value: i64, to: &mut [u8]) {
         for k in 0..self.bits {
             let bit = self.low_bit + k;
             let byte = to.len() - 1 - bit / 8;
@@ -79,7 +83,7 @@ impl Field<'_> {
     }
 
     /// Its value where another field is tried. With status 1 stopping data may be other than 0.
-    fn usual(&self, number: u8) -> u64 {
+    fn usual(&self, number: u8) -> i64 {
         match (self.name, self.range) {
             ("kind", _) => number.into(),
             ("status", Some((0, high))) => high.min(1),
@@ -120,7 +124,7 @@ impl Layout<'_> {
 
     fn check_field(&self, field: &Field) -> Checked<()> {
         let Some((low, high)) = field.range else { return Ok(()) };
-        for (value, inside) in bounds(field.line, low, high, (1 << field.bits) - 1)? {
+        for (value, inside) in bounds(field.line, low, high, field.bits)? {
             let mut bytes = self.bytes();
             field.put(value, &mut bytes);
             let packet = reading(&bytes, field.line)?;
@@ -133,7 +137,7 @@ impl Layout<'_> {
     }
 
     /// The value is read under the field's name, and every other field as it was.
-    fn check_read(&self, packet: &PacketFields, changed: &Field, value: u64) -> Checked<()> {
+    fn check_read(&self, packet: &PacketFields, changed: &Field, value: i64) -> Checked<()> {
         for field in self.fields.iter().filter(|field| !field.name.is_empty()) {
             let expected = if field.line == changed.line { value } else { field.usual(self.number) };
             match value_in(packet, field.name) {

@@ -1,12 +1,12 @@
 //! The tables of segment record, journey and point: widths, ranges, maps, and what absent fields mean.
 
 use crate::engines::{packets_of, play, refusal};
-use crate::text::{bounds, in_range, most, number_of, put, same, wrong, Checked, Page, Row};
+use crate::text::{bounds, in_range, number_of, put, same, wrong, Checked, Page, Row};
 use model::calls::Call;
 use proved::pair::Pair;
 use std::collections::BTreeMap;
 
-type Values<'a> = BTreeMap<&'a str, u64>;
+type Values<'a> = BTreeMap<&'a str, i64>;
 
 struct Field<'a> {
     line: usize,
@@ -89,7 +89,7 @@ impl<'a> Layout<'a> {
     }
 
     /// The end of a range: a number, or the value of the field that it names.
-    fn end(&self, field: &Field, text: &str, values: &Values) -> Checked<u64> {
+    fn end(&self, field: &Field, text: &str, values: &Values) -> Checked<i64> {
         match number_of(text).or_else(|| values.get(text).copied()) {
             Some(end) => Ok(end),
             None => wrong(field.line, format!("'{text}' is no field")),
@@ -101,7 +101,7 @@ impl<'a> Layout<'a> {
             let (Some((low, high)), Some(width)) = (field.ends, field.width) else { continue };
             let usual = self.values();
             let (low, high) = (self.end(field, low, &usual)?, self.end(field, high, &usual)?);
-            for (value, inside) in bounds(field.line, low, high, most(width))? {
+            for (value, inside) in bounds(field.line, low, high, 8 * width)? {
                 let mut values = self.values();
                 values.insert(field.name, value);
                 let bytes = self.write(self.map, &values, tried.inner);
@@ -176,7 +176,7 @@ fn check_defaults(record: &Layout, journey: &Layout, point: &Layout) -> Checked<
     let packet = |kind: u8| packets.iter().find(|packet| packet.kind == kind).copied().unwrap_or_default();
     for field in journey.fields.iter().chain(&point.fields) {
         let Some(absent) = number_of(field.absent) else { continue };
-        let found: u64 = match field.name {
+        let found: i64 = match field.name {
             "NID_OPERATIONAL" => packet(65).header.operational.into(),
             "NID_ATOTS" => packet(65).atots.into(),
             "alignment" => packet(62).alignment.into(),
@@ -203,7 +203,7 @@ fn check_offsets(page: &Page, journey: &Layout, tried: &Tried) -> Checked<()> {
                 continue;
             }
             same(row.line, column, row.number(column)?, at)?;
-            at += field.width.unwrap_or(0) as u64;
+            at += field.width.unwrap_or(0) as i64;
         }
     }
     Ok(())

@@ -65,7 +65,7 @@ fn check_comment(line: &BlockLine, bytes: &[u8]) -> Checked<()> {
     let mut words = line.comment.split([' ', ':']).filter_map(number_of);
     match words.next() {
         Some(number) if !line.comment.starts_with("map") => {
-            same(line.line, "value", number, bytes.iter().fold(0, |number, byte| 256 * number + u64::from(*byte)))
+            same(line.line, "value", number, bytes.iter().fold(0, |number, byte| 256 * number + i64::from(*byte)))
         }
         _ => Ok(()),
     }

@@ -24,7 +24,7 @@ pub fn same<T: PartialEq + std::fmt::Display>(line: usize, what: &str, page: T, 
 }
 
 /// Wrong where a value inside a range is refused, or one outside is not.
-pub fn in_range(line: usize, value: u64, inside: bool, refused: bool) -> Checked<()> {
+pub fn in_range(line: usize, value: i64, inside: bool, refused: bool) -> Checked<()> {
     if inside != refused {
         Ok(())
     } else {
@@ -51,8 +51,11 @@ fn cells(line: &str) -> impl Iterator<Item = &str> {
     line.trim().trim_matches('|').split('|').map(|cell| cell.trim().trim_matches('`'))
 }
 
-pub fn number_of(text: &str) -> Option<u64> {
-    text.replace(',', "").parse().ok()
+/// Below 0 it has the sign − in front, no hyphen: that stands between the ends of a range.
+pub fn number_of(text: &str) -> Option<i64> {
+    let (sign, digits) = text.strip_prefix('−').map_or((1, text), |digits| (-1, digits));
+    let number: Option<u32> = digits.replace(',', "").parse().ok();
+    number.map(|number| sign * i64::from(number))
 }
 
 impl Page {
@@ -113,15 +116,15 @@ impl<'a> Row<'a> {
         cell.map_or_else(|| wrong(self.line, format!("no column '{column}'")), |&(_, text)| Ok(text))
     }
 
-    pub fn number(&self, column: &str) -> Checked<u64> {
+    pub fn number(&self, column: &str) -> Checked<i64> {
         let text = self.text(column)?;
         number_of(text).map_or_else(|| wrong(self.line, format!("{column} '{text}' is no number")), Ok)
     }
 
-    /// A number that is none above `most`.
-    pub fn number_to(&self, column: &str, most: u64) -> Checked<usize> {
+    /// A number from 0 to `most`.
+    pub fn number_to(&self, column: &str, most: i64) -> Checked<usize> {
         match self.number(column)? {
-            number if number > most => wrong(self.line, format!("{column} {number} is too much")),
+            number if !(0..=most).contains(&number) => wrong(self.line, format!("{column} {number} is too much")),
             number => Ok(number as usize),
         }
     }
@@ -137,7 +140,7 @@ impl<'a> Row<'a> {
         text.split_once('-').map_or_else(|| wrong(self.line, format!("{column} '{text}' is no range")), Ok)
     }
 
-    pub fn range(&self, column: &str) -> Checked<(u64, u64)> {
+    pub fn range(&self, column: &str) -> Checked<(i64, i64)> {
         match self.ends(column).map(|(low, high)| (number_of(low), number_of(high)))? {
             (Some(low), Some(high)) => Ok((low, high)),
             _ => wrong(self.line, format!("{column} '{}' is no range", self.text(column)?)),
@@ -158,22 +161,21 @@ pub fn hex_bytes(line: usize, text: &str) -> Checked<Vec<u8>> {
     bytes_of_hex(&text.replace(' ', "")).map_or_else(|| wrong(line, format!("'{text}' is not hexadecimal")), Ok)
 }
 
-/// The highest number of so many bytes.
-pub fn most(width: usize) -> u64 {
-    (1 << (8 * width)) - 1
-}
-
-pub fn put(number: u64, width: usize, to: &mut Vec<u8>) {
+/// In two's complement where it is below 0.
+pub fn put(number: i64, width: usize, to: &mut Vec<u8>) {
     to.extend(&number.to_be_bytes()[8 - width..]);
 }
 
-/// The ends of a range, and what lies next to them up to the highest number: each with whether it is inside.
-pub fn bounds(line: usize, low: u64, high: u64, most: u64) -> Checked<Vec<(u64, bool)>> {
-    if low > high || high > most {
+/// The ends of a range, and what lies next to them so far as so many bits hold it: each with whether it is inside. A
+/// range that begins below 0 is one of signed numbers.
+pub fn bounds(line: usize, low: i64, high: i64, bits: usize) -> Checked<Vec<(i64, bool)>> {
+    let least = if low < 0 { (-1 << bits) / 2 } else { 0 };
+    let most = least + (1 << bits) - 1;
+    if low > high || low < least || high > most {
         return wrong(line, format!("{low} to {high} is no range of numbers up to {most}"));
     }
     let mut values = vec![(low, true), (high, true)];
-    if low > 0 {
+    if low > least {
         values.push((low - 1, false));
     }
     if high < most {

@@ -19,7 +19,7 @@ fn check_states(page: &Page) -> Checked<()> {
     let rows = page.table("State codes", "Code")?;
     same(rows[0].line, "states", rows.len(), STATES.len())?;
     for (k, row) in rows.iter().enumerate() {
-        same(row.line, "code", row.number("Code")?, k as u64)?;
+        same(row.line, "code", row.number("Code")?, k as i64)?;
         same(row.line, "state", row.text("State")?, STATES[k])?;
         same(row.line, "name", row.text("Name")?, STATE_NAMES[k])?;
         same(row.line, "the driver may", row.text("The driver may")?, DRIVER[k][1])?;
@@ -31,12 +31,12 @@ fn check_states(page: &Page) -> Checked<()> {
 fn check_reports(page: &Page) -> Checked<()> {
     let conditions = page.table("The nine conditions", "Condition")?;
     for (k, row) in conditions.iter().enumerate() {
-        same(row.line, "condition", row.number("Condition")?, k as u64)?;
-        same(row.line, "bit", row.number("Bit of the word")?, 4 + k as u64)?;
+        same(row.line, "condition", row.number("Condition")?, k as i64)?;
+        same(row.line, "bit", row.number("Bit of the word")?, 4 + k as i64)?;
     }
     same(conditions[0].line, "conditions", conditions.len(), 9)?;
     for (bit, row) in page.table("Bits of the reports", "Bit")?.iter().enumerate() {
-        same(row.line, "bit", row.number("Bit")?, bit as u64)?;
+        same(row.line, "bit", row.number("Bit")?, bit as i64)?;
         let mut pair = Pair::fresh();
         play(&mut pair, &[Call::power_on(), Call::reports(1 << bit)], row.line)?;
         let alone = pair.model.now.conditions & !NO_CONDITION;
