@@ -80,19 +80,17 @@ impl Coverage {
     fn count_traction(&mut self, kind: u8, before: &Engine, after: &Engine, bytes: usize) {
         let (was, now) = (&before.now, &after.now);
         let (request, written) = (kind == TRACTION, bytes > 0);
-        if let (true, EG | DE, Some(traction)) = (request, was.state, now.traction) {
-            *self.jumps.entry((was.traction.map(|traction| traction.range), traction.range)).or_default() += 1;
-        }
         let range = |traction: Option<Traction>| traction.map(|traction| traction.range);
+        let counted = matches!(was.state, EG | DE);
+        if let (true, true, Some(to)) = (request, counted, range(now.traction)) {
+            *self.jumps.entry((range(was.traction), to)).or_default() += 1;
+        }
         let mut note = |name, holds: bool| *self.situations.entry(name).or_default() += usize::from(holds);
         note("request written in EG", request && was.state == EG && written);
         note("request written in DE", request && was.state == DE && written);
         note("request in EG as remembered", request && was.state == EG && !written);
         note("request in DE as remembered", request && was.state == DE && !written);
-        note(
-            "request elsewhere, one remembered",
-            request && was.state != EG && was.state != DE && was.traction.is_some(),
-        );
+        note("request elsewhere, one remembered", request && !counted && was.traction.is_some());
         note("request with another SupTB alone", request && written && range(was.traction) == range(now.traction));
         note("first request in DE", request && was.state == DE && was.traction.is_none());
         note("request remembered from EG to DE", was.state == EG && now.state == DE && was.traction.is_some());

@@ -351,17 +351,18 @@ fn traction_content(script: &mut Script) {
     }
 }
 
-/// What was remembered is kept into DE and out of it, and forgotten where EG is entered and at power off. What comes in
-/// other states is not remembered, also with a press pending.
+/// What was remembered is kept into DE, and forgotten where EG is entered and at power off: the same request writes
+/// again, and takes the lowest range. What comes in other states is not remembered, also with a press pending.
 fn traction_memory(script: &mut Script) {
     for start in STARTS {
         script.start(start).traction(75, 1).traction(-100, 1).traction(0, 2).mode(1).traction(75, 2);
         script.traction(75, 2).at(20_000, 3).traction(75, 2).reports(15).traction(75, 2).lever(1).traction(80, 2).off();
     }
     for leave in [Call::mode(0), Call::lever(2), Call::position(17, 500, 40_000, 0), Call::reports(15)] {
-        script.start(Start::Engaged).traction(98, 5).call(leave).traction(98, 5).traction(50, 6).mode(0).lever(0);
-        script.traction(98, 5).reports(31).traction(98, 7).press().traction(75, 5).mode(1).traction(75, 5);
-        script.traction(75, 5).call(Call::fault()).traction(75, 5).off();
+        script.start(Start::Engaged).traction(80, 5).call(leave.clone()).traction(92, 5).mode(0).lever(0);
+        script.traction(50, 5).reports(31).traction(80, 6).press().traction(75, 5).mode(1).traction(80, 5);
+        script.traction(75, 5).call(leave).mode(0).lever(0).reports(31).press().mode(1).traction(75, 5);
+        script.traction(72, 5).call(Call::fault()).traction(72, 5).off();
     }
     script.start(Start::Engaged).traction(98, 5).load(&p_journey()).traction(93, 5).length(10).traction(93, 5).off();
 }

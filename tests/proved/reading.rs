@@ -1,7 +1,7 @@
 //! The proved packet reader beside the model's: every string of bytes must be read or refused, and cut, alike.
 
 use crate::hollwern::{front_size, packets as cut, read, Header, PacketFields};
-use model::packets::{self, split_packets, Content, Packet, SIZE_62, SIZE_65, SIZE_68};
+use model::packets::{self, size_of_number, split_packets, Content, Packet, TractionBrake};
 
 /// How many strings were read, and how many refused by 17, 18 and 19.
 pub type Readings = [u64; 4];
@@ -23,18 +23,17 @@ fn expected(bytes: &[u8]) -> PacketFields {
             PacketFields { nidc, atots, date, seconds, counter, status, ..read(65) }
         }
         Content::State { state, conditions } => PacketFields { state, conditions, ..read(68) },
+        Content::Traction(content) => {
+            let TractionBrake { m_ato_trabrrq, m_ato_locobrrq, q_ato_suptb, m_ato_rtbrq } = content;
+            PacketFields { m_ato_trabrrq, m_ato_locobrrq, q_ato_suptb, m_ato_rtbrq, ..read(61) }
+        }
     }
 }
 
 /// The bytes of the packet in front, by the model's sizes.
 fn expected_front(bytes: &[u8]) -> usize {
-    let size = match bytes.first() {
-        Some(62) => SIZE_62,
-        Some(65) => SIZE_65,
-        Some(68) => SIZE_68,
-        _ => bytes.len(),
-    };
-    size.min(bytes.len())
+    let size = bytes.first().and_then(|&number| size_of_number(number));
+    size.unwrap_or(bytes.len()).min(bytes.len())
 }
 
 /// The packet cut to every length and whole, longer by a byte, and with each of its bytes raised by `step`.
