@@ -16,7 +16,7 @@ ghost use Rattle.host.specs.Version.{version};
 // The version of this interface, a byte each for the three numbers.
 const MAJOR: u32 = 1;
 
-const MINOR: u32 = 0;
+const MINOR: u32 = 1;
 
 const PATCH: u32 = 0;
 
