@@ -7,15 +7,17 @@ use lib.ListN.{length, getD}
 use lib.Dec.{eqb, leb}
 use native.Mathlib.Omega.{arith}
 use borrow.Author.Tests.{eqb-true, leb-true}
-use Rattle.wire.specs.Numbers.{if_then_else_}
+use Rattle.wire.specs.Numbers.{if_then_else_, magnitude}
 use Rattle.wire.specs.Judged.{Judged, thenJudge, row}
 use Rattle.wire.specs.Judged.Judged.{refuse, accept}
 use Rattle.wire.proofs.ListLaws.{and-left, and-right}
 use Rattle.layout.specs.Layout.{Values, size, valuesAt, fits}
 use Rattle.engine_value.specs.Engine.{max2, max4, maxNidc, undefined}
 use Rattle.engine_value.specs.declared.Position.{Position}
+use Rattle.packets.specs.declared.Requested.{Requested}
 use Rattle.event.specs.Kinds.{Content, kind, kinds, kindOf}
 use Rattle.event.specs.Events.{eventRows, eventWith, contentAmong, eventOfKind, eventOf}
+use Rattle.event.specs.declared.TractionRequest.{TractionRequest}
 use Rattle.event.specs.declared.Event.{Event}
 
 -- an event is that of values in the ranges of its layout
@@ -40,6 +42,28 @@ position-fits p f =
       nidsp = leb-true _ _ (and-left (leb nidsp max4) _ behind-nidc);
       offset = leb-true _ _ (and-left (leb offset undefined) _ behind-nidsp);
       speed = leb-true _ _ (and-left (leb speed max2) _ (and-right (leb offset undefined) _ behind-nidsp));
+    })
+
+-- the content of a traction request, within the bytes of its fields
+pub record ContentFits (r : Requested) : Type 0 where
+  pub trabrrq : r .«m_ato_trabrrq» ≤ 255
+  pub locobrrq : r .«m_ato_locobrrq» ≤ 255
+  pub suptb : r .«q_ato_suptb» ≤ 255
+  pub rtbrq : r .«m_ato_rtbrq» ≤ 65535
+
+pub content-fits : (x : TractionRequest) → Fits (Event.Traction x) → ContentFits (x .content)
+content-fits x f =
+    let (request, (trabrrq, (locobrrq, (suptb, (rtbrq, _))))) = f .0 in
+    let same : x .content ≡ record { «m_ato_trabrrq» = trabrrq; «m_ato_locobrrq» = locobrrq; «q_ato_suptb» = suptb; «m_ato_rtbrq» = rtbrq } = cc (f .2) in
+    let behind-request = and-right (leb (magnitude request) 100) _ (f .1) in
+    let behind-trabrrq = and-right (leb trabrrq 255) _ behind-request in
+    let behind-locobrrq = and-right (leb locobrrq 255) _ behind-trabrrq in
+    rw same
+    (record {
+      trabrrq = leb-true _ _ (and-left (leb trabrrq 255) _ behind-request);
+      locobrrq = leb-true _ _ (and-left (leb locobrrq 255) _ behind-trabrrq);
+      suptb = leb-true _ _ (and-left (leb suptb 255) _ behind-locobrrq);
+      rtbrq = leb-true _ _ (and-left (leb rtbrq 65535) _ (and-right (leb suptb 255) _ behind-locobrrq));
     })
 
 -- ---- every kind

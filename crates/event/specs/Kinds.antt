@@ -6,7 +6,7 @@ use mathlib.Core.List.{List, [], _∷_}
 use mathlib.Core.Option.{Option, none, some}
 use lib.Dec.{eqb}
 use Rattle.wire.specs.Numbers.{if_then_else_}
-use Rattle.layout.specs.Layout.{Field, Layout, Value as ValueOf, Values, field}
+use Rattle.layout.specs.Layout.{Field, Layout, Value as ValueOf, Values, field, toHighest}
 use Rattle.layout.specs.Layout.Content.{free, upTo, between, signed}
 use Rattle.engine_value.specs.Engine.{max2, max4, maxNidc, undefined, freshPosition, Value, mode, lever, reports, trainLength, place}
 use Rattle.engine_value.specs.declared.Position.{Position}
@@ -105,10 +105,11 @@ positionContent = record {
   event = λ v. let (c, (sp, (o, (s, _)))) = v in PositionReport (record { nidsp = sp; offset = o; nidc = c; speed = s });
 }
 
--- 02: "one signed byte, the request from −100 to 100, then the five bytes of packet 61 as SUBSET-140 lists them"
+-- 02: "one signed byte, the request from −100 to 100, then the five bytes of packet 61 as SUBSET-140 lists them"; "its content is free", and packets
+-- carry it on
 abbrev pub tractionContent : Content
 tractionContent = record {
-  fields = field "request" 1 (signed 100) ∷ content61;
+  fields = field "request" 1 (signed 100) ∷ toHighest content61;
   event = λ v. Traction (record { request = v .0; content = requestedOf (v .1) });
 }
 

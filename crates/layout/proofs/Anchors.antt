@@ -18,4 +18,5 @@ anchors = record {
   fit = refl;
   do-not = refl;
   nothing-fits = refl;
+  highest = refl;
 }

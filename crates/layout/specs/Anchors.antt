@@ -3,7 +3,7 @@ use Prim.Native.Nat.{ℕ}
 use mathlib.Core.Path.{_≡_}
 use mathlib.Core.Bool.{true, false}
 use mathlib.Core.List.{[], _∷_, map}
-use Rattle.layout.specs.Layout.{Content, Layout, Values, field, packed, unpacked, bytes, size, valuesAt, fits}
+use Rattle.layout.specs.Layout.{Content, Layout, Values, field, packed, unpacked, bytes, size, valuesAt, fits, toHighest}
 use Rattle.layout.specs.Layout.Content.{free, upTo, between, signed, part}
 
 -- a made-up layout: a number to 300, three numbers in one byte as of the info of a packet 62, a free number, one from 5 to 9,
@@ -34,3 +34,7 @@ pub record Anchors : Type 0 where
   pub do-not : map (fits sample) (of 301 0 0 0 0 5 0 ∷ of 0 2 0 0 0 5 0 ∷ of 0 0 3 0 0 5 0 ∷ of 0 0 0 9 0 5 0 ∷ of 0 0 0 0 0 4 0 ∷ of 0 0 0 0 0 10 0
       ∷ of 0 0 0 0 0 5 101 ∷ of 0 0 0 0 0 5 155 ∷ []) ≡ false ∷ false ∷ false ∷ false ∷ false ∷ false ∷ false ∷ false ∷ []
   pub nothing-fits : fits [] tt ≡ true
+  -- free fields of one, two and four bytes to 255, 65,535 and 4,294,967,295; the others as they are
+  pub highest : toHighest (field "a" 1 free ∷ field "b" 2 free ∷ field "c" 4 free ∷ sample)
+      ≡ field "a" 1 (upTo 255) ∷ field "b" 2 (upTo 65535) ∷ field "c" 4 (upTo 4294967295)
+      ∷ field "a" 2 (upTo 300) ∷ field "info" 1 info ∷ field "b" 4 (upTo 4294967295) ∷ field "c" 1 (between 5 9) ∷ field "d" 1 (signed 100) ∷ []

@@ -1,5 +1,5 @@
 -- A layout of fixed size is a value, the list of its fields; bytes, values, size and ranges are functions of it.
-use Prim.Native.Nat.{ℕ, _+_, _*_, _/_, _%_}
+use Prim.Native.Nat.{ℕ, _+_, _-_, _*_, _/_, _%_, _^_}
 use Prim.Native.String.{String}
 use mathlib.Core.List.{List, [], _∷_, _++_}
 use mathlib.Core.Bool.{Bool, true, _&&_}
@@ -84,3 +84,15 @@ contentFits (part base high rest) v = leb (v .0) high && contentFits rest (v .1)
 abbrev pub fits : (l : Layout) → Values l → Bool
 fits [] v = true
 fits (f ∷ fs) v = contentFits (f .content) (v .0) && fits fs (v .1)
+
+-- the layout with its free fields to the highest number of their bytes: the same bytes fit, and values that are carried on have a bound
+abbrev pub highest : ℕ → Content → Content
+highest width free = upTo (256 ^ width - 1)
+highest width (upTo high) = upTo high
+highest width (between low high) = between low high
+highest width (signed high) = signed high
+highest width (part base high rest) = part base high rest
+
+abbrev pub toHighest : Layout → Layout
+toHighest [] = []
+toHighest (f ∷ fs) = field (f .name) (f .width) (highest (f .width) (f .content)) ∷ toHighest fs

@@ -1,4 +1,7 @@
 use mathlib.Core.Path.{_∙_}
+use mathlib.Core.Bool.{and-true}
+use native.Mathlib.Omega.{arith}
+use borrow.Author.Tests.{le-leb}
 use Rattle.layout.specs.Layout.{valuesAt}
 use Rattle.event.specs.Kinds.{tractionContent}
 use Rattle.event.proofs.ContentLaws.{of-tests}
@@ -16,7 +19,24 @@ returns c =
     let e3 = b .before .before .be83 .ensures in
     let e4 = b .before .be84 .ensures in
     let e5 = b .be16 .ensures in
-    c .event-rows .ensures ∙ rw (← of-tests tractionContent, m .magnitude .ensures, ← e1, ← e2, ← e3, ← e4, ← e5)
+    c .event-rows .ensures ∙
+    rw (
+      ← of-tests tractionContent,
+      m .magnitude .ensures,
+      ← e1,
+      ← e2,
+      ← e3,
+      ← e4,
+      ← e5,
+      le-leb (b .before .before .before .be82 .result) 255 (omega arith),
+      le-leb (b .before .before .be83 .result) 255 (omega arith),
+      le-leb (b .before .be84 .result) 255 (omega arith),
+      le-leb (b .be16 .result) 65535 (omega arith),
+      and-true,
+      and-true,
+      and-true,
+      and-true,
+    )
 
 pub read-traction-spec : {M : Type 1} → statement M
 read-traction-spec =
