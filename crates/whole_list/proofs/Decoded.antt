@@ -28,7 +28,7 @@ use Rattle.whole_list.proofs.Recorded.{Ranged}
 
 -- ---- the position
 
-event-in : (c : Call) → Fits (eventOfCall c)
+pub event-in : (c : Call) → Fits (eventOfCall c)
 unfolding eventOfCall
 event-in c = go (eventOf (c .event)) refl
   where

@@ -31,6 +31,8 @@ use Rattle.state_codes.specs.Codes.{code}
 use Rattle.conditions.specs.Conditions.{endAhead, lastAhead, firstAhead, profilesThere, routeConditions, nine, conditions, wordOf}
 use Rattle.whole_list.specs.Values.{History, roleOfCall, numberBy, reportsBy, positionBy, lengthBy, routeBy, isPoint, skippedBy, reportsSince, behindAtLoad}
 use Rattle.whole_list.specs.Rules.{standingBy, conditionsBy, machineBy, stateBy, requestBy}
+use Rattle.traction.specs.View.{tractionOf}
+use Rattle.whole_list.specs.Requests.{tractionBy}
 use Rattle.whole_list.proofs.Decoded.{RouteIn, route-in}
 
 -- ---- the engine after a history
@@ -72,6 +74,7 @@ engineOf h = record {
   progress = progressRun h;
   inputs = inputsBy h;
   control = controlBy h;
+  traction = tractionOf (tractionBy h);
 }
 
 -- ---- driver skips

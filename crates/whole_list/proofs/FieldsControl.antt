@@ -2,6 +2,7 @@
 use mathlib.Core.Path.{_≡_, refl, sym, _∙_, ap}
 use mathlib.Core.Bool.{Bool, false}
 use mathlib.Core.List.{_∷_}
+use mathlib.Core.Option.{Option}
 use Rattle.engine_value.specs.Engine.{withControl}
 use Rattle.engine_value.specs.declared.Control.{Control}
 use Rattle.event.specs.declared.Event.{Event}
@@ -14,12 +15,18 @@ use Rattle.state_codes.proofs.CodeLaws.{state-code}
 use Rattle.states.specs.States.{machine, T, byRow, machineAfter, given}
 use Rattle.states.specs.declared.Values.{Values}
 use Rattle.states.specs.declared.Machine.{Machine}
+use Rattle.state_codes.specs.declared.State.{State}
+use Rattle.traction.specs.Requests.{Remembered, rememberedAfter}
+use Rattle.traction.specs.View.{rememberedIn, tractionOf}
+use Rattle.traction.proofs.Laws.{told-again}
 use Rattle.states.specs.ControlGroup.{valuesIn, machineIn, controlOf, controlAfter}
 use Rattle.call.specs.Effect.{stored}
 use Rattle.call_values.specs.Call.{Call}
-use Rattle.call.specs.Call.{conditionsIn, stepBy}
+use Rattle.call.specs.Call.{conditionsIn, settled, stepBy}
 use Rattle.whole_list.specs.Values.{History, eventOfCall, modeBy, leverBy, reportsBy, positionBy, routeBy}
 use Rattle.whole_list.specs.Rules.{standingBy, conditionsBy, valuesBy, becameReachedBy, machineBy, stateBy, requestBy}
+use Rattle.whole_list.specs.Requests.{tractionBy}
+use Rattle.whole_list.proofs.Requests.{remembered-is}
 use Rattle.whole_list.proofs.Fields.{inputsBy, controlBy, engineOf, conditions-is}
 use Rattle.whole_list.proofs.FieldsEffect.{untilOff, effectOf, stored-is}
 
@@ -84,8 +91,19 @@ control-is h c =
       request = given-kept (machineBy h) r v e (requestBy h) i;
     }
 
+-- what it then remembers of the traction requests
+traction-is : (h : History) (c : Call)
+    → tractionOf (rememberedAfter (stateAt (code (stateBy h))) (eventOfCall c) (stateAt (code (stateBy (c ∷ h)))) (rememberedIn (tractionOf (tractionBy h)))) ≡ tractionOf (tractionBy (c ∷ h))
+traction-is h c =
+    let e = eventOfCall c in
+    ap (λ (m : Option Remembered). tractionOf (rememberedAfter (stateAt (code (stateBy h))) e (stateAt (code (stateBy (c ∷ h)))) m)) (told-again (tractionBy h))
+    ∙ ap (λ (s : State). tractionOf (rememberedAfter s e (stateAt (code (stateBy (c ∷ h)))) (tractionBy h))) (state-code (stateBy h))
+    ∙ ap (λ (s : State). tractionOf (rememberedAfter (stateBy h) e s (tractionBy h))) (state-code (stateBy (c ∷ h)))
+    ∙ ap tractionOf (remembered-is h c)
+
 -- the engine after the event
 pub engine-is : (h : History) (c : Call) → stepBy (engineOf h) (eventOfCall c) (effectOf h c) .engine ≡ engineOf (c ∷ h)
 engine-is h c =
-    ap (λ m. withControl m (stepBy (engineOf h) (eventOfCall c) (effectOf h c) .engine .control)) (stored-is h c)
-    ∙ ap (λ x. withControl (engineOf (c ∷ h)) x) (control-is h c)
+    ap (λ m. settled (engineOf h) (eventOfCall c) m (stepBy (engineOf h) (eventOfCall c) (effectOf h c) .engine .control)) (stored-is h c)
+    ∙ ap (λ x. settled (engineOf h) (eventOfCall c) (withControl (engineOf (c ∷ h)) x (engineOf h .traction)) x) (control-is h c)
+    ∙ ap (λ t. withControl (engineOf (c ∷ h)) (controlBy (c ∷ h)) t) (traction-is h c)

@@ -130,7 +130,7 @@ same-rows : (h : History) (c : Call) → kindRows h c ≡ rowsBy h (roleOfCall c
 unfolding kindRows latest
 same-rows h c = refl
 
--- ---- stored, it is the engine of the history with the event, but for the control group
+-- ---- stored, it is the engine of the history with the event, but for the groups of control and traction
 
 module _ (h : History) where
   route-after : (q : Role) (o : Option LoadValue) → routeAfter (engineOf h) (journeyThen q o (routeBy h)) ≡ routeThen q o (routeBy h)
@@ -155,7 +155,7 @@ module _ (h : History) where
       go Nothing = refl
       go (At k) = refl
 
-pub stored-is : (h : History) (c : Call) → stored (engineOf h) (effectOf h c) ≡ withControl (engineOf (c ∷ h)) (effectOf h c .control)
+pub stored-is : (h : History) (c : Call) → stored (engineOf h) (effectOf h c) ≡ withControl (engineOf (c ∷ h)) (effectOf h c .control) (engineOf h .traction)
 unfolding routeBy skipsOf
 stored-is h c =
     let j : routeAfter (engineOf h) (effectOf h c .journey) ≡ routeBy (c ∷ h) = route-after h (roleOfCall c) (loadOfCall c) in
@@ -168,6 +168,7 @@ stored-is h c =
       progress = progressRun (c ∷ h);
       inputs = inputsBy (c ∷ h);
       control = effectOf h c .control;
+      traction = engineOf h .traction;
     }
 
 -- ---- kind by kind

@@ -3,6 +3,7 @@ pub mod Recorded
 pub mod Decoded
 pub mod Status
 pub mod Readable
+pub mod Requests
 pub mod Fields
 pub mod FieldsReached
 pub mod FieldsStep

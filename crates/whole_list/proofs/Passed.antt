@@ -15,6 +15,7 @@ use Rattle.event.proofs.Known.{OfRole, known}
 use Rattle.event.specs.declared.Event.the-variants as kind
 use Rattle.packets.specs.Packets.{packetOf, cut, cutPackets}
 use Rattle.packets.specs.declared.TimingPoint.{TimingPoint}
+use Rattle.packets.specs.declared.Requested.{Requested}
 use Rattle.packets.specs.declared.Packet.{Packet}
 use Rattle.position.specs.Position.{point, pointCount}
 use Rattle.timing.specs.Changes.{statusPassed, when, reportChanges}
@@ -24,16 +25,19 @@ use Rattle.position.specs.declared.Found.the-variants.{At, Nothing}
 use Rattle.timing.proofs.Changes.{Behind, recorded-behind, index-below}
 use Rattle.journey.specs.declared.Head.{Head}
 use Rattle.conditions.specs.Conditions.{endAhead}
-use Rattle.call_values.specs.Packets.{PointChange, timingPoint, jpReceived, atoStatus, statusDue, received, packetsOf}
+use Rattle.call_values.specs.Packets.{PointChange, timingPoint, jpReceived, tractionBrake, tractionBrakes, atoStatus, statusDue, received, packetsOf}
 use Rattle.call.specs.Packets.{changeIn}
 use Rattle.call_values.specs.Call.{Call}
 use Rattle.call.specs.Call.{stepOf}
 use Rattle.whole_list.specs.Values.{History, eventOfCall, positionBy, routeBy, reportAt, roleOfCall}
-use Rattle.whole_list.specs.Table.{skipChange, changesBy, headOfCall, statusBy, packetsBy, tableBy}
-use Rattle.whole_list.specs.Rules.{standingBy}
+use Rattle.whole_list.specs.Table.{skipChange, changesBy, headOfCall, ownBy, statusBy, packetsBy, tableBy}
+use Rattle.whole_list.specs.Rules.{standingBy, stateBy}
+use Rattle.traction.specs.Requests.{writtenContent}
+use Rattle.whole_list.specs.Requests.{tractionBy}
 use Rattle.whole_list.specs.Calls.{engineAfter, historyOf}
 use Rattle.whole_list.specs.Recorded.{In}
 use Rattle.whole_list.specs.WholeList.{bytesOfEach, JudgedByTable, TrulyPassed, NothingAhead}
+use Rattle.whole_list.proofs.Requests.{in-append}
 use Rattle.whole_list.proofs.Fields.{progressRun, in-range}
 use Rattle.whole_list.proofs.FieldsStep.{route-kept, position-new, changes-is}
 use Rattle.whole_list.proofs.Readable.{packets-fit, read-as}
@@ -85,15 +89,6 @@ module _ (c : Call) (h : History) (x : Position) (e : eventOfCall c ≡ kind.Pos
 
 -- ---- the changes that a packet 62 of status 0 tells of
 
-in-append : {A : Type 0} (x : A) (a b : List A) → In x (a ++ b) → In x a ⊎ In x b
-in-append x [] b i = inr i
-in-append x (y ∷ a) b (inl e) = inl (inl e)
-in-append x (y ∷ a) b (inr i) = go (in-append x a b i)
-  where
-    go : In x a ⊎ In x b → ((x ≡ y) ⊎ In x a) ⊎ In x b
-    go (inl j) = inl (inr j)
-    go (inr j) = inr j
-
 skip-no : (f : Found) (on x : Bool) (d : PointChange) → In d (skipChange f on x) → d .status ≡ statusPassed → ⊥
 skip-no Nothing on x d i s = i
 skip-no (At k) true x d (inl e) s = let z : _≡_ {A = ℕ} 5 0 = sym (ap (λ (c : PointChange). c .status) e) ∙ s in omega arith
@@ -134,6 +129,12 @@ module _ (j : Route) (x : Position) (p : TimingPoint) where
   not-68 true s n (inr q) = q
   not-68 false s n q = q
 
+  not-61 : (o : Option Requested) → In (Packet.TimingPoint p) (tractionBrakes j x o) → ⊥
+  unfolding tractionBrake
+  not-61 none q = q
+  not-61 (some r) (inl e) = zero-one (cc)
+  not-61 (some r) (inr q) = q
+
   -- the values of a packet 62
   values-62 : (d : PointChange) → Packet.TimingPoint p ≡ timingPoint j x d → (p .status ≡ d .status) × (p .nidtp ≡ point j (d .index) .nidtp)
   unfolding timingPoint
@@ -145,15 +146,21 @@ timing-among : (h : History) (c : Call) (p : TimingPoint) → In (Packet.TimingP
 unfolding packetsBy packetsOf
 timing-among h c p i = first (in-append (Packet.TimingPoint p) (received (routeBy (c ∷ h)) (positionBy (c ∷ h)) (headOfCall c)) _ i)
   where
-    second : In (Packet.TimingPoint p) (map (timingPoint (routeBy (c ∷ h)) (positionBy (c ∷ h))) (changesBy h c))
-        ⊎ In (Packet.TimingPoint p) (when (statusDue (statusBy h) (statusBy (c ∷ h))) (atoStatus (routeBy (c ∷ h)) (positionBy (c ∷ h)) (statusBy (c ∷ h) .state) (statusBy (c ∷ h) .conditions)))
+    last : List Packet
+    last = when (statusDue (statusBy h) (statusBy (c ∷ h))) (atoStatus (routeBy (c ∷ h)) (positionBy (c ∷ h)) (statusBy (c ∷ h) .state) (statusBy (c ∷ h) .conditions))
+
+    third : In (Packet.TimingPoint p) (ownBy h c) ⊎ In (Packet.TimingPoint p) last → ⊥
+    third (inl q) = not-61 (routeBy (c ∷ h)) (positionBy (c ∷ h)) p (writtenContent (stateBy h) (eventOfCall c) (tractionBy h) (tractionBy (c ∷ h))) q
+    third (inr q) = not-68 (routeBy (c ∷ h)) (positionBy (c ∷ h)) p (statusDue (statusBy h) (statusBy (c ∷ h))) _ _ q
+
+    second : In (Packet.TimingPoint p) (map (timingPoint (routeBy (c ∷ h)) (positionBy (c ∷ h))) (changesBy h c)) ⊎ In (Packet.TimingPoint p) (ownBy h c ++ last)
         → (d : PointChange) × In d (changesBy h c) × (Packet.TimingPoint p ≡ timingPoint (routeBy (c ∷ h)) (positionBy (c ∷ h)) d)
     second (inl q) = in-map (timingPoint (routeBy (c ∷ h)) (positionBy (c ∷ h))) (Packet.TimingPoint p) (changesBy h c) q
-    second (inr q) = absurd (not-68 (routeBy (c ∷ h)) (positionBy (c ∷ h)) p (statusDue (statusBy h) (statusBy (c ∷ h))) _ _ q)
+    second (inr q) = absurd (third (in-append (Packet.TimingPoint p) (ownBy h c) last q))
 
     first : In (Packet.TimingPoint p) (received (routeBy (c ∷ h)) (positionBy (c ∷ h)) (headOfCall c))
         ⊎ In (Packet.TimingPoint p) (map (timingPoint (routeBy (c ∷ h)) (positionBy (c ∷ h))) (changesBy h c)
-        ++ when (statusDue (statusBy h) (statusBy (c ∷ h))) (atoStatus (routeBy (c ∷ h)) (positionBy (c ∷ h)) (statusBy (c ∷ h) .state) (statusBy (c ∷ h) .conditions)))
+        ++ (ownBy h c ++ last))
         → (d : PointChange) × In d (changesBy h c) × (Packet.TimingPoint p ≡ timingPoint (routeBy (c ∷ h)) (positionBy (c ∷ h)) d)
     first (inl q) = absurd (not-65 (routeBy (c ∷ h)) (positionBy (c ∷ h)) p (headOfCall c) q)
     first (inr q) = second (in-append (Packet.TimingPoint p) (map (timingPoint (routeBy (c ∷ h)) (positionBy (c ∷ h))) (changesBy h c)) _ q)

@@ -1,5 +1,5 @@
 -- Every packet of an accepted call is within its ranges: the reader takes its bytes and gives it back.
-use mathlib.Core.Path.{_≡_, refl, _∙_, ap}
+use mathlib.Core.Path.{_≡_, refl, sym, _∙_, ap, subst}
 use mathlib.Core.Logic.{inl, inr}
 use mathlib.Core.Bool.{Bool, true, false, _&&_, _||_}
 use mathlib.Core.List.{List, [], _∷_, _++_, map}
@@ -17,6 +17,10 @@ use Rattle.wire.specs.Lists.{All}
 use Rattle.journey.proofs.Accepted.{HeadFits}
 use Rattle.journey.specs.declared.Head.{Head}
 use Rattle.event.specs.Kinds.{Role, off, load, report, other, skip}
+use Rattle.event.specs.declared.TractionRequest.{TractionRequest}
+use Rattle.event.specs.declared.Event.{Event}
+use Rattle.event.proofs.Known.{OfTraction, traction-of}
+use Rattle.event.proofs.Accepted.{ContentFits, content-fits, Fits as EventFits}
 use Rattle.route.specs.Route.{LoadValue}
 use Rattle.route.proofs.Ranges.{PointFits}
 use Rattle.layout.specs.Layout.{fits}
@@ -25,7 +29,10 @@ use Rattle.packets.specs.Layouts.{headerLayout, unknownNidc}
 use Rattle.packets.specs.View.{headerView}
 use Rattle.packets.specs.Packets.{packetBytes, packetFits, packetOf}
 use Rattle.packets.proofs.RoundTrips.{TypedPacket, read-written}
+use Rattle.packets.specs.declared.Requested.{Requested}
 use Rattle.packets.specs.declared.Packet.{Packet}
+use Rattle.traction.specs.Requests.{writtenContent}
+use Rattle.traction.proofs.Laws.{written-inv, written-is}
 use Rattle.position.specs.Position.{point, pointCount, known}
 use Rattle.timing.specs.Changes.{statusStopped, when}
 use Rattle.position.specs.Skips.{stopNamed}
@@ -36,15 +43,16 @@ use Rattle.position.specs.declared.Standing.the-variants.{Unused, Targeted, Rea
 use Rattle.conditions.specs.Conditions.{endAhead}
 use Rattle.conditions.proofs.WordLaws.{conditions-most}
 use Rattle.state_codes.proofs.CodeLaws.{code-most}
-use Rattle.call_values.specs.Packets.{PointChange, header, timingPoint, jpReceived, atoStatus, statusDue, received, packetsOf}
+use Rattle.call_values.specs.Packets.{PointChange, header, timingPoint, jpReceived, tractionBrake, tractionBrakes, atoStatus, statusDue, received, packetsOf}
 use Rattle.call_values.specs.Call.{Call}
-use Rattle.whole_list.specs.Values.{History, loadOfCall, roleOfCall, positionBy, routeBy}
+use Rattle.whole_list.specs.Values.{History, eventOfCall, loadOfCall, roleOfCall, positionBy, routeBy}
 use Rattle.whole_list.specs.Rules.{standingBy, conditionsBy, stateBy}
-use Rattle.whole_list.specs.Table.{changeAt, standingThen, changesFrom, skipChange, changesBy, headOf, headOfCall, statusBy, packetsBy}
+use Rattle.whole_list.specs.Requests.{tractionBy}
+use Rattle.whole_list.specs.Table.{ownBy, changeAt, standingThen, changesFrom, skipChange, changesBy, headOf, headOfCall, statusBy, packetsBy}
 use Rattle.whole_list.specs.Recorded.{In}
 use Rattle.whole_list.specs.WholeList.{bytesOfEach}
 use Rattle.whole_list.proofs.Recorded.{Ranged}
-use Rattle.whole_list.proofs.Decoded.{load-in, RouteIn, route-in, ranged}
+use Rattle.whole_list.proofs.Decoded.{event-in, load-in, RouteIn, route-in, ranged}
 
 all-append : {A : Type 0} (P : A → Type 0) (a b : List A) → All P a → All P b → All P (a ++ b)
 all-append P [] b x y = y
@@ -96,6 +104,10 @@ module _ (j : Route) (x : Position) (r : Ranged j x) where
       country true = omega (arith, r .nidc)
       country false = omega arith
 
+  fits-61 : (q : Requested) → ContentFits q → Fits (tractionBrake j x q)
+  unfolding tractionBrake
+  fits-61 q f = (rw header-fits, (header-typed, (omega (arith, f .trabrrq), (omega (arith, f .locobrrq), (omega (arith, f .suptb), (omega (arith, f .rtbrq), tt))))))
+
   fits-68 : (s c : ℕ) → s ≤ 7 → c ≤ 511 → Fits (atoStatus j x s c)
   unfolding atoStatus
   fits-68 s c h k = (rw (header-fits, le-leb s 7 h, le-leb c 511 k), (header-typed, (tt, tt)))
@@ -109,6 +121,10 @@ module _ (j : Route) (x : Position) (r : Ranged j x) where
   all-65 : (o : Option Head) → ((h : Head) → o ≡ some h → HeadFits h) → All Fits (received j x o)
   all-65 none k = tt
   all-65 (some h) k = (fits-65 h (k h refl), tt)
+
+  all-61 : (o : Option Requested) → ((q : Requested) → o ≡ some q → ContentFits q) → All Fits (tractionBrakes j x o)
+  all-61 none k = tt
+  all-61 (some q) k = (fits-61 q (k q refl), tt)
 
   all-68 : (due : Bool) (s c : ℕ) → s ≤ 7 → c ≤ 511 → All Fits (when due (atoStatus j x s c))
   all-68 true s c h k = (fits-68 s c h k, tt)
@@ -182,6 +198,16 @@ head-in c d = go (roleOfCall c)
 -- ---- for every history
 
 module _ (h : History) (c : Call) where
+  -- the content of a packet 61 is that of the event
+  content-in : (q : Requested) → writtenContent (stateBy h) (eventOfCall c) (tractionBy h) (tractionBy (c ∷ h)) ≡ some q → ContentFits q
+  content-in q e =
+      let w = written-inv (stateBy h) (eventOfCall c) (tractionBy h) (tractionBy (c ∷ h)) q e in
+      let x = w .2 .0 in
+      let same : some (x .content) ≡ some q = sym (written-is (stateBy h) (eventOfCall c) (tractionBy h) (tractionBy (c ∷ h)) x (w .0) (w .1) (w .2 .1)) ∙ e in
+      let z : x .content ≡ q = cc in
+      let k : eventOfCall c ≡ Event.Traction x = subst (λ (o : Option TractionRequest). OfTraction o (eventOfCall c)) (w .2 .1) (traction-of (eventOfCall c)) in
+      subst ContentFits z (content-fits x (subst EventFits k (event-in c)))
+
   pub packets-fit : All Fits (packetsBy h c)
   unfolding packetsBy packetsOf conditionsBy
   packets-fit =
@@ -189,7 +215,8 @@ module _ (h : History) (c : Call) where
       all-append Fits (received (routeBy (c ∷ h)) (positionBy (c ∷ h)) (headOfCall c)) _ (all-65 _ _ r (headOfCall c) (head-in c))
       (all-append Fits (map (timingPoint (routeBy (c ∷ h)) (positionBy (c ∷ h))) (changesBy h c)) _
       (all-62 _ _ r (changesBy h c) (route-in (c ∷ h)) (status-in h c))
-      (all-68 _ _ r (statusDue (statusBy h) (statusBy (c ∷ h))) _ _ (code-most (stateBy (c ∷ h))) (conditions-most _ _ _ _)))
+      (all-append Fits (ownBy h c) _ (all-61 _ _ r _ content-in)
+      (all-68 _ _ r (statusDue (statusBy h) (statusBy (c ∷ h))) _ _ (code-most (stateBy (c ∷ h))) (conditions-most _ _ _ _))))
 
 -- each is read back as it was
 pub read-back : (ps : List Packet) → All Fits ps → map packetOf (bytesOfEach ps) ≡ map accept ps

@@ -15,9 +15,10 @@ use Rattle.journey.specs.declared.Head.{Head}
 use Rattle.packets.specs.Packets.{valueBytes, packetBytes, joined, cutPackets}
 use Rattle.packets.proofs.Cutting.{cut-joined}
 use Rattle.packets.proofs.RoundTrips.{read-written}
+use Rattle.packets.specs.declared.Requested.{Requested}
 use Rattle.packets.specs.declared.Packet.{Packet}
 use Rattle.timing.specs.Changes.{when}
-use Rattle.call_values.specs.Packets.{PointChange, header, timingPoint, jpReceived, atoStatus, Status, statusDue, received, packetsOf}
+use Rattle.call_values.specs.Packets.{PointChange, header, timingPoint, jpReceived, tractionBrake, tractionBrakes, atoStatus, Status, statusDue, received, packetsOf}
 use Rattle.whole_list.specs.Recorded.{newest}
 use Rattle.whole_list.specs.WholeList.{bytesOfEach, StatusPacket}
 
@@ -27,7 +28,7 @@ memory-read ps memory = rw take-append-seam (cut-joined ps)
 
 -- ---- the last packet 68 of an event
 
-bytes-append : (ps qs : List Packet) → bytesOfEach (ps ++ qs) ≡ bytesOfEach ps ++ bytesOfEach qs
+pub bytes-append : (ps qs : List Packet) → bytesOfEach (ps ++ qs) ≡ bytesOfEach ps ++ bytesOfEach qs
 bytes-append [] qs = refl
 bytes-append (p ∷ ps) qs = ap (λ l. packetBytes p ∷ l) (bytes-append ps qs)
 
@@ -50,6 +51,11 @@ module _ (j : Route) (x : Position) where
   unfolding newest timingPoint valueBytes
   newest-62 o [] = refl
   newest-62 o (c ∷ l) = newest-62 o l
+
+  pub newest-61 : (o : Option (List ℕ)) (r : Option Requested) → newest o (bytesOfEach (tractionBrakes j x r)) ≡ o
+  unfolding newest tractionBrake valueBytes
+  newest-61 o none = refl
+  newest-61 o (some r) = refl
 
   newest-68 : (o : Option (List ℕ)) (due : Bool) (s c : ℕ) → newest o (bytesOfEach (when due (atoStatus j x s c))) ≡ (if due then some (packetBytes (atoStatus j x s c)) else o)
   unfolding newest atoStatus valueBytes

@@ -15,12 +15,14 @@ use Rattle.state_codes.proofs.CodeLaws.{code-most, state-code}
 use Rattle.state_codes.specs.declared.State.the-variants.{NP}
 use Rattle.call_values.specs.Call.{Call}
 use Rattle.call_values.specs.Packets.{Status, atoStatus, statusDue}
-use Rattle.whole_list.specs.Values.{History, positionBy, routeBy}
+use Rattle.whole_list.specs.Values.{History, eventOfCall, positionBy, routeBy}
 use Rattle.whole_list.specs.Rules.{conditionsBy, stateBy, machineBy}
+use Rattle.traction.specs.Requests.{writtenContent}
+use Rattle.whole_list.specs.Requests.{tractionBy}
 use Rattle.whole_list.specs.Table.{headOfCall, changesBy, ownBy, statusBy, packetsBy}
 use Rattle.whole_list.specs.Recorded.{newest}
 use Rattle.whole_list.specs.WholeList.{bytesOfEach, StatusPacket}
-use Rattle.whole_list.proofs.Recorded.{newest-is, status-tells}
+use Rattle.whole_list.proofs.Recorded.{newest-61, newest-is, status-tells}
 use Rattle.whole_list.proofs.Decoded.{ranged}
 
 -- ---- when one is due
@@ -53,7 +55,7 @@ packet-tells h = status-tells (routeBy h) (positionBy h) (code (stateBy h)) (con
 module _ (o : Option (List ℕ)) (h : History) (c : Call) where
   pub newest-by : newest o (bytesOfEach (packetsBy h c)) ≡ (if statusDue (statusBy h) (statusBy (c ∷ h)) then some (statusPacket (c ∷ h)) else o)
   unfolding packetsBy newest
-  newest-by = newest-is (routeBy (c ∷ h)) (positionBy (c ∷ h)) o (headOfCall c) (changesBy h c) (ownBy h c) (statusBy h) (statusBy (c ∷ h)) (λ o. refl)
+  newest-by = newest-is (routeBy (c ∷ h)) (positionBy (c ∷ h)) o (headOfCall c) (changesBy h c) (ownBy h c) (statusBy h) (statusBy (c ∷ h)) (λ o. newest-61 _ _ o (writtenContent (stateBy h) (eventOfCall c) (tractionBy h) (tractionBy (c ∷ h))))
 
 -- the last packet 68 names the state and the conditions of a history
 pub record Names (o : Option (List ℕ)) (h : History) : Type 0 where

@@ -2,6 +2,7 @@
 use mathlib.Core.Path.{_≡_, refl, _∙_, ap, subst}
 use mathlib.Core.Bool.{Bool}
 use mathlib.Core.List.{List, _∷_}
+use mathlib.Core.Option.{Option}
 use lib.Dec.{ltb}
 use lib.ListN.{length}
 use Rattle.wire.specs.Judged.{Judged, thenJudge, row}
@@ -11,15 +12,22 @@ use Rattle.event.specs.Kinds.{kindOf}
 use Rattle.event.specs.declared.Event.{Event}
 use Rattle.packets.specs.Packets.{joined}
 use Rattle.packets.specs.declared.Packet.{Packet}
+use Rattle.packets.specs.declared.Requested.{Requested}
 use Rattle.state_codes.specs.Codes.{code, stateAt}
 use Rattle.state_codes.proofs.CodeLaws.{state-code}
 use Rattle.state_codes.specs.Numbers.{powerRows, stateRow}
-use Rattle.call_values.specs.Packets.{packetsOf}
+use Rattle.state_codes.specs.declared.State.{State}
+use Rattle.traction.specs.Requests.{Remembered, writtenContent}
+use Rattle.traction.specs.View.{rememberedIn}
+use Rattle.traction.proofs.Laws.{told-again}
+use Rattle.call.specs.Packets.{ownPackets}
+use Rattle.call_values.specs.Packets.{tractionBrakes, packetsOf}
 use Rattle.call.specs.Effect.{Effect, effect}
 use Rattle.call_values.specs.Call.{Call}
 use Rattle.call.specs.Call.{Step, statusIn, stepTo, stepBy, judge, judged}
 use Rattle.whole_list.specs.Values.{History, eventOfCall, positionBy, routeBy}
 use Rattle.whole_list.specs.Rules.{stateBy}
+use Rattle.whole_list.specs.Requests.{tractionBy}
 use Rattle.whole_list.specs.Table.{headOfCall, ownBy, statusBy, packetsBy, kindRows, tableBy}
 use Rattle.whole_list.proofs.Fields.{engineOf}
 use Rattle.whole_list.proofs.FieldsStep.{changes-by}
@@ -38,11 +46,18 @@ ruled h c = record { engine = engineOf (c ∷ h); packets = packetsBy h c }
 status-is : (h : History) → statusIn (engineOf h) ≡ statusBy h
 status-is h = λ i. record { state = code (stateBy h); conditions = conditions-in h i; speed = positionBy h .speed }
 
+own-is : (h : History) (c : Call) → ownPackets (engineOf h) (eventOfCall c) (engineOf (c ∷ h)) ≡ ownBy h c
+own-is h c =
+    let packet : Option Requested → List Packet = tractionBrakes (routeBy (c ∷ h)) (positionBy (c ∷ h)) in
+    ap (λ (s : State). packet (writtenContent s (eventOfCall c) (rememberedIn (engineOf h .traction)) (rememberedIn (engineOf (c ∷ h) .traction)))) (state-code (stateBy h))
+    ∙ ap (λ (m : Option Remembered). packet (writtenContent (stateBy h) (eventOfCall c) m (rememberedIn (engineOf (c ∷ h) .traction)))) (told-again (tractionBy h))
+    ∙ ap (λ (m : Option Remembered). packet (writtenContent (stateBy h) (eventOfCall c) (tractionBy h) m)) (told-again (tractionBy (c ∷ h)))
+
 step-is : (h : History) (c : Call) → stepBy (engineOf h) (eventOfCall c) (effectOf h c) ≡ ruled h c
 unfolding packetsBy
 step-is h c =
     ap (λ m. stepTo (engineOf h) (eventOfCall c) (effectOf h c) m) (engine-is h c)
-    ∙ λ i. record { engine = engineOf (c ∷ h); packets = packetsOf (routeBy (c ∷ h)) (positionBy (c ∷ h)) (headOfCall c) (changes-by h c i) (ownBy h c) (status-is h i) (status-is (c ∷ h) i) }
+    ∙ λ i. record { engine = engineOf (c ∷ h); packets = packetsOf (routeBy (c ∷ h)) (positionBy (c ∷ h)) (headOfCall c) (changes-by h c i) (own-is h c i) (status-is h i) (status-is (c ∷ h) i) }
 
 -- the rows one after the other
 rows-on : (power state kind : Judged (Unit {0})) (f : Effect) (test : Effect → Bool) (step : Effect → Step)

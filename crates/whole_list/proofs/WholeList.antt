@@ -31,10 +31,14 @@ use Rattle.call.specs.Call.{Outcome, Step, conditionsIn, judged, outcomeOf, ste
 use Rattle.call.proofs.Rows.{memory-length}
 use Rattle.whole_list.specs.Values.{History, eventOfCall, latest, routeBy, reportsSince, behindAtLoad}
 use Rattle.whole_list.specs.Rules.{conditionsBy, machineBy, stateBy, requestBy, Engaged}
+use Rattle.traction.specs.View.{rememberedIn}
+use Rattle.traction.proofs.Laws.{told-again}
+use Rattle.whole_list.specs.Requests.{requestsSince, afterRequests, tractionBy}
+use Rattle.whole_list.proofs.Requests.{traction-exactly}
 use Rattle.whole_list.specs.Table.{packetsBy, answerBy, tableBy}
 use Rattle.whole_list.specs.Calls.{play, engineAfter, trace, withAccepted, acceptedIn, historyOf, laterAnswer, lastAnswer, keep, acceptedCalls}
 use Rattle.whole_list.specs.Recorded.{bytesWritten, packetsAfter, newest, lastStatus}
-use Rattle.whole_list.specs.WholeList.{EngagedExactly, PointsStand, bytesOfEach, StatusPacket, StatusWritten, JudgedByTable, WholeList, NothingAhead, NoTrace, RequestExactly}
+use Rattle.whole_list.specs.WholeList.{EngagedExactly, PointsStand, bytesOfEach, StatusPacket, StatusWritten, RequestWrites, Has61, JudgedByTable, WholeList, NothingAhead, NoTrace, RequestExactly}
 use Rattle.whole_list.proofs.Decoded.{zones-booked}
 use Rattle.whole_list.proofs.Fields.{skipsOf, progressRun, engineOf, stands-at}
 use Rattle.whole_list.proofs.FieldsControl.{conditions-in}
@@ -101,6 +105,7 @@ module _ (h : History) (c : Call) where
     answer = λ e. ap (λ r. r .answer) (accepted-is e);
     packets = written-is;
     read-back = λ e. ap (map packetOf) (written-is e) ∙ read-back (packetsBy h c) (packets-fit h c);
+    traction = λ e. subst (λ (l : List (List ℕ)). Has61 l ↔ RequestWrites h c) (sym (written-is e)) (traction-exactly h c);
     behind = behind-is;
     as-long = memory-length (engineOf h) c;
   }
@@ -172,7 +177,7 @@ keeps (c ∷ calls) e h o a k =
     keeps calls _ _ _ _ (subst (λ x. Next c h o a (stepOf x c)) (sym (k .seen)) (keeps-one h o a c (k .good) (k .named) (k .answered)))
 
 fresh-is : fresh ≡ engineOf []
-unfolding latest routeBy skipsOf progressRun run reportsSince behindAtLoad machineBy requestBy
+unfolding latest routeBy skipsOf progressRun run reportsSince behindAtLoad machineBy requestBy requestsSince afterRequests tractionBy
 fresh-is = refl
 
 pub kept : (calls : List Call) → Kept (engineAfter calls) (historyOf calls) (lastStatus none (trace fresh calls)) (lastAnswer none (trace fresh calls))
@@ -238,6 +243,7 @@ whole-list calls =
       status = claim-status _ _ _ _ k;
       judged = λ earlier c later e. claim-judged _ _ c (kept earlier .seen);
       request = ap (λ x. x .control .request) (k .seen);
+      traction = ap (λ x. rememberedIn (x .traction)) (k .seen) ∙ told-again (tractionBy (historyOf calls));
       as-ruled = record { stands = stands-exactly (historyOf calls); became = saw (historyOf calls); zones = zones-booked (historyOf calls) };
       shown = rw (k .seen) (shown-by (historyOf calls));
     }

@@ -26,11 +26,13 @@ use Rattle.position.specs.declared.Standing.the-variants.{Unused, Targeted, Rea
 use Rattle.state_codes.specs.Codes.{code}
 use Rattle.conditions.specs.Conditions.{endAhead}
 use Rattle.state_codes.specs.Numbers.{powerRows, stateRow}
-use Rattle.call_values.specs.Packets.{PointChange, pointChange, Status, packetsOf}
+use Rattle.call_values.specs.Packets.{PointChange, pointChange, Status, tractionBrakes, packetsOf}
 use Rattle.call_values.specs.Rows.{offsetBeyond, sameBool}
 use Rattle.call_values.specs.Call.{Call, Accepted}
-use Rattle.whole_list.specs.Values.{History, loadOfCall, roleOfCall, positionBy, routeBy, skippedBy}
+use Rattle.traction.specs.Requests.{writtenContent}
+use Rattle.whole_list.specs.Values.{History, eventOfCall, loadOfCall, roleOfCall, positionBy, routeBy, skippedBy}
 use Rattle.whole_list.specs.Rules.{standingBy, conditionsBy, stateBy, requestBy}
+use Rattle.whole_list.specs.Requests.{tractionBy}
 
 -- ---- the points that an event changed, by where the history rule has them
 
@@ -87,9 +89,9 @@ headOfCall c = elim (roleOfCall c) [ off ↦ none | load ↦ headOf (loadOfCall 
 abbrev pub statusBy : History → Status
 statusBy h = record { state = code (stateBy h); conditions = conditionsBy h; speed = positionBy h .speed }
 
--- the packets that one kind of event alone writes; the kinds of document 01 have none
+-- the packets that one kind of event alone writes: packet 61 of a traction request
 abbrev pub ownBy : History → Call → List Packet
-ownBy h c = []
+ownBy h c = tractionBrakes (routeBy (c ∷ h)) (positionBy (c ∷ h)) (writtenContent (stateBy h) (eventOfCall c) (tractionBy h) (tractionBy (c ∷ h)))
 
 unfoldable pub packetsBy : History → Call → List Packet
 packetsBy h c = packetsOf (routeBy (c ∷ h)) (positionBy (c ∷ h)) (headOfCall c) (changesBy h c) (ownBy h c) (statusBy h) (statusBy (c ∷ h))

@@ -1,6 +1,6 @@
 -- THE CLAIM (demand 3): one statement over every list of calls, refused ones included, on one fresh engine. It assumes nothing.
 use mathlib.Core.Path.{_≡_}
-use mathlib.Core.Logic.{_≢_, _↔_}
+use mathlib.Core.Logic.{_≢_, _↔_, _⊎_}
 use mathlib.Core.Bool.{true}
 use mathlib.Core.List.{List, [], _∷_, _++_, map}
 use mathlib.Core.Option.{Option, none, some}
@@ -10,7 +10,8 @@ use Rattle.wire.specs.Judged.Judged.{refuse, accept}
 use Rattle.engine_value.specs.Engine.{routeIn, fresh, maxPoints}
 use Rattle.engine_value.specs.declared.Position.{Position}
 use Rattle.engine_value.specs.declared.Engine.{Engine}
-use Rattle.event.specs.declared.Event.the-variants.{PositionReport}
+use Rattle.event.specs.declared.TractionRequest.{TractionRequest}
+use Rattle.event.specs.declared.Event.the-variants.{PositionReport, Traction}
 use Rattle.packets.specs.Packets.{packetOf, packetBytes}
 use Rattle.packets.specs.declared.TimingPoint.{TimingPoint}
 use Rattle.packets.specs.declared.AtoStatus.{AtoStatus}
@@ -24,15 +25,18 @@ use Rattle.conditions.specs.Sentences.{ZonesBooked}
 use Rattle.state_codes.specs.Codes.{code}
 use Rattle.states.specs.States.{wanted}
 use Rattle.state_codes.specs.declared.EtcsMode.the-variants.{Other}
+use Rattle.state_codes.specs.declared.State.the-variants.{EG, DE}
+use Rattle.traction.specs.View.{rememberedIn}
 use Rattle.call_values.specs.Call.{Call, Accepted}
 use Rattle.call.specs.Call.{Outcome, stepOf, conditionsIn}
 use Rattle.call.specs.View.{shownView}
 use Rattle.call.specs.declared.Shown.{Shown}
 use Rattle.whole_list.specs.Values.{History, eventOfCall, routeBy, reportAt}
 use Rattle.whole_list.specs.Rules.{StandsBy, standingBy, conditionsBy, valuesBy, JustReached, becameReachedBy, stateBy, requestBy, upto, Engaged}
+use Rattle.whole_list.specs.Requests.{tractionBy}
 use Rattle.whole_list.specs.Table.{packetsBy, answerBy, tableBy}
 use Rattle.whole_list.specs.Calls.{engineAfter, trace, historyOf, lastAnswer, acceptedCalls}
-use Rattle.whole_list.specs.Recorded.{bytesWritten, packetsAfter, lastStatus, In}
+use Rattle.whole_list.specs.Recorded.{bytesWritten, packetsAfter, numberIn, lastStatus, In}
 
 -- 1. "Engaged is state 5, in the engine and in the last accepted answer": e is the engine, h the history, `last` the last accepted answer
 pub record EngagedExactly (e : Engine) (h : History) (last : Option Accepted) : Type 0 where
@@ -63,6 +67,17 @@ pub record StatusWritten (e : Engine) (h : History) (last : Option (List ℕ)) :
   pub state : e .control .state ≡ code (stateBy h)
   pub conditions : conditionsIn e ≡ conditionsBy h
 
+-- 02, Q-1: the call c is a kind 14 made in EG or DE, and range and Q_ATO_SupTB were those of no request before it, or are others after it
+pub record RequestWrites (h : History) (c : Call) : Type 0 where
+  pub request : TractionRequest
+  pub is-request : eventOfCall c ≡ Traction request
+  pub in-state : (stateBy h ≡ EG) ⊎ (stateBy h ≡ DE)
+  pub changed : (tractionBy h ≡ none) ⊎ (tractionBy (c ∷ h) ≢ tractionBy h)
+
+-- a packet 61 is among them
+abbrev pub Has61 : List (List ℕ) → Type 0
+Has61 l = (packet : List ℕ) × In packet l × (numberIn packet ≡ 61)
+
 -- 4. a call c at the engine e, after the history h, gives r: "It is accepted if it answers a state and not a number, as it does exactly when no row
 -- of the table of numbers refuses it." "Every refusal returns the number only and changes neither engine nor memory."
 pub record JudgedByTable (e : Engine) (h : History) (c : Call) (r : Outcome) : Type 0 where
@@ -74,6 +89,8 @@ pub record JudgedByTable (e : Engine) (h : History) (c : Call) (r : Outcome) : T
   pub packets : tableBy h c ≡ accept tt → packetsAfter (r .answer) (r .memory) ≡ bytesOfEach (packetsBy h c)
   -- "The packet reader returns the packet's fields": of each of them, those that the rules give
   pub read-back : tableBy h c ≡ accept tt → map packetOf (packetsAfter (r .answer) (r .memory)) ≡ map accept (packetsBy h c)
+  -- a packet 61 stands among them exactly when the call is a request that changes range or Q_ATO_SupTB, or is the first
+  pub traction : tableBy h c ≡ accept tt → Has61 (packetsAfter (r .answer) (r .memory)) ↔ RequestWrites h c
   pub behind : tableBy h c ≡ accept tt → drop (bytesWritten (r .answer)) (r .memory) ≡ drop (bytesWritten (r .answer)) (c .memory)
   pub as-long : length (r .memory) ≡ length (c .memory)
 
@@ -104,6 +121,8 @@ pub record WholeList (calls : List Call) : Type 0 where
   pub judged : (earlier : List Call) (c : Call) (later : List Call) → calls ≡ earlier ++ (c ∷ later)
       → JudgedByTable (engineAfter earlier) (historyOf earlier) c (stepOf (engineAfter earlier) c)
   pub request : engineAfter calls .control .request ≡ requestBy (historyOf calls)
+  -- 02, Q-1: "the range as a fact of the events since EG": what the engine remembers is that
+  pub traction : rememberedIn (engineAfter calls .traction) ≡ tractionBy (historyOf calls)
   pub as-ruled : AsRuled (historyOf calls)
   pub shown : ShownBy (shownView (engineAfter calls)) (historyOf calls)
 
