@@ -13,7 +13,9 @@ use Rattle.event.specs.declared.Event.the-variants.{PositionReport}
 use Rattle.event.specs.Kinds.{Role, off, load, report, other, skip}
 use Rattle.journey.specs.declared.Head.{Head}
 use Rattle.packets.specs.Packets.{packetOf}
+use Rattle.packets.specs.declared.Requested.{Requested}
 use Rattle.packets.specs.declared.Packet.{Packet}
+use Rattle.traction.specs.Requests.{writtenContent}
 use Rattle.packets.proofs.RoundTrips.{read-written}
 use Rattle.position.specs.Skips.{stopNamed}
 use Rattle.position.specs.declared.Found.{Found}
@@ -21,10 +23,11 @@ use Rattle.position.specs.declared.Found.the-variants.{At, Nothing}
 use Rattle.conditions.specs.Conditions.{endAhead}
 use Rattle.timing.specs.Changes.{Change, when, reportChanges}
 use Rattle.call_values.specs.Call.{Call}
-use Rattle.call_values.specs.Packets.{PointChange, timingPoint, jpReceived, atoStatus, statusDue, received, packetsOf}
+use Rattle.call_values.specs.Packets.{PointChange, timingPoint, jpReceived, tractionBrake, tractionBrakes, atoStatus, statusDue, received, packetsOf}
 use Rattle.call.specs.Packets.{changeIn}
 use Rattle.whole_list.specs.Values.{History, eventOfCall, roleOfCall, positionBy, routeBy, reportAt}
-use Rattle.whole_list.specs.Rules.{standingBy}
+use Rattle.whole_list.specs.Rules.{standingBy, stateBy}
+use Rattle.whole_list.specs.Requests.{tractionBy}
 use Rattle.whole_list.specs.Table.{skipChange, changesBy, headOfCall, ownBy, statusBy, packetsBy}
 use Rattle.whole_list.specs.WholeList.{bytesOfEach}
 use Rattle.whole_list.proofs.Readable.{Fits, packets-fit}
@@ -75,6 +78,11 @@ module _ (j : Route) (x : Position) where
   of-65 none = refl
   of-65 (some d) = refl
 
+  of-61 : (o : Option Requested) → toldOfEach (tractionBrakes j x o) ≡ []
+  unfolding toldOfEach tractionBrake
+  of-61 none = refl
+  of-61 (some r) = refl
+
   of-68 : (due : Bool) (s n : ℕ) → toldOfEach (when due (atoStatus j x s n)) ≡ []
   unfolding toldOfEach atoStatus
   of-68 true s n = refl
@@ -105,7 +113,9 @@ call-tells h c =
     ∙ ap (λ (l : List Told). l ++ toldOfEach (points ++ (ownBy h c ++ last))) (of-65 j x (headOfCall c))
     ∙ each-append points (ownBy h c ++ last)
     ∙ ap (λ (l : List Told). toldOfEach points ++ l)
-    (each-append (ownBy h c) last ∙ of-68 j x (statusDue (statusBy h) after) (after .state) (after .conditions))
+    (each-append (ownBy h c) last
+    ∙ ap (λ (l : List Told). l ++ toldOfEach last) (of-61 j x (writtenContent (stateBy h) (eventOfCall c) (tractionBy h) (tractionBy (c ∷ h))))
+    ∙ of-68 j x (statusDue (statusBy h) after) (after .state) (after .conditions))
     ∙ append-nil (toldOfEach points)
     ∙ of-62 j x (changesBy h c)
 

@@ -71,6 +71,7 @@ toldBy (refuse n) = []
 toldBy (accept (Packet.TimingPoint p)) = when (passes (toldOf p) || stops (toldOf p)) (toldOf p)
 toldBy (accept (Packet.JpReceived p)) = []
 toldBy (accept (Packet.AtoStatus p)) = []
+toldBy (accept (Packet.TractionBrake p)) = []
 
 unfoldable pub toldIn : List (List ℕ) → List Told
 toldIn [] = []
