@@ -2,17 +2,18 @@
 use mathlib.Core.Path.{refl}
 use Rattle.call.proofs.Computed.{computed}
 use Rattle.call_trials.specs.Engines.{on, failed, started, ready, pressed, driving, degraded, stopped, nearB, ended}
-use Rattle.call_trials.specs.Examples.{Refused, RefusedLoads, RefusedLater, States, Conditions, Points, Loads}
+use Rattle.call_trials.specs.Examples.{Refused, RefusedLoads, RefusedLater, States, Conditions, Points, Loads, Requests}
 
 pub refused : Refused
 unfolding computed on failed started ready driving
 refused = record {
   empty = refl;
   kind-0 = refl;
-  kind-14 = refl;
+  kind-15 = refl;
   power-on-longer = refl;
   lever-shorter = refl;
   position-shorter = refl;
+  traction-shorter = refl;
   reports-32 = refl;
   mode-2 = refl;
   lever-3 = refl;
@@ -20,6 +21,9 @@ refused = record {
   offset-16777216 = refl;
   train-of-0 = refl;
   train-of-100001 = refl;
+  traction-101 = refl;
+  traction-minus-101 = refl;
+  traction-minus-100 = record { answer = refl; memory = refl };
   lever-2 = record { answer = refl; memory = refl };
   train-of-1 = record { answer = refl; memory = refl };
   train-of-100000 = record { answer = refl; memory = refl };
@@ -242,4 +246,28 @@ loads = record {
   reached-again = record { answer = refl; memory = refl };
   empty-book = record { answer = refl; memory = refl };
   load-in-EG = record { answer = refl; memory = refl };
+}
+
+pub requests : Requests
+unfolding computed on ready driving degraded
+requests = record {
+  first = record { answer = refl; memory = refl };
+  first-0 = record { answer = refl; memory = refl };
+  at-27 = record { answer = refl; memory = refl };
+  at-28 = record { answer = refl; memory = refl };
+  at-minus-23 = record { answer = refl; memory = refl };
+  at-22 = record { answer = refl; memory = refl };
+  from-1 = record { answer = refl; memory = refl };
+  from-4 = record { answer = refl; memory = refl };
+  from-3 = record { answer = refl; memory = refl };
+  in-3 = record { answer = refl; memory = refl };
+  another-suptb = record { answer = refl; memory = refl };
+  in-DE = record { answer = refl; memory = refl };
+  kept-in-DE = record { answer = refl; memory = refl };
+  in-CO = record { answer = refl; memory = refl };
+  in-NA = record { answer = refl; memory = refl };
+  in-AV = record { answer = refl; memory = refl };
+  in-RE = refl;
+  entered-again = record { answer = refl; memory = refl };
+  no-room = refl;
 }

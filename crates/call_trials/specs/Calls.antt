@@ -49,10 +49,18 @@ report x = plain (0x09 ∷ x)
 abbrev pub load : Call
 load = loads journey book
 
+-- the content of a packet 61: M_ATO_TraBrRq, M_ATO_LocoBrRq, Q_ATO_SupTB, M_ATO_RTBRq
+abbrev pub requested : ℕ → List ℕ
+requested suptb = 0x0A ∷ 0x0B ∷ suptb ∷ 0x0C ∷ 0x0D ∷ []
+
+-- 02: "one signed byte, the request .., then the five bytes of packet 61"
+abbrev pub traction : ℕ → ℕ → Call
+traction byte suptb = plain (0x0E ∷ byte ∷ requested suptb)
+
 -- one of each kind but power on and power off
 abbrev pub others : List Call
 others =
-    configured ∷ fault ∷ reports 31 ∷ mode 1 ∷ lever 1 ∷ press ∷ report (inA 0 0) ∷ trainLength 1 ∷ load ∷ skip 7001 ∷ revoke 7001 ∷ []
+    configured ∷ fault ∷ reports 31 ∷ mode 1 ∷ lever 1 ∷ press ∷ report (inA 0 0) ∷ trainLength 1 ∷ load ∷ skip 7001 ∷ revoke 7001 ∷ traction 20 7 ∷ []
 
 -- the call with so many bytes of memory
 abbrev pub lending : ℕ → Call → Call

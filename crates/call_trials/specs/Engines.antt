@@ -4,7 +4,7 @@ use mathlib.Core.Path.{_≡_}
 use mathlib.Core.List.{List, [], _∷_}
 use mathlib.Core.Bool.{Bool, true, false}
 use lib.ListN.{replicate}
-use Rattle.engine_value.specs.Engine.{Route, blankZone, blankSegment, blankPoint, noSkips, noRoute, freshPosition, fresh, progress}
+use Rattle.engine_value.specs.Engine.{Route, blankZone, blankSegment, blankPoint, noSkips, noRoute, noTraction, freshPosition, fresh, progress}
 use Rattle.engine_value.specs.declared.Segment.{Segment}
 use Rattle.engine_value.specs.declared.Point.{Point}
 use Rattle.engine_value.specs.declared.Position.{Position}
@@ -81,6 +81,7 @@ engineOf r x p i c = record {
   progress = p;
   inputs = i;
   control = c;
+  traction = noTraction;
 }
 
 abbrev pub inputs : ℕ → ℕ → ℕ → Inputs

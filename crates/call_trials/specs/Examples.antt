@@ -1,16 +1,18 @@
 -- Calls over one journey: what they answer, the packets in their memory, and what the table of numbers refuses. The values are those of the
--- independent model (tests/model), looked over against document 01.
+-- independent model (tests/model), looked over against documents 01 and 02.
+use Prim.Native.Nat.{ℕ}
 use mathlib.Core.Path.{_≡_}
-use mathlib.Core.List.{[], _∷_, _++_}
+use mathlib.Core.List.{List, [], _∷_, _++_, map}
 use mathlib.Core.Bool.{true, false}
 use lib.ListN.{drop, take, set, replicate}
 use Rattle.wire.specs.Judged.Judged.{refuse}
 use Rattle.engine_value.specs.Engine.{fresh}
 use Rattle.position.specs.declared.Standing.the-variants.{Unused, Targeted, Passed}
-use Rattle.call.specs.Call.{stepOf}
+use Rattle.call_values.specs.Call.{Call}
+use Rattle.call.specs.Call.{Outcome, stepOf}
 use Rattle.call.specs.Trials.{plain, loads, afterEach, answered, Gives, powerOn, configured, reports, press, mode, lever, trainLength, skip, revoke}
 use Rattle.call_trials.specs.Journey.{journey, book, bookWithC, shortRecords}
-use Rattle.call_trials.specs.Calls.{powerOff, fault, inA, inB, inC, inD, undefined, nowhere, report, load, others, lending}
+use Rattle.call_trials.specs.Calls.{powerOff, fault, inA, inB, inC, inD, undefined, nowhere, report, load, requested, traction, others, lending}
 use Rattle.call_trials.specs.Calls.{Refuses, answersTo, standings, packet, plainPacket, point, received}
 use Rattle.call_trials.specs.Engines.{on, failed, started, ready, pressed, driving, degraded, stopped, nearB, ended}
 
@@ -20,10 +22,11 @@ pub record Refused : Type 0 where
   -- "1 empty, unknown kind or wrong length"
   pub empty : Refuses fresh (plain []) 1
   pub kind-0 : Refuses fresh (plain (0x00 ∷ [])) 1
-  pub kind-14 : Refuses fresh (plain (0x0E ∷ [])) 1
+  pub kind-15 : Refuses fresh (plain (0x0F ∷ [])) 1
   pub power-on-longer : Refuses fresh (plain (0x01 ∷ 0x00 ∷ [])) 1
   pub lever-shorter : Refuses fresh (plain (0x07 ∷ [])) 1
   pub position-shorter : Refuses fresh (plain (0x09 ∷ take 11 (inA 0 0))) 1
+  pub traction-shorter : Refuses fresh (plain (0x0E ∷ 0x65 ∷ take 4 (requested 0))) 1
   -- "2 field out of range", and the last values that are within
   pub reports-32 : Refuses fresh (reports 32) 2
   pub mode-2 : Refuses fresh (mode 2) 2
@@ -32,17 +35,20 @@ pub record Refused : Type 0 where
   pub offset-16777216 : Refuses fresh (report (inA 16777216 0)) 2
   pub train-of-0 : Refuses fresh (trainLength 0) 2
   pub train-of-100001 : Refuses fresh (trainLength 100001) 2
+  pub traction-101 : Refuses fresh (traction 101 0) 2
+  pub traction-minus-101 : Refuses fresh (traction 0x9B 0) 2
+  pub traction-minus-100 : Gives (stepOf on (traction 0x9C 0)) 1 false []
   pub lever-2 : Gives (stepOf on (lever 2)) 1 false []
   pub train-of-1 : Gives (stepOf on (trainLength 1)) 1 false []
   pub train-of-100000 : Gives (stepOf on (trainLength 100000)) 1 false []
-  -- "3 NP and kind not 1": kinds 2 to 13, whatever is lent
-  pub all-in-NP : answersTo fresh (powerOff ∷ others) ≡ replicate 12 (refuse 3)
+  -- "3 NP and kind not 1": kinds 2 to 14, whatever is lent
+  pub all-in-NP : answersTo fresh (powerOff ∷ others) ≡ replicate 13 (refuse 3)
   pub load-in-NP : Refuses fresh (loads [] (0x00 ∷ [])) 3
   -- "4 kind 1 outside NP"; "5 FA and kind not 3 (kind 1: 4)"
   pub on-in-CO : Refuses on powerOn 4
   pub on-in-EG : Refuses driving powerOn 4
   pub on-in-FA : Refuses failed powerOn 4
-  pub all-in-FA : answersTo failed others ≡ replicate 11 (refuse 5)
+  pub all-in-FA : answersTo failed others ≡ replicate 12 (refuse 5)
   pub load-in-FA : Refuses failed (loads [] (0x00 ∷ [])) 5
   -- "6 kind 2 outside CO, kind 8 outside RE"
   pub configured-in-RE : Refuses ready configured 6
@@ -382,3 +388,41 @@ pub record Loads : Type 0 where
       (packet 65 (inA 10000 0) (received 1024)
       ++ packet 68 (inA 10000 0) (0x1E ∷ 0xF6 ∷ []))
   pub load-in-EG : Gives (stepOf driving load) 5 true (packet 65 (inA 10000 0) (received 17))
+
+-- ---- 02, Q-1: traction requests
+
+abbrev pub packet61 : ℕ → List ℕ
+packet61 suptb = packet 61 (inA 10000 0) (requested suptb)
+
+-- what a request gets in EG after requests of these bytes
+abbrev pub after : List ℕ → Call → Outcome
+after bytes c = stepOf (afterEach driving (map (λ (n : ℕ). traction n 7) bytes)) c
+
+pub record Requests : Type 0 where
+  -- "the first request writes": −20, and 0
+  pub first : Gives (after [] (traction 0xEC 7)) 5 true (packet61 7)
+  pub first-0 : Gives (after [] (traction 0 7)) 5 true (packet61 7)
+  -- "27 coming from 20 stays in range 1, 28 moves to 2, 23 stays in 2, 22 returns to 1", whatever the sign
+  pub at-27 : Gives (after (20 ∷ []) (traction 27 7)) 5 true []
+  pub at-28 : Gives (after (20 ∷ 27 ∷ []) (traction 28 7)) 5 true (packet61 7)
+  pub at-minus-23 : Gives (after (20 ∷ 27 ∷ 28 ∷ []) (traction 0xE9 7)) 5 true []
+  pub at-22 : Gives (after (20 ∷ 27 ∷ 28 ∷ 23 ∷ []) (traction 22 7)) 5 true (packet61 7)
+  -- "else takes the lowest that does": 75 from 1 and from 4 is in 2, which holds 72; 25 from 3 is in 1, which holds 22; 92 from 3 stays
+  pub from-1 : Gives (after (20 ∷ 75 ∷ []) (traction 72 7)) 5 true []
+  pub from-4 : Gives (after (100 ∷ 75 ∷ []) (traction 72 7)) 5 true []
+  pub from-3 : Gives (after (80 ∷ 25 ∷ []) (traction 22 7)) 5 true []
+  pub in-3 : Gives (after (80 ∷ []) (traction 92 7)) 5 true []
+  -- "on a change .. of Q_ATO_SupTB": the whole byte
+  pub another-suptb : Gives (after (20 ∷ []) (traction 20 0x87)) 5 true (packet61 0x87)
+  -- "In EG or DE"; from EG to DE both are kept
+  pub in-DE : Gives (stepOf degraded (traction 20 7)) 6 true (packet61 7)
+  pub kept-in-DE : Gives (stepOf (afterEach driving (traction 20 7 ∷ reports 30 ∷ [])) (traction 27 7)) 6 true []
+  -- "In CO, NA, AV and RE the event is accepted and changes nothing"
+  pub in-CO : Gives (stepOf on (traction 20 7)) 1 false []
+  pub in-NA : Gives (stepOf (afterEach on (configured ∷ [])) (traction 20 7)) 2 false []
+  pub in-AV : Gives (stepOf (afterEach ready (lever 1 ∷ [])) (traction 20 7)) 3 false []
+  pub in-RE : stepOf ready (traction 20 7) .engine ≡ ready
+  -- "entering EG forgets both": left, pressed and entered again; a request in between is not stored
+  pub entered-again : Gives (stepOf (afterEach driving (traction 20 7 ∷ mode 0 ∷ traction 20 7 ∷ press ∷ mode 1 ∷ [])) (traction 20 7)) 5 true (packet61 7)
+  -- "16 shorter than this event's packets": nothing is remembered
+  pub no-room : Refuses driving (lending 21 (traction 20 7)) 16

@@ -31,6 +31,11 @@ example = record {
   by-rows-too = refl;
   all-nine = refl;
   requested = refl;
+  requests = refl;
+  since-EG = refl;
+  ranged = refl;
+  remembers = refl;
+  none-left = refl;
 }
 
 -- ---- what the claim says of them
