@@ -1,4 +1,4 @@
--- What `hollwern_step` does before and after its call of `step`, told of locals of any types and any values: of the engine's struct only that it is one, with eight fields. So nothing here computes on the engine's layout, which is what costs time in a walk: the walk cites `enters` and `returned` once, at the types that it has.
+-- What `hollwern_step` does before and after its call of `step`, told of locals of any types and any values: of the engine's struct only that it is one, with nine fields. So nothing here computes on the engine's layout, which is what costs time in a walk: the walk cites `enters` and `returned` once, at the types that it has.
 --     enters       the locals are allocated and the arguments stored
 --     stores       points and segments of the result are stored behind the borrow, or lie there; then the other groups
 --     spells       the answer is spelled, and the locals are freed
@@ -100,20 +100,20 @@ module _ (K : Type 0) (t : K) {M : Type 1} (𝓤 : URA M) (H : Heap 𝓤) (A : A
       puts-last = assigns-last t source target fills
 
     -- the groups other than points and segments
-    module _ {c₁ c₃ c₄ c₅ c₆ c₇ d₀ d₁ d₂ d₃ d₄ d₅ d₆ d₇ : Val} {rest : Code} where
-      others : Field τs₇ τsᵣ 1 d₁ → Field τs₇ τsᵣ 3 d₃ → Field τs₇ τsᵣ 4 d₄ → Field τs₇ τsᵣ 5 d₅ → Field τs₇ τsᵣ 6 d₆ → Field τs₇ τsᵣ 7 d₇ → Seq K W (Storing (vcons d₀ (vcons d₁ (vcons d₂ (vcons d₃ (vcons d₄ (vcons d₅ (vcons d₆ (vcons d₇ vnil)))))))) (vcons d₀ (vcons d₁ (vcons d₂ (vcons d₃ (vcons d₄ (vcons d₅ (vcons d₆ (vcons d₇ vnil))))))))) (runs C Λ En rest (atRet En Post))
-          → Seq K W (Storing (vcons d₀ (vcons c₁ (vcons d₂ (vcons c₃ (vcons c₄ (vcons c₅ (vcons c₆ (vcons c₇ vnil)))))))) (vcons d₀ (vcons d₁ (vcons d₂ (vcons d₃ (vcons d₄ (vcons d₅ (vcons d₆ (vcons d₇ vnil))))))))) (runs C Λ En (seq (sets 1) (seq (sets 3) (seq (sets 4) (seq (sets 5) (seq (sets 6) (seq (sets 7) rest)))))) (atRet En Post))
-      others g₁ g₃ g₄ g₅ g₆ g₇ s = puts 1 g₁ $ puts 3 g₃ $ puts 4 g₄ $ puts 5 g₅ $ puts 6 g₆ $ puts 7 g₇ $ s
+    module _ {c₁ c₃ c₄ c₅ c₆ c₇ c₈ d₀ d₁ d₂ d₃ d₄ d₅ d₆ d₇ d₈ : Val} {rest : Code} where
+      others : Field τs₇ τsᵣ 1 d₁ → Field τs₇ τsᵣ 3 d₃ → Field τs₇ τsᵣ 4 d₄ → Field τs₇ τsᵣ 5 d₅ → Field τs₇ τsᵣ 6 d₆ → Field τs₇ τsᵣ 7 d₇ → Field τs₇ τsᵣ 8 d₈ → Seq K W (Storing (vcons d₀ (vcons d₁ (vcons d₂ (vcons d₃ (vcons d₄ (vcons d₅ (vcons d₆ (vcons d₇ (vcons d₈ vnil))))))))) (vcons d₀ (vcons d₁ (vcons d₂ (vcons d₃ (vcons d₄ (vcons d₅ (vcons d₆ (vcons d₇ (vcons d₈ vnil)))))))))) (runs C Λ En rest (atRet En Post))
+          → Seq K W (Storing (vcons d₀ (vcons c₁ (vcons d₂ (vcons c₃ (vcons c₄ (vcons c₅ (vcons c₆ (vcons c₇ (vcons c₈ vnil))))))))) (vcons d₀ (vcons d₁ (vcons d₂ (vcons d₃ (vcons d₄ (vcons d₅ (vcons d₆ (vcons d₇ (vcons d₈ vnil)))))))))) (runs C Λ En (seq (sets 1) (seq (sets 3) (seq (sets 4) (seq (sets 5) (seq (sets 6) (seq (sets 7) (seq (sets 8) rest))))))) (atRet En Post))
+      others g₁ g₃ g₄ g₅ g₆ g₇ g₈ s = puts 1 g₁ $ puts 3 g₃ $ puts 4 g₄ $ puts 5 g₅ $ puts 6 g₆ $ puts 7 g₇ $ puts 8 g₈ $ s
 
   -- points and segments are stored where the test y in `_10` holds, and else they lie there; then the other groups
-  stores : {νᵣ : Sym} {τsᵣ : Tys} {b o : ℕ} {Γ : List (Item 𝓤)} {m : Val} {y : Bool} {f : ℕ} {c₀ c₁ c₂ c₃ c₄ c₅ c₆ c₇ d₀ d₁ d₂ d₃ d₄ d₅ d₆ d₇ : Val} {rest : Code} → fieldAt zero τs₆ 0 ≡ some (tyStruct ν₇ τs₇, f)
-      → (Holds (not y) → vcons c₀ (vcons c₁ (vcons c₂ (vcons c₃ (vcons c₄ (vcons c₅ (vcons c₆ (vcons c₇ vnil))))))) ≡ vcons d₀ (vcons c₁ (vcons d₂ (vcons c₃ (vcons c₄ (vcons c₅ (vcons c₆ (vcons c₇ vnil))))))))
-      → Field τs₇ τsᵣ 0 d₀ → Field τs₇ τsᵣ 2 d₂ → Field τs₇ τsᵣ 1 d₁ → Field τs₇ τsᵣ 3 d₃ → Field τs₇ τsᵣ 4 d₄ → Field τs₇ τsᵣ 5 d₅ → Field τs₇ τsᵣ 6 d₆ → Field τs₇ τsᵣ 7 d₇
-      → Step′ K W (‵ (fat fullShare (tyStruct νᵣ τsᵣ) b o (vstruct (vcons d₀ (vcons d₁ (vcons d₂ (vcons d₃ (vcons d₄ (vcons d₅ (vcons d₆ (vcons d₇ vnil)))))))))) ∷ ‵ (fat fullShare (tyStruct ν₆ τs₆) a₆ 0 (vstruct (vcons (vstruct (vcons d₀ (vcons d₁ (vcons d₂ (vcons d₃ (vcons d₄ (vcons d₅ (vcons d₆ (vcons d₇ vnil))))))))) (vcons m (vcons (vbool y) vnil))))) ∷ ‵ (fat fullShare t₁ a₁ 0 (vptr b o)) ∷ ‵ (fat fullShare t₁₀ a₁₀ 0 (vbool y)) ∷ Γ) (runs C Λ En rest (atRet En Post)) (‵ (fat fullShare (tyStruct νᵣ τsᵣ) b o (vstruct (vcons c₀ (vcons c₁ (vcons c₂ (vcons c₃ (vcons c₄ (vcons c₅ (vcons c₆ (vcons c₇ vnil)))))))))) ∷ ‵ (fat fullShare (tyStruct ν₆ τs₆) a₆ 0 (vstruct (vcons (vstruct (vcons d₀ (vcons d₁ (vcons d₂ (vcons d₃ (vcons d₄ (vcons d₅ (vcons d₆ (vcons d₇ vnil))))))))) (vcons m (vcons (vbool y) vnil))))) ∷ ‵ (fat fullShare t₁ a₁ 0 (vptr b o)) ∷ ‵ (fat fullShare t₁₀ a₁₀ 0 (vbool y)) ∷ Γ) (runs C Λ En (seq (cond (copy (place 10 [])) (seq (sets 0) (sets 2)) skip) (seq (sets 1) (seq (sets 3) (seq (sets 4) (seq (sets 5) (seq (sets 6) (seq (sets 7) rest))))))) (atRet En Post))
-  stores {νᵣ} {τsᵣ} {b} {o} {Γ} {m} {y} {f} {rest = rest} e₆ off g₀ g₂ g₁ g₃ g₄ g₅ g₆ g₇ = step (λ s.
+  stores : {νᵣ : Sym} {τsᵣ : Tys} {b o : ℕ} {Γ : List (Item 𝓤)} {m : Val} {y : Bool} {f : ℕ} {c₀ c₁ c₂ c₃ c₄ c₅ c₆ c₇ c₈ d₀ d₁ d₂ d₃ d₄ d₅ d₆ d₇ d₈ : Val} {rest : Code} → fieldAt zero τs₆ 0 ≡ some (tyStruct ν₇ τs₇, f)
+      → (Holds (not y) → vcons c₀ (vcons c₁ (vcons c₂ (vcons c₃ (vcons c₄ (vcons c₅ (vcons c₆ (vcons c₇ (vcons c₈ vnil)))))))) ≡ vcons d₀ (vcons c₁ (vcons d₂ (vcons c₃ (vcons c₄ (vcons c₅ (vcons c₆ (vcons c₇ (vcons c₈ vnil)))))))))
+      → Field τs₇ τsᵣ 0 d₀ → Field τs₇ τsᵣ 2 d₂ → Field τs₇ τsᵣ 1 d₁ → Field τs₇ τsᵣ 3 d₃ → Field τs₇ τsᵣ 4 d₄ → Field τs₇ τsᵣ 5 d₅ → Field τs₇ τsᵣ 6 d₆ → Field τs₇ τsᵣ 7 d₇ → Field τs₇ τsᵣ 8 d₈
+      → Step′ K W (‵ (fat fullShare (tyStruct νᵣ τsᵣ) b o (vstruct (vcons d₀ (vcons d₁ (vcons d₂ (vcons d₃ (vcons d₄ (vcons d₅ (vcons d₆ (vcons d₇ (vcons d₈ vnil))))))))))) ∷ ‵ (fat fullShare (tyStruct ν₆ τs₆) a₆ 0 (vstruct (vcons (vstruct (vcons d₀ (vcons d₁ (vcons d₂ (vcons d₃ (vcons d₄ (vcons d₅ (vcons d₆ (vcons d₇ (vcons d₈ vnil)))))))))) (vcons m (vcons (vbool y) vnil))))) ∷ ‵ (fat fullShare t₁ a₁ 0 (vptr b o)) ∷ ‵ (fat fullShare t₁₀ a₁₀ 0 (vbool y)) ∷ Γ) (runs C Λ En rest (atRet En Post)) (‵ (fat fullShare (tyStruct νᵣ τsᵣ) b o (vstruct (vcons c₀ (vcons c₁ (vcons c₂ (vcons c₃ (vcons c₄ (vcons c₅ (vcons c₆ (vcons c₇ (vcons c₈ vnil))))))))))) ∷ ‵ (fat fullShare (tyStruct ν₆ τs₆) a₆ 0 (vstruct (vcons (vstruct (vcons d₀ (vcons d₁ (vcons d₂ (vcons d₃ (vcons d₄ (vcons d₅ (vcons d₆ (vcons d₇ (vcons d₈ vnil)))))))))) (vcons m (vcons (vbool y) vnil))))) ∷ ‵ (fat fullShare t₁ a₁ 0 (vptr b o)) ∷ ‵ (fat fullShare t₁₀ a₁₀ 0 (vbool y)) ∷ Γ) (runs C Λ En (seq (cond (copy (place 10 [])) (seq (sets 0) (sets 2)) skip) (seq (sets 1) (seq (sets 3) (seq (sets 4) (seq (sets 5) (seq (sets 6) (seq (sets 7) (seq (sets 8) rest)))))))) (atRet En Post))
+  stores {νᵣ} {τsᵣ} {b} {o} {Γ} {m} {y} {f} {rest = rest} e₆ off g₀ g₂ g₁ g₃ g₄ g₅ g₆ g₇ g₈ = step (λ s.
       first t $ branches t (load t (from t (stop t)) (look t 3 refl))
-      (λ _. puts νᵣ τsᵣ b o (‵ (fat fullShare t₁₀ a₁₀ 0 (vbool y)) ∷ Γ) m (vbool y) f e₆ 0 g₀ $ puts-last νᵣ τsᵣ b o (‵ (fat fullShare t₁₀ a₁₀ 0 (vbool y)) ∷ Γ) m (vbool y) f e₆ 2 g₂ $ exec t C Λ En (seq (sets 1) (seq (sets 3) (seq (sets 4) (seq (sets 5) (seq (sets 6) (seq (sets 7) rest)))))) (atRet En Post) $ others νᵣ τsᵣ b o (‵ (fat fullShare t₁₀ a₁₀ 0 (vbool y)) ∷ Γ) m (vbool y) f e₆ g₁ g₃ g₄ g₅ g₆ g₇ s)
-      (λ no. skips t $ exec t C Λ En (seq (sets 1) (seq (sets 3) (seq (sets 4) (seq (sets 5) (seq (sets 6) (seq (sets 7) rest)))))) (atRet En Post) $ rewrite t 0 (λ (us : Vals). ‵ (fat fullShare (tyStruct νᵣ τsᵣ) b o (vstruct us))) (off no) refl $ others νᵣ τsᵣ b o (‵ (fat fullShare t₁₀ a₁₀ 0 (vbool y)) ∷ Γ) m (vbool y) f e₆ g₁ g₃ g₄ g₅ g₆ g₇ s))
+      (λ _. puts νᵣ τsᵣ b o (‵ (fat fullShare t₁₀ a₁₀ 0 (vbool y)) ∷ Γ) m (vbool y) f e₆ 0 g₀ $ puts-last νᵣ τsᵣ b o (‵ (fat fullShare t₁₀ a₁₀ 0 (vbool y)) ∷ Γ) m (vbool y) f e₆ 2 g₂ $ exec t C Λ En (seq (sets 1) (seq (sets 3) (seq (sets 4) (seq (sets 5) (seq (sets 6) (seq (sets 7) (seq (sets 8) rest))))))) (atRet En Post) $ others νᵣ τsᵣ b o (‵ (fat fullShare t₁₀ a₁₀ 0 (vbool y)) ∷ Γ) m (vbool y) f e₆ g₁ g₃ g₄ g₅ g₆ g₇ g₈ s)
+      (λ no. skips t $ exec t C Λ En (seq (sets 1) (seq (sets 3) (seq (sets 4) (seq (sets 5) (seq (sets 6) (seq (sets 7) (seq (sets 8) rest))))))) (atRet En Post) $ rewrite t 0 (λ (us : Vals). ‵ (fat fullShare (tyStruct νᵣ τsᵣ) b o (vstruct us))) (off no) refl $ others νᵣ τsᵣ b o (‵ (fat fullShare t₁₀ a₁₀ 0 (vbool y)) ∷ Γ) m (vbool y) f e₆ g₁ g₃ g₄ g₅ g₆ g₇ g₈ s))
 
   -- the answer, of which `_6` holds the machine value m, is spelled into `_0`, and the locals are freed
   spells : {v₁ v₂ v₃ v₄ v₅ u m y v₇ v₈ v₉ v₁₀ : Val} {τ : Ty} {d : ℕ} (at-mem : Memory → SProp 𝓤) (run : Routine → Fun 𝓤) → FmC 𝓤 H (W .laws) C → Triple 𝓤 (C #spell) (Spell 𝓤 H A at-mem run)
@@ -134,33 +134,33 @@ module _ (K : Type 0) (t : K) {M : Type 1} (𝓤 : URA M) (H : Heap 𝓤) (A : A
 
   -- both, with the borrow closed between them, of which only what is had before it and after it is told
   finish : (at-mem : Memory → SProp 𝓤) (run : Routine → Fun 𝓤) → FmC 𝓤 H (W .laws) C → Triple 𝓤 (C #spell) (Spell 𝓤 H A at-mem run)
-      → (νᵣ : Sym) (τsᵣ : Tys) (b o : ℕ) (m : Val) (y : Bool) (c₀ c₁ c₂ c₃ c₄ c₅ c₆ c₇ d₀ d₁ d₂ d₃ d₄ d₅ d₆ d₇ : Val) (v₂ v₃ v₄ v₅ v₇ v₈ v₉ : Val) (toks gone opened obs auth obs′ borrow tok : Item 𝓤) (a : Ans) {τ : Ty} {d f : ℕ}
+      → (νᵣ : Sym) (τsᵣ : Tys) (b o : ℕ) (m : Val) (y : Bool) (c₀ c₁ c₂ c₃ c₄ c₅ c₆ c₇ c₈ d₀ d₁ d₂ d₃ d₄ d₅ d₆ d₇ d₈ : Val) (v₂ v₃ v₄ v₅ v₇ v₈ v₉ : Val) (toks gone opened obs auth obs′ borrow tok : Item 𝓤) (a : Ans) {τ : Ty} {d f : ℕ}
       → fieldAt zero τs₆ 0 ≡ some (tyStruct ν₇ τs₇, f) → fieldAt zero τs₆ 1 ≡ some (τ, d)
-      → (Holds (not y) → vcons c₀ (vcons c₁ (vcons c₂ (vcons c₃ (vcons c₄ (vcons c₅ (vcons c₆ (vcons c₇ vnil))))))) ≡ vcons d₀ (vcons c₁ (vcons d₂ (vcons c₃ (vcons c₄ (vcons c₅ (vcons c₆ (vcons c₇ vnil))))))))
-      → Field τs₇ τsᵣ 0 d₀ → Field τs₇ τsᵣ 2 d₂ → Field τs₇ τsᵣ 1 d₁ → Field τs₇ τsᵣ 3 d₃ → Field τs₇ τsᵣ 4 d₄ → Field τs₇ τsᵣ 5 d₅ → Field τs₇ τsᵣ 6 d₆ → Field τs₇ τsᵣ 7 d₇
-      → ((Γ : List (Item 𝓤)) (G : Goal 𝓤 H) → Soaks G → Step′ K W (obs′ ∷ borrow ∷ tok ∷ Γ) G (‵ (fat fullShare (tyStruct νᵣ τsᵣ) b o (vstruct (vcons d₀ (vcons d₁ (vcons d₂ (vcons d₃ (vcons d₄ (vcons d₅ (vcons d₆ (vcons d₇ vnil)))))))))) ∷ opened ∷ obs ∷ auth ∷ Γ) G)
+      → (Holds (not y) → vcons c₀ (vcons c₁ (vcons c₂ (vcons c₃ (vcons c₄ (vcons c₅ (vcons c₆ (vcons c₇ (vcons c₈ vnil)))))))) ≡ vcons d₀ (vcons c₁ (vcons d₂ (vcons c₃ (vcons c₄ (vcons c₅ (vcons c₆ (vcons c₇ (vcons c₈ vnil)))))))))
+      → Field τs₇ τsᵣ 0 d₀ → Field τs₇ τsᵣ 2 d₂ → Field τs₇ τsᵣ 1 d₁ → Field τs₇ τsᵣ 3 d₃ → Field τs₇ τsᵣ 4 d₄ → Field τs₇ τsᵣ 5 d₅ → Field τs₇ τsᵣ 6 d₆ → Field τs₇ τsᵣ 7 d₇ → Field τs₇ τsᵣ 8 d₈
+      → ((Γ : List (Item 𝓤)) (G : Goal 𝓤 H) → Soaks G → Step′ K W (obs′ ∷ borrow ∷ tok ∷ Γ) G (‵ (fat fullShare (tyStruct νᵣ τsᵣ) b o (vstruct (vcons d₀ (vcons d₁ (vcons d₂ (vcons d₃ (vcons d₄ (vcons d₅ (vcons d₆ (vcons d₇ (vcons d₈ vnil))))))))))) ∷ opened ∷ obs ∷ auth ∷ Γ) G)
       → Is D.the-row a (m ∷ []) → ((n : Answer) (w : Val) → Is N.the-row n (w ∷ []) → Holds (hasTy t₀ w) × WT w)
       → ((n : Answer) (w : Val) → n ≡ spelled a → ent 𝓤 (⋆ 𝓤 H A (obs′ ∷ borrow ∷ tok ∷ toks ∷ gone ∷ ‵ (N.the-row .own n (w ∷ [])) ∷ [])) (Post w))
-      → Seq K W (toks ∷ gone ∷ ‵ (fat fullShare (tyStruct νᵣ τsᵣ) b o (vstruct (vcons c₀ (vcons c₁ (vcons c₂ (vcons c₃ (vcons c₄ (vcons c₅ (vcons c₆ (vcons c₇ vnil)))))))))) ∷ opened ∷ obs ∷ auth ∷ ‵ (fat fullShare t₁₀ a₁₀ 0 (vbool y)) ∷ ‵ (fdies t₁₀ a₁₀) ∷ ‵ (fat fullShare t₉ a₉ 0 v₉) ∷ ‵ (fdies t₉ a₉) ∷ ‵ (fat fullShare t₈ a₈ 0 v₈) ∷ ‵ (fdies t₈ a₈) ∷ ‵ (fat fullShare (tyStruct ν₇ τs₇) a₇ 0 v₇) ∷ ‵ (fdies (tyStruct ν₇ τs₇) a₇) ∷ ‵ (fat fullShare (tyStruct ν₆ τs₆) a₆ 0 (vstruct (vcons (vstruct (vcons d₀ (vcons d₁ (vcons d₂ (vcons d₃ (vcons d₄ (vcons d₅ (vcons d₆ (vcons d₇ vnil))))))))) (vcons m (vcons (vbool y) vnil))))) ∷ ‵ (fdies (tyStruct ν₆ τs₆) a₆) ∷ ‵ (fat fullShare t₅ a₅ 0 v₅) ∷ ‵ (fdies t₅ a₅) ∷ ‵ (fat fullShare t₄ a₄ 0 v₄) ∷ ‵ (fdies t₄ a₄) ∷ ‵ (fat fullShare t₃ a₃ 0 v₃) ∷ ‵ (fdies t₃ a₃) ∷ ‵ (fat fullShare t₂ a₂ 0 v₂) ∷ ‵ (fdies t₂ a₂) ∷ ‵ (fat fullShare t₁ a₁ 0 (vptr b o)) ∷ ‵ (fdies t₁ a₁) ∷ ‵ (froom t₀ a₀ 0) ∷ ‵ (fdies t₀ a₀) ∷ [])
-      (runs C Λ En (seq (cond (copy (place 10 [])) (seq (sets 0) (sets 2)) skip) (seq (sets 1) (seq (sets 3) (seq (sets 4) (seq (sets 5) (seq (sets 6) (seq (sets 7) (seq (call #spell (copy (place 6 (field 1 ∷ [])) ∷ []) (place 0 [])) return)))))))) (atRet En Post))
-  finish at-mem run fm known νᵣ τsᵣ b o m y c₀ c₁ c₂ c₃ c₄ c₅ c₆ c₇ d₀ d₁ d₂ d₃ d₄ d₅ d₆ d₇ v₂ v₃ v₄ v₅ v₇ v₈ v₉ toks gone opened obs auth obs′ borrow tok a e₆ e off g₀ g₂ g₁ g₃ g₄ g₅ g₆ g₇ close is-a typed ends =
-      move t (2 ∷ 14 ∷ 24 ∷ 6 ∷ []) $ stores e₆ off g₀ g₂ g₁ g₃ g₄ g₅ g₆ g₇ $
+      → Seq K W (toks ∷ gone ∷ ‵ (fat fullShare (tyStruct νᵣ τsᵣ) b o (vstruct (vcons c₀ (vcons c₁ (vcons c₂ (vcons c₃ (vcons c₄ (vcons c₅ (vcons c₆ (vcons c₇ (vcons c₈ vnil))))))))))) ∷ opened ∷ obs ∷ auth ∷ ‵ (fat fullShare t₁₀ a₁₀ 0 (vbool y)) ∷ ‵ (fdies t₁₀ a₁₀) ∷ ‵ (fat fullShare t₉ a₉ 0 v₉) ∷ ‵ (fdies t₉ a₉) ∷ ‵ (fat fullShare t₈ a₈ 0 v₈) ∷ ‵ (fdies t₈ a₈) ∷ ‵ (fat fullShare (tyStruct ν₇ τs₇) a₇ 0 v₇) ∷ ‵ (fdies (tyStruct ν₇ τs₇) a₇) ∷ ‵ (fat fullShare (tyStruct ν₆ τs₆) a₆ 0 (vstruct (vcons (vstruct (vcons d₀ (vcons d₁ (vcons d₂ (vcons d₃ (vcons d₄ (vcons d₅ (vcons d₆ (vcons d₇ (vcons d₈ vnil)))))))))) (vcons m (vcons (vbool y) vnil))))) ∷ ‵ (fdies (tyStruct ν₆ τs₆) a₆) ∷ ‵ (fat fullShare t₅ a₅ 0 v₅) ∷ ‵ (fdies t₅ a₅) ∷ ‵ (fat fullShare t₄ a₄ 0 v₄) ∷ ‵ (fdies t₄ a₄) ∷ ‵ (fat fullShare t₃ a₃ 0 v₃) ∷ ‵ (fdies t₃ a₃) ∷ ‵ (fat fullShare t₂ a₂ 0 v₂) ∷ ‵ (fdies t₂ a₂) ∷ ‵ (fat fullShare t₁ a₁ 0 (vptr b o)) ∷ ‵ (fdies t₁ a₁) ∷ ‵ (froom t₀ a₀ 0) ∷ ‵ (fdies t₀ a₀) ∷ [])
+      (runs C Λ En (seq (cond (copy (place 10 [])) (seq (sets 0) (sets 2)) skip) (seq (sets 1) (seq (sets 3) (seq (sets 4) (seq (sets 5) (seq (sets 6) (seq (sets 7) (seq (sets 8) (seq (call #spell (copy (place 6 (field 1 ∷ [])) ∷ []) (place 0 [])) return))))))))) (atRet En Post))
+  finish at-mem run fm known νᵣ τsᵣ b o m y c₀ c₁ c₂ c₃ c₄ c₅ c₆ c₇ c₈ d₀ d₁ d₂ d₃ d₄ d₅ d₆ d₇ d₈ v₂ v₃ v₄ v₅ v₇ v₈ v₉ toks gone opened obs auth obs′ borrow tok a e₆ e off g₀ g₂ g₁ g₃ g₄ g₅ g₆ g₇ g₈ close is-a typed ends =
+      move t (2 ∷ 14 ∷ 24 ∷ 6 ∷ []) $ stores e₆ off g₀ g₂ g₁ g₃ g₄ g₅ g₆ g₇ g₈ $
       -- [the cell; _6; _1; _10; toks; gone; opened; obs; auth; the rest of the locals]
       move t (0 ∷ 6 ∷ 7 ∷ 8 ∷ 4 ∷ 5 ∷ []) $ close _ _ tt $ spells at-mem run fm known obs′ borrow tok toks gone a e is-a typed ends
 
   -- the same from where `step` has returned w: it is stored in `_6`, and the test in `_10`
   pub returned : (at-mem : Memory → SProp 𝓤) (run : Routine → Fun 𝓤) → FmC 𝓤 H (W .laws) C → Triple 𝓤 (C #spell) (Spell 𝓤 H A at-mem run)
-      → (νᵣ : Sym) (τsᵣ : Tys) (b o : ℕ) (m : Val) (y : Bool) (c₀ c₁ c₂ c₃ c₄ c₅ c₆ c₇ d₀ d₁ d₂ d₃ d₄ d₅ d₆ d₇ : Val) (v₂ v₃ v₄ v₅ v₇ v₈ v₉ : Val) (toks gone opened obs auth obs′ borrow tok : Item 𝓤) (a : Ans) {τ : Ty} {d f f₂ : ℕ}
+      → (νᵣ : Sym) (τsᵣ : Tys) (b o : ℕ) (m : Val) (y : Bool) (c₀ c₁ c₂ c₃ c₄ c₅ c₆ c₇ c₈ d₀ d₁ d₂ d₃ d₄ d₅ d₆ d₇ d₈ : Val) (v₂ v₃ v₄ v₅ v₇ v₈ v₉ : Val) (toks gone opened obs auth obs′ borrow tok : Item 𝓤) (a : Ans) {τ : Ty} {d f f₂ : ℕ}
       → fieldAt zero τs₆ 0 ≡ some (tyStruct ν₇ τs₇, f) → fieldAt zero τs₆ 1 ≡ some (τ, d)
-      → fieldAt zero τs₆ 2 ≡ some (t₁₀, f₂) → Holds (hasTy t₁₀ (vbool y)) × WT (vbool y) → {w : Val} → Holds (hasTy (tyStruct ν₆ τs₆) w) × WT w → w ≡ vstruct (vcons (vstruct (vcons d₀ (vcons d₁ (vcons d₂ (vcons d₃ (vcons d₄ (vcons d₅ (vcons d₆ (vcons d₇ vnil))))))))) (vcons m (vcons (vbool y) vnil)))
-      → (Holds (not y) → vcons c₀ (vcons c₁ (vcons c₂ (vcons c₃ (vcons c₄ (vcons c₅ (vcons c₆ (vcons c₇ vnil))))))) ≡ vcons d₀ (vcons c₁ (vcons d₂ (vcons c₃ (vcons c₄ (vcons c₅ (vcons c₆ (vcons c₇ vnil))))))))
-      → Field τs₇ τsᵣ 0 d₀ → Field τs₇ τsᵣ 2 d₂ → Field τs₇ τsᵣ 1 d₁ → Field τs₇ τsᵣ 3 d₃ → Field τs₇ τsᵣ 4 d₄ → Field τs₇ τsᵣ 5 d₅ → Field τs₇ τsᵣ 6 d₆ → Field τs₇ τsᵣ 7 d₇
-      → ((Γ : List (Item 𝓤)) (G : Goal 𝓤 H) → Soaks G → Step′ K W (obs′ ∷ borrow ∷ tok ∷ Γ) G (‵ (fat fullShare (tyStruct νᵣ τsᵣ) b o (vstruct (vcons d₀ (vcons d₁ (vcons d₂ (vcons d₃ (vcons d₄ (vcons d₅ (vcons d₆ (vcons d₇ vnil)))))))))) ∷ opened ∷ obs ∷ auth ∷ Γ) G)
+      → fieldAt zero τs₆ 2 ≡ some (t₁₀, f₂) → Holds (hasTy t₁₀ (vbool y)) × WT (vbool y) → {w : Val} → Holds (hasTy (tyStruct ν₆ τs₆) w) × WT w → w ≡ vstruct (vcons (vstruct (vcons d₀ (vcons d₁ (vcons d₂ (vcons d₃ (vcons d₄ (vcons d₅ (vcons d₆ (vcons d₇ (vcons d₈ vnil)))))))))) (vcons m (vcons (vbool y) vnil)))
+      → (Holds (not y) → vcons c₀ (vcons c₁ (vcons c₂ (vcons c₃ (vcons c₄ (vcons c₅ (vcons c₆ (vcons c₇ (vcons c₈ vnil)))))))) ≡ vcons d₀ (vcons c₁ (vcons d₂ (vcons c₃ (vcons c₄ (vcons c₅ (vcons c₆ (vcons c₇ (vcons c₈ vnil)))))))))
+      → Field τs₇ τsᵣ 0 d₀ → Field τs₇ τsᵣ 2 d₂ → Field τs₇ τsᵣ 1 d₁ → Field τs₇ τsᵣ 3 d₃ → Field τs₇ τsᵣ 4 d₄ → Field τs₇ τsᵣ 5 d₅ → Field τs₇ τsᵣ 6 d₆ → Field τs₇ τsᵣ 7 d₇ → Field τs₇ τsᵣ 8 d₈
+      → ((Γ : List (Item 𝓤)) (G : Goal 𝓤 H) → Soaks G → Step′ K W (obs′ ∷ borrow ∷ tok ∷ Γ) G (‵ (fat fullShare (tyStruct νᵣ τsᵣ) b o (vstruct (vcons d₀ (vcons d₁ (vcons d₂ (vcons d₃ (vcons d₄ (vcons d₅ (vcons d₆ (vcons d₇ (vcons d₈ vnil))))))))))) ∷ opened ∷ obs ∷ auth ∷ Γ) G)
       → Is D.the-row a (m ∷ []) → ((n : Answer) (w : Val) → Is N.the-row n (w ∷ []) → Holds (hasTy t₀ w) × WT w)
       → ((n : Answer) (w : Val) → n ≡ spelled a → ent 𝓤 (⋆ 𝓤 H A (obs′ ∷ borrow ∷ tok ∷ toks ∷ gone ∷ ‵ (N.the-row .own n (w ∷ [])) ∷ [])) (Post w))
-      → Seq K W (toks ∷ gone ∷ ‵ (fat fullShare (tyStruct νᵣ τsᵣ) b o (vstruct (vcons c₀ (vcons c₁ (vcons c₂ (vcons c₃ (vcons c₄ (vcons c₅ (vcons c₆ (vcons c₇ vnil)))))))))) ∷ opened ∷ obs ∷ auth ∷ ‵ (froom t₁₀ a₁₀ 0) ∷ ‵ (fdies t₁₀ a₁₀) ∷ ‵ (fat fullShare t₉ a₉ 0 v₉) ∷ ‵ (fdies t₉ a₉) ∷ ‵ (fat fullShare t₈ a₈ 0 v₈) ∷ ‵ (fdies t₈ a₈) ∷ ‵ (fat fullShare (tyStruct ν₇ τs₇) a₇ 0 v₇) ∷ ‵ (fdies (tyStruct ν₇ τs₇) a₇) ∷ ‵ (froom (tyStruct ν₆ τs₆) a₆ 0) ∷ ‵ (fdies (tyStruct ν₆ τs₆) a₆) ∷ ‵ (fat fullShare t₅ a₅ 0 v₅) ∷ ‵ (fdies t₅ a₅) ∷ ‵ (fat fullShare t₄ a₄ 0 v₄) ∷ ‵ (fdies t₄ a₄) ∷ ‵ (fat fullShare t₃ a₃ 0 v₃) ∷ ‵ (fdies t₃ a₃) ∷ ‵ (fat fullShare t₂ a₂ 0 v₂) ∷ ‵ (fdies t₂ a₂) ∷ ‵ (fat fullShare t₁ a₁ 0 (vptr b o)) ∷ ‵ (fdies t₁ a₁) ∷ ‵ (froom t₀ a₀ 0) ∷ ‵ (fdies t₀ a₀) ∷ [])
-      (lands C Λ En (place 6 []) w (seq (assign (place 10 []) (rvOpd (copy (place 6 (field 2 ∷ []))))) (seq (cond (copy (place 10 [])) (seq (sets 0) (sets 2)) skip) (seq (sets 1) (seq (sets 3) (seq (sets 4) (seq (sets 5) (seq (sets 6) (seq (sets 7) (seq (call #spell (copy (place 6 (field 1 ∷ [])) ∷ []) (place 0 [])) return))))))))) (atRet En Post))
-  returned at-mem run fm known νᵣ τsᵣ b o m y c₀ c₁ c₂ c₃ c₄ c₅ c₆ c₇ d₀ d₁ d₂ d₃ d₄ d₅ d₆ d₇ v₂ v₃ v₄ v₅ v₇ v₈ v₉ toks gone opened obs auth obs′ borrow tok a e₆ e e₂ wt₁₀ wt₆ is off g₀ g₂ g₁ g₃ g₄ g₅ g₆ g₇ close is-a typed ends =
+      → Seq K W (toks ∷ gone ∷ ‵ (fat fullShare (tyStruct νᵣ τsᵣ) b o (vstruct (vcons c₀ (vcons c₁ (vcons c₂ (vcons c₃ (vcons c₄ (vcons c₅ (vcons c₆ (vcons c₇ (vcons c₈ vnil))))))))))) ∷ opened ∷ obs ∷ auth ∷ ‵ (froom t₁₀ a₁₀ 0) ∷ ‵ (fdies t₁₀ a₁₀) ∷ ‵ (fat fullShare t₉ a₉ 0 v₉) ∷ ‵ (fdies t₉ a₉) ∷ ‵ (fat fullShare t₈ a₈ 0 v₈) ∷ ‵ (fdies t₈ a₈) ∷ ‵ (fat fullShare (tyStruct ν₇ τs₇) a₇ 0 v₇) ∷ ‵ (fdies (tyStruct ν₇ τs₇) a₇) ∷ ‵ (froom (tyStruct ν₆ τs₆) a₆ 0) ∷ ‵ (fdies (tyStruct ν₆ τs₆) a₆) ∷ ‵ (fat fullShare t₅ a₅ 0 v₅) ∷ ‵ (fdies t₅ a₅) ∷ ‵ (fat fullShare t₄ a₄ 0 v₄) ∷ ‵ (fdies t₄ a₄) ∷ ‵ (fat fullShare t₃ a₃ 0 v₃) ∷ ‵ (fdies t₃ a₃) ∷ ‵ (fat fullShare t₂ a₂ 0 v₂) ∷ ‵ (fdies t₂ a₂) ∷ ‵ (fat fullShare t₁ a₁ 0 (vptr b o)) ∷ ‵ (fdies t₁ a₁) ∷ ‵ (froom t₀ a₀ 0) ∷ ‵ (fdies t₀ a₀) ∷ [])
+      (lands C Λ En (place 6 []) w (seq (assign (place 10 []) (rvOpd (copy (place 6 (field 2 ∷ []))))) (seq (cond (copy (place 10 [])) (seq (sets 0) (sets 2)) skip) (seq (sets 1) (seq (sets 3) (seq (sets 4) (seq (sets 5) (seq (sets 6) (seq (sets 7) (seq (sets 8) (seq (call #spell (copy (place 6 (field 1 ∷ [])) ∷ []) (place 0 [])) return)))))))))) (atRet En Post))
+  returned at-mem run fm known νᵣ τsᵣ b o m y c₀ c₁ c₂ c₃ c₄ c₅ c₆ c₇ c₈ d₀ d₁ d₂ d₃ d₄ d₅ d₆ d₇ d₈ v₂ v₃ v₄ v₅ v₇ v₈ v₉ toks gone opened obs auth obs′ borrow tok a e₆ e e₂ wt₁₀ wt₆ is off g₀ g₂ g₁ g₃ g₄ g₅ g₆ g₇ g₈ close is-a typed ends =
       land t (from t (stop t)) (init t 14 refl wt₆) $ rewrite t 14 (λ (u : Val). ‵ (fat fullShare (tyStruct ν₆ τs₆) a₆ 0 u)) is refl $
       assigns t (of-opd t (load t (from t (fld t e₂ (stop t))) (look-in t 14 (sub t 2 e₂ (whole t))))) (from t (stop t)) (init t 6 refl wt₁₀) $
-      finish at-mem run fm known νᵣ τsᵣ b o m y c₀ c₁ c₂ c₃ c₄ c₅ c₆ c₇ d₀ d₁ d₂ d₃ d₄ d₅ d₆ d₇ v₂ v₃ v₄ v₅ v₇ v₈ v₉ toks gone opened obs auth obs′ borrow tok a e₆ e off g₀ g₂ g₁ g₃ g₄ g₅ g₆ g₇ close is-a typed ends
+      finish at-mem run fm known νᵣ τsᵣ b o m y c₀ c₁ c₂ c₃ c₄ c₅ c₆ c₇ c₈ d₀ d₁ d₂ d₃ d₄ d₅ d₆ d₇ d₈ v₂ v₃ v₄ v₅ v₇ v₈ v₉ toks gone opened obs auth obs′ borrow tok a e₆ e off g₀ g₂ g₁ g₃ g₄ g₅ g₆ g₇ g₈ close is-a typed ends

@@ -79,6 +79,7 @@ pub extern "C" fn hollwern_step(
     (*e).progress = s.engine.progress;
     (*e).inputs = s.engine.inputs;
     (*e).control = s.engine.control;
+    (*e).traction = s.engine.traction;
     plain(s.answer)
 }
 

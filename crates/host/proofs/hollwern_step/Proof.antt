@@ -100,7 +100,7 @@ Said h ss r zs = Steps h (outcome h ss) r zs
 
 -- the engine h with the points and the segments of g
 abbrev mixed : Engine → Engine → Engine
-mixed h g = record { points = g .points; skips = h .skips; segments = g .segments; load = h .load; train = h .train; progress = h .progress; inputs = h .inputs; control = h .control }
+mixed h g = record { points = g .points; skips = h .skips; segments = g .segments; load = h .load; train = h .train; progress = h .progress; inputs = h .inputs; control = h .control; traction = h .traction }
 
 -- the machine value of an engine, those of its fields, and that of an answer
 abbrev mach : Engine → Val
@@ -121,7 +121,7 @@ not-set false _ = refl
 not-set true z = absurd z
 
 stays : (h : Engine) (ss : Rest) (r : Stepped) (zs : List ℕ) → Said h ss r zs → r .rewritten ≡ false → h ≡ mixed h (r .engine)
-stays h ss r zs st off = λ i. record { points = sym (st .points off) i; skips = h .skips; segments = sym (st .segments off) i; load = h .load; train = h .train; progress = h .progress; inputs = h .inputs; control = h .control }
+stays h ss r zs st off = λ i. record { points = sym (st .points off) i; skips = h .skips; segments = sym (st .segments off) i; load = h .load; train = h .train; progress = h .progress; inputs = h .inputs; control = h .control; traction = h .traction }
 
 -- what a result that is had tells of its engine, of the engine's fields and of its answer
 is-engine : (r : Stepped) {w : Val} → Is S.the-row r (w ∷ []) → Is T.the-row (r .engine) (mach (r .engine) ∷ [])
@@ -201,8 +201,8 @@ module _ {M : Type 1} (𝓤 : URA M) (H : Heap 𝓤) (A : Atoms 𝓤) (W : Given
           → Sq W (raw Toks ∷ ‵ (finally u8 (ss .1 .1 .1 .0 .name) zs) ∷ ‵ (cellAt fullShare (T.the-row .mir) (mach h ∷ []) b o) ∷ ‵ (fobor κ q (Body (mem T.the-row) b o γ)) ∷ ‵ (fobs γ (T.the-row .coded .code h)) ∷ ‵ (fauth γ (T.the-row .coded .code h)) ∷ Locals (mach h)) (lands C Λ En (place 6 []) w lines.t-5 (atRet En Post))
       stored r zs w st l got =
           returned _ ! 𝓤 H A W C Λ Post _ _ _ _ _ _ _ _ _ _ _ _ _ a₀ a₁ a₂ a₃ a₄ a₅ a₆ a₇ a₈ a₉ a₁₀ at-mem run fm known-spell _ _ b o (machV (r .answer)) (r .rewritten)
-          (getV (fieldsOf h) 0) (getV (fieldsOf h) 1) (getV (fieldsOf h) 2) (getV (fieldsOf h) 3) (getV (fieldsOf h) 4) (getV (fieldsOf h) 5) (getV (fieldsOf h) 6) (getV (fieldsOf h) 7)
-          (getV (fieldsOf (r .engine)) 0) (getV (fieldsOf (r .engine)) 1) (getV (fieldsOf (r .engine)) 2) (getV (fieldsOf (r .engine)) 3) (getV (fieldsOf (r .engine)) 4) (getV (fieldsOf (r .engine)) 5) (getV (fieldsOf (r .engine)) 6) (getV (fieldsOf (r .engine)) 7)
+          (getV (fieldsOf h) 0) (getV (fieldsOf h) 1) (getV (fieldsOf h) 2) (getV (fieldsOf h) 3) (getV (fieldsOf h) 4) (getV (fieldsOf h) 5) (getV (fieldsOf h) 6) (getV (fieldsOf h) 7) (getV (fieldsOf h) 8)
+          (getV (fieldsOf (r .engine)) 0) (getV (fieldsOf (r .engine)) 1) (getV (fieldsOf (r .engine)) 2) (getV (fieldsOf (r .engine)) 3) (getV (fieldsOf (r .engine)) 4) (getV (fieldsOf (r .engine)) 5) (getV (fieldsOf (r .engine)) 6) (getV (fieldsOf (r .engine)) 7) (getV (fieldsOf (r .engine)) 8)
           (val (ss .0)) (val (ss .1 .0)) (val (ss .1 .1 .0)) (val (ss .1 .1 .1 .0)) (mach h) (vptr (ss .1 .1 .1 .0 .ptr .0) (ss .1 .1 .1 .0 .ptr .1)) (val (ss .1 .1 .1 .0))
           (raw Toks) (‵ (finally u8 (ss .1 .1 .1 .0 .name) zs)) (‵ (fobor κ q (Body (mem T.the-row) b o γ))) (‵ (fobs γ (T.the-row .coded .code h))) (‵ (fauth γ (T.the-row .coded .code h)))
           (‵ (fobs γ (T.the-row .coded .code (r .engine)))) (‵ (fbor κ (Body (mem T.the-row) b o γ))) (‵ (flft κ q)) (r .answer) refl refl refl (tt, tt) (LL.lawful S.the-type S′.the-laws 𝓤 H A W .typed r _ got .0) (ap only (LL.tells S.the-type S′.the-laws r _ got)) (λ off. ap fieldsOf (stays h ss r zs st (not-set (r .rewritten) off)))
@@ -214,6 +214,7 @@ module _ {M : Type 1} (𝓤 : URA M) (H : Heap 𝓤) (A : Atoms 𝓤) (W : Given
           (field-of refl refl (T′.the-laws .1 .1 .1 .1 .1 .0 .lawful 𝓤 H A W .typed (T.the-type .to (r .engine) .1 .1 .1 .1 .1 .0) _ (are-fields r got .1 .1 .1 .1 .1 .0) .0))
           (field-of refl refl (T′.the-laws .1 .1 .1 .1 .1 .1 .0 .lawful 𝓤 H A W .typed (T.the-type .to (r .engine) .1 .1 .1 .1 .1 .1 .0) _ (are-fields r got .1 .1 .1 .1 .1 .1 .0) .0))
           (field-of refl refl (T′.the-laws .1 .1 .1 .1 .1 .1 .1 .0 .lawful 𝓤 H A W .typed (T.the-type .to (r .engine) .1 .1 .1 .1 .1 .1 .1 .0) _ (are-fields r got .1 .1 .1 .1 .1 .1 .1 .0) .0))
+          (field-of refl refl (T′.the-laws .1 .1 .1 .1 .1 .1 .1 .1 .0 .lawful 𝓤 H A W .typed (T.the-type .to (r .engine) .1 .1 .1 .1 .1 .1 .1 .1 .0) _ (are-fields r got .1 .1 .1 .1 .1 .1 .1 .1 .0) .0))
           (shut r w got) (is-answer r got) (λ n u is. LL.lawful N.the-type N′.the-laws 𝓤 H A W .typed n _ is .0) (λ n u e. exits (r .engine) n u zs (e ∙ ap answerView (st .answer), st .engine, st .output) l)
 
     walk : Is (ShrSlice (named 1) (κs .0) u8) (ss .0) (machs .0) → Is (ShrSlice (named 2) (κs .1 .0) u8) (ss .1 .0) (machs .1 .0) → Is (ShrSlice (named 3) (κs .1 .1 .0) u8) (ss .1 .1 .0) (machs .1 .1 .0) → Is (MutSlice (named 4) (κs .1 .1 .1 .0) u8) (ss .1 .1 .1 .0) (machs .1 .1 .1 .0) → ent 𝓤 (onEntry 𝓤 H A f.signature (κ, κs) (q, qs) x at) (WpFn 𝓤 H C Λ code.function (vptr b o ∷ val (ss .0) ∷ val (ss .1 .0) ∷ val (ss .1 .1 .0) ∷ val (ss .1 .1 .1 .0) ∷ []) Post)
