@@ -29,10 +29,18 @@ struct Text {
 }
 
 // The engine after some events, the position behind them in the input, and whether everything could be written.
-struct Turn {
+struct After {
     engine: Engine,
     at: usize,
     open: bool,
+}
+
+// What a turn leaves: the engine, how many bytes of the input are kept, and whether there is more to do: not where the input has ended or a
+// write failed.
+struct Turn {
+    engine: Engine,
+    kept: usize,
+    more: bool,
 }
 
 // The text so far is written out, and it answers whether that went well. After a write that failed nothing more is written: no line stands
@@ -65,7 +73,7 @@ fn with_room(text: &[u8], t: Text) -> Text
 }
 
 // Plays each event in s that is not cut short: the engine after them, and the position behind them.
-fn play_whole(e: Engine, s: &[u8], memory: &mut [u8], text: &mut [u8]) -> Turn
+fn play_whole(e: Engine, s: &[u8], memory: &mut [u8], text: &mut [u8]) -> After
     ensures { λ r. ⌜ left (r .engine) (now (memory .exit)) (drop (r .at) (now (s .entry))) ≡ Played·run (length (now (s .entry))) e (now (memory .entry)) (now (s .entry)) ⌝ }
 {
     let mut after = e;
@@ -77,7 +85,7 @@ fn play_whole(e: Engine, s: &[u8], memory: &mut [u8], text: &mut [u8]) -> Turn
     loop {
         let CallRead::Whole(c) = calls::call_at(s, at) else {
             let open = flush(text, t);
-            return Turn {
+            return After {
                 engine: after,
                 at: at,
                 open: open,
@@ -113,14 +121,38 @@ fn read_more(input: &mut [u8], kept: usize) -> usize
     kept + io::count(got, rest)
 }
 
-// One turn fewer; none where a write failed.
-fn turns_left(turns: u64, open: bool) -> u64
+// Reads on, plays each event that is whole then, and keeps what is behind them.
+fn one_turn(e: Engine, kept: usize, input: &mut [u8], memory: &mut [u8], text: &mut [u8]) -> Turn {
+    let end = read_more(input, kept);
+    if end <= kept {
+        return Turn {
+            engine: e,
+            kept: kept,
+            more: false,
+        };
+    }
+    let p = play_whole(e, parts::front(input, end), memory, text);
+    let after = p.engine;
+    let rest = Part {
+        start: p.at,
+        end: end,
+    };
+    let left = parts::to_front(input, rest);
+    Turn {
+        engine: after,
+        kept: left,
+        more: p.open,
+    }
+}
+
+// One turn fewer; none where there is no more to do.
+fn turns_left(turns: u64, more: bool) -> u64
     ensures { λ r. ⌜ r ≤ turns - 1 ⌝ }
 {
     if turns == 0 {
         return 0;
     }
-    if open { turns - 1 } else { 0 }
+    if more { turns - 1 } else { 0 }
 }
 
 // Nothing proves that the input ends, so the turns are counted down from a number that no run uses up.
@@ -129,18 +161,10 @@ fn run(input: &mut [u8], memory: &mut [u8], text: &mut [u8]) {
     let mut kept = 0;
     let mut turns = u64::MAX;
     while turns > 0 {
-        let end = read_more(input, kept);
-        if end <= kept {
-            return;
-        }
-        let p = play_whole(e, parts::front(input, end), memory, text);
-        e = p.engine;
-        let rest = Part {
-            start: p.at,
-            end: end,
-        };
-        kept = parts::to_front(input, rest);
-        turns = turns_left(turns, p.open);
+        let t = one_turn(e, kept, input, memory, text);
+        e = t.engine;
+        kept = t.kept;
+        turns = turns_left(turns, t.more);
     }
 }
 

@@ -12,15 +12,8 @@ Inv-loop input₀ memory₀ text₀ e₀ kept₀ turns₀ input memory text e ke
 abbrev μ-loop : tie.MeasureT-loop
 μ-loop input₀ memory₀ text₀ e₀ kept₀ turns₀ input memory text e kept turns = turns
 
-returns : tie.Need-returns Inv-loop μ-loop
-returns c = search needs
-
-returns-2 : tie.Need-returns-2 Inv-loop μ-loop
-returns-2 c = search needs
-
 pub run-spec : {M : Type 1} → statement M
 run-spec =
     tie.close
     (tie.spec Inv-loop μ-loop (search needs) (search needs) (search needs) (search needs) (search needs)
-    (search needs) returns (search needs) (search needs) (search needs) (search needs) (search needs)
-    (search needs) (search needs) (search needs) (search needs) returns-2)
+    (search needs) (search needs) (search needs) (search needs) (search needs))
