@@ -1,15 +1,17 @@
 -- The range is that of the sentence: over every list of ranges, and for the sizes that some range of the table holds.
-use mathlib.Core.Path.{_≡_, refl, sym, _∙_}
-use mathlib.Core.Bool.{Bool, true, false, false≢true}
+use mathlib.Core.Path.{_≡_, refl}
+use mathlib.Core.Bool.{Bool, true, false}
 use mathlib.Core.List.{List, [], _∷_}
 use mathlib.Core.Option.{none, some}
 use Prim.Native.Nat.{ℕ, zero, suc, _≤_, _<_}
 use native.Mathlib.Omega.{arith}
-use lib.Dec.{leb}
+use lib.Dec.{ltb}
 use lib.ListN.{length}
-use borrow.Author.Tests.{le-leb, leb-true, leb-false}
+use borrow.Author.Tests.{ltb-true}
 use Rattle.wire.specs.Numbers.{if_then_else_}
-use Rattle.traction.specs.Ranges.{Range, range, ranges, holds, holdsAt, lowest}
+use Rattle.wire.specs.Lists.{every, tabulate}
+use Rattle.wire.proofs.ListLaws.{and-left, and-right}
+use Rattle.traction.specs.Ranges.{Range, ranges, holds, holdsAt, lowest}
 use Rattle.traction.specs.Sentences.{Lowest, Sentences}
 
 none-below : (rs : List Range) (size i : ℕ) → i < lowest rs size → holdsAt rs i size ≡ false
@@ -31,33 +33,17 @@ held (r ∷ rs) size l = go (holds r size) refl l (held rs size)
     go true q l ih = q
     go false q l ih = ih (omega arith)
 
--- it is at most any that holds it
-at-most : (rs : List Range) (k size : ℕ) → holdsAt rs k size ≡ true → lowest rs size ≤ k
-at-most [] k size q = absurd (false≢true q)
-at-most (r ∷ rs) k size q = go (holds r size) refl k q (λ k q. at-most rs k size q)
-  where
-    go : (b : Bool) → holds r size ≡ b → (k : ℕ) → holdsAt (r ∷ rs) k size ≡ true → ((k : ℕ) → holdsAt rs k size ≡ true → lowest rs size ≤ k) → (if b then 0 else suc (lowest rs size)) ≤ k
-    go true p k q ih = omega arith
-    go false p zero q ih = absurd (false≢true (sym p ∙ q))
-    go false p (suc k) q ih = omega (arith, ih k q)
+-- one of the five holds each size to 100
+every-one : (f : ℕ → Bool) (g : ℕ → ℕ) (n : ℕ) → every f (tabulate n g) ≡ true → (k : ℕ) → k < n → f (g k) ≡ true
+every-one f g zero q k l = absurd (omega arith)
+every-one f g (suc n) q zero l = and-left (f (g 0)) _ q
+every-one f g (suc n) q (suc k) l = every-one f (λ i. g (suc i)) n (and-right (f (g 0)) _ q) k (omega arith)
 
--- one of the five holds it
-module _ (size : ℕ) (h : size ≤ 100) where
-  within : (low high : ℕ) → low ≤ size → size ≤ high → holds (range low high) size ≡ true
-  within low high p q = rw (le-leb low size p, le-leb size high q)
-
-  some-range : lowest ranges size ≤ 4
-  some-range = go (leb size 0) refl (leb size 27) refl (leb size 77) refl (leb size 95) refl
-    where
-      go : (a : Bool) → leb size 0 ≡ a → (b : Bool) → leb size 27 ≡ b → (c : Bool) → leb size 77 ≡ c → (d : Bool) → leb size 95 ≡ d → lowest ranges size ≤ 4
-      go true p b q c r d s = omega (arith, at-most ranges 0 size (within 0 0 (omega arith) (leb-true size 0 p)))
-      go false p true q c r d s = let l : 0 < size = leb-false size 0 p in omega (arith, at-most ranges 1 size (within 1 27 (omega arith) (leb-true size 27 q)))
-      go false p false q true r d s = let l : 27 < size = leb-false size 27 q in omega (arith, at-most ranges 2 size (within 23 77 (omega arith) (leb-true size 77 r)))
-      go false p false q false r true s = let l : 77 < size = leb-false size 77 r in omega (arith, at-most ranges 3 size (within 73 95 (omega arith) (leb-true size 95 s)))
-      go false p false q false r false s = let l : 95 < size = leb-false size 95 s in omega (arith, at-most ranges 4 size (within 91 100 (omega arith) h))
+some-range : (size : ℕ) → size ≤ 100 → lowest ranges size < 5
+some-range size h = ltb-true _ _ (every-one (λ n. ltb (lowest ranges n) 5) (λ k. k) 101 refl size (omega arith))
 
 lowest-of : (size : ℕ) → size ≤ 100 → Lowest size (lowest ranges size)
-lowest-of size h = record { is-held = held ranges size (omega (arith, some-range size h)); none-below = none-below ranges size }
+lowest-of size h = record { is-held = held ranges size (some-range size h); none-below = none-below ranges size }
 
 pub sentences : Sentences
 sentences = record {
