@@ -96,10 +96,10 @@ pub record Requests : Type 0 where
   -- from EG to DE, to AV; into EG; power off
   pub kept : map (λ s. rememberedAfter EG (Event.Reports 0) s (some (remembered 4 7))) (DE ∷ AV ∷ []) ≡ some (remembered 4 7) ∷ some (remembered 4 7) ∷ []
   pub forgotten : rememberedAfter RE (Event.Mode 1) EG (some (remembered 4 7)) ∷ rememberedAfter EG Event.PowerOff NP (some (remembered 4 7)) ∷ [] ≡ none ∷ none ∷ []
-  -- "on a change of range or of Q_ATO_SupTB": none before; the same; another range; the lowest and the highest bit of Q_ATO_SupTB
+  -- "on a change of range or of Q_ATO_SupTB": none before; the same; another range; the lowest and the highest bit of Q_ATO_SupTB; none after
   pub changes : changed none (some (remembered 0 0)) ∷ changed (some (remembered 1 7)) (some (remembered 1 7)) ∷ changed (some (remembered 1 7)) (some (remembered 2 7))
-      ∷ changed (some (remembered 1 7)) (some (remembered 1 6)) ∷ changed (some (remembered 1 7)) (some (remembered 1 0x87)) ∷ []
-      ≡ true ∷ false ∷ true ∷ true ∷ true ∷ []
+      ∷ changed (some (remembered 1 7)) (some (remembered 1 6)) ∷ changed (some (remembered 1 7)) (some (remembered 1 0x87)) ∷ changed (some (remembered 1 7)) none ∷ []
+      ≡ true ∷ false ∷ true ∷ true ∷ true ∷ true ∷ []
   -- "In EG or DE the packet is written", with the event's content
   pub written-in : map (λ s. writtenContent s (Event.Traction asked) none (some (remembered 1 0x55))) states
       ≡ none ∷ none ∷ none ∷ none ∷ none ∷ some (content 0x55) ∷ some (content 0x55) ∷ none ∷ []
