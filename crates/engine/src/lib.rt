@@ -8,7 +8,7 @@ use engine_value::MAX_POINTS;
 use engine_value::MAX_SEGMENTS;
 use event::Event;
 use event::EventRead;
-use event_packets::Status;
+use judge::Before;
 use judge::Judgement;
 use position::Found;
 use wire::Verdict;
@@ -50,13 +50,18 @@ fn rows_of(e: Engine, v: Event) -> Verdict
     state_codes::state_rows(state, event::kind_of(v))
 }
 
-// State, conditions and speed before the event.
-fn status_before(e: Engine, c: RouteConditions) -> Status
+// What its packets are judged against, before the event.
+fn before_it(e: Engine, c: RouteConditions) -> Before
     requires { ⌜ c ≡ routeConditionsIn e ⌝ }
-    ensures { λ r. ⌜ statusView r ≡ statusIn e ⌝ }
+    ensures { λ r. ⌜ (statusView (r .status) ≡ statusIn e) × (r .traction ≡ e .traction) ⌝ }
 {
     let word = conditions::word_of(e.load, e.inputs.reports, c, e.progress);
-    judge::status(e.control, e.train, word)
+    let status = judge::status(e.control, e.train, word);
+    let traction = e.traction;
+    Before {
+        status: status,
+        traction: traction,
+    }
 }
 
 // The driver skips, with that of the stop that was looked up given or revoked.
@@ -133,13 +138,12 @@ pub fn step(e: Engine, event: &[u8], journey: &[u8], book: &[u8], out: &mut [u8]
             answer = Answer::Refused(n);
         } else {
             let looked = look_up::look_up(m, v);
-            let before = status_before(m, looked.before);
-            let remembered = m.traction;
+            let before = before_it(m, looked.before);
             let room = out.len();
             let t = if event::is_report(v) {
-                judge::judge(before, remembered, v, effects::report(m, v, looked), room)
+                judge::judge(before, v, effects::report(m, v, looked), room)
             } else if event::is_skip(v) {
-                let t = judge::judge(before, remembered, v, effects::skip(m, v, looked), room);
+                let t = judge::judge(before, v, effects::skip(m, v, looked), room);
                 if is_accepted(t) {
                     let stop = looked.stop;
                     let at = stop.at;
@@ -149,7 +153,7 @@ pub fn step(e: Engine, event: &[u8], journey: &[u8], book: &[u8], out: &mut [u8]
                 }
                 t
             } else if event::is_power_off(v) {
-                let t = judge::judge(before, remembered, v, effects::power_off(), room);
+                let t = judge::judge(before, v, effects::power_off(), room);
                 if is_accepted(t) {
                     m = without_journey(m);
                     rewritten = true;
@@ -158,7 +162,7 @@ pub fn step(e: Engine, event: &[u8], journey: &[u8], book: &[u8], out: &mut [u8]
             } else if event::is_load(v) {
                 let l = effects::load(effects::kept_of(m), journey, book);
                 let f = l.effect;
-                let t = judge::judge(before, remembered, v, f, room);
+                let t = judge::judge(before, v, f, room);
                 if is_accepted(t) {
                     let points = l.points;
                     let segments = l.segments;
@@ -169,7 +173,7 @@ pub fn step(e: Engine, event: &[u8], journey: &[u8], book: &[u8], out: &mut [u8]
                 }
                 t
             } else {
-                judge::judge(before, remembered, v, effects::values(m, v, looked), room)
+                judge::judge(before, v, effects::values(m, v, looked), room)
             };
             if is_accepted(t) {
                 m = with_groups(m, t);

@@ -37,6 +37,12 @@ pub struct Judgement {
     pub size: usize,
 }
 
+// What the packets of an event are judged against: state, conditions and speed before it, and what was remembered of the traction requests.
+pub struct Before {
+    pub status: Status,
+    pub traction: Traction,
+}
+
 pub fn status(control: Control, train: Train, conditions: u16) -> Status
     ensures { λ r. ⌜ r ≡ statusOf control train conditions ⌝ }
 {
@@ -76,15 +82,15 @@ fn output_row(verdict: Verdict, room: usize, size: usize) -> Verdict
     Verdict::Accepted
 }
 
-// `before` and `remembered` are of the engine before the event.
-pub fn judge(before: Status, remembered: Traction, v: Event, f: Effect, room: usize) -> Judgement
-    ensures { λ r. ⌜ ((e : engine.Engine) (j : model.JourneyAfter) (memory : List ℕ) (x : Judged model.Effect) → statusView before ≡ statusIn e → remembered ≡ e .traction → room ≡ length memory → Gives e j x f → Judges e j v memory x r) ⌝ }
+pub fn judge(before: Before, v: Event, f: Effect, room: usize) -> Judgement
+    ensures { λ r. ⌜ ((e : engine.Engine) (j : model.JourneyAfter) (memory : List ℕ) (x : Judged model.Effect) → statusView (before .status) ≡ statusIn e → before .traction ≡ e .traction → room ≡ length memory → Gives e j x f → Judges e j v memory x r) ⌝ }
 {
     let word = conditions::word_of(f.load, f.inputs.reports, f.after, f.progress);
     let control = states::control_after(f.inputs, f.control, v, f.reached, word);
-    let due = event_packets::status_due(before, status(control, f.train, word));
-    let traction = traction::traction_after(before.state, v, control.state, remembered);
-    let own = traction::own_of(before.state, v, remembered, traction);
+    let due = event_packets::status_due(before.status, status(control, f.train, word));
+    let state = before.status.state;
+    let traction = traction::traction_after(state, v, control.state, before.traction);
+    let own = traction::own_of(state, v, before.traction, traction);
     let w = writes_of(f, own, due, word);
     let size = event_packets::size(w);
     let verdict = f.verdict;

@@ -33,37 +33,37 @@ use borrow.Author.Needs.{needs}
 use Rattle.engine.proofs.step.Statement.{statement}
 use Rattle.engine.proofs.step.Tie as tie
 
-status-before-requires : tie.Need-status-before-requires
-status-before-requires c κs = ap (λ (l : LookedUp). l .before) (c .look-up .ensures)
+before-it-requires : tie.Need-before-it-requires
+before-it-requires c κs = ap (λ (l : LookedUp). l .before) (c .look-up .ensures)
 
 -- ---- at the tests of the roles
 module _ (s : tie.After-is-report) where
   abbrev e : Engine
-  e = s .before .before .before .before .before .before .before .before .before .before .before .before .before .before .before .before .before .before .args .e
+  e = s .before .before .before .before .before .before .before .before .before .before .before .before .before .before .before .before .before .args .e
 
   abbrev v : Event
-  v = s .before .before .before .before .before .before .before .before .read3 .given .0 .0
+  v = s .before .before .before .before .before .before .before .read3 .given .0 .0
 
   abbrev journey : List ℕ
-  journey = now (s .before .before .before .before .before .before .before .before .before .before .before .before .before .before .before .before .before .before .args .journey)
+  journey = now (s .before .before .before .before .before .before .before .before .before .before .before .before .before .before .before .before .before .args .journey)
 
   abbrev book : List ℕ
-  book = now (s .before .before .before .before .before .before .before .before .before .before .before .before .before .before .before .before .before .before .args .book)
+  book = now (s .before .before .before .before .before .before .before .before .before .before .before .before .before .before .before .before .before .args .book)
 
   abbrev memory : List ℕ
-  memory = now (s .before .before .before .before .before .before .before .before .before .before .before .before .before .before .before .before .before .before .args .out)
+  memory = now (s .before .before .before .before .before .before .before .before .before .before .before .before .before .before .before .before .before .args .out)
 
   abbrev Is : Judgement → Engine → Bool → Type 0
   Is t m b = Taken e v journey book memory t m b
 
-  looked : s .before .before .before .look-up .result ≡ lookUp e v
-  looked = s .before .before .before .look-up .ensures
+  looked : s .before .before .look-up .result ≡ lookUp e v
+  looked = s .before .before .look-up .ensures
 
   -- what the judgement t of effect f says, where f stands for x
   judged : (x : Judged Effect) (j : JourneyAfter) (f : code.Effect) (t : Judgement)
-      → ((e : Engine) (j : JourneyAfter) (memory : List ℕ) (x : Judged Effect) → statusView (s .before .before .status-before .result) ≡ statusIn e → s .before .before .before .before .before .before .before .before .before .before .before .before .before .before .before .before .before .before .args .e .traction ≡ e .traction → length (now (s .before .before .before .before .before .before .before .before .before .before .before .before .before .before .before .before .before .before .args .out)) ≡ length memory → Gives e j x f → Judges e j v memory x t)
+      → ((e : Engine) (j : JourneyAfter) (memory : List ℕ) (x : Judged Effect) → statusView (s .before .before-it .result .status) ≡ statusIn e → s .before .before-it .result .traction ≡ e .traction → length (now (s .before .before .before .before .before .before .before .before .before .before .before .before .before .before .before .before .before .args .out)) ≡ length memory → Gives e j x f → Judges e j v memory x t)
       → Gives e j x f → Judges e j v memory x t
-  judged x j f t k g = k e j memory x (s .before .before .status-before .ensures) refl refl g
+  judged x j f t k g = k e j memory x (s .before .before-it .ensures .0) (s .before .before-it .ensures .1) refl g
 
 taken : (c : tie.Joined1) → Is (c .before) (c .if1 .t) (c .if1 .m) (c .if1 .rewritten)
 taken c = let s = c .before in
@@ -165,12 +165,12 @@ returns-3 : tie.Need-returns-3
 unfolding stepOf
 returns-3 c =
     let s = c .before .before .before .before in
-    let q = s .before .before .before .before .before .before in
+    let q = s .before .before .before .before .before in
     let x = q .before .before in
     let r = x .before .before .before .before .before in
     let a = r .before .before .before .before .before .args in
     steps-by (a .e) (now (a .out)) _ _ _ _
-    (rows-allowed (a .e) (call (now (a .event)) (now (a .journey)) (now (a .book)) (now (a .out))) _ (sym (r .read-event .ensures) ∙ ap eventView (x .before .before .before .read2 .given .1 ∙ x .read3 .given .1)) _ (q .rows-of .ensures) (s .before .before .before .before .enum-told .given .1)) (written c)
+    (rows-allowed (a .e) (call (now (a .event)) (now (a .journey)) (now (a .book)) (now (a .out))) _ (sym (r .read-event .ensures) ∙ ap eventView (x .before .before .before .read2 .given .1 ∙ x .read3 .given .1)) _ (q .rows-of .ensures) (s .before .before .before .enum-told .given .1)) (written c)
 
 -- an event that was read is no refusal
 returns-4 : tie.Need-returns-4
@@ -182,7 +182,7 @@ pub step-spec : {M : Type 1} → statement M
 step-spec =
     tie.close
     (tie.spec (search needs) (search needs) (search needs) (search needs) (search needs) (search needs) (search needs)
-    (search needs) status-before-requires (search needs) (search needs) (search needs) (search needs) (search needs)
+    (search needs) before-it-requires (search needs) (search needs) (search needs) (search needs) (search needs)
     (search needs) (search needs) (search needs) skips-with-requires (search needs) (search needs) (search needs) (search needs)
     (search needs) (search needs) (search needs) (search needs) (search needs) (search needs) (search needs)
     (search needs) (search needs) (search needs) (search needs) (search needs) (search needs) returns returns-2 same-length returns-3 returns-4)

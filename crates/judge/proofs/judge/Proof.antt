@@ -14,9 +14,9 @@ returns c =
     let k = t .before in
     let n = k .before in
     let a = n .before .args in
-    λ e j memory x shown told lent given. judges e j (a .v) memory x (a .f) given (a .before) _ shown
+    λ e j memory x shown told lent given. judges e j (a .v) memory x (a .f) given (a .before .status) _ shown
     _ (n .word-of .ensures .0) _ (k .control-after .ensures) (t .status .ensures) _ (d .status-due .ensures)
-    (a .remembered) told _ (r .traction-after .ensures) _ (o .own-of .ensures)
+    (a .before .traction) told _ (r .traction-after .ensures) _ (o .own-of .ensures)
     (a .room) lent _ (w .writes-of .ensures) _ (s .size .ensures) _ (c .output-row .ensures)
 
 pub judge-spec : {M : Type 1} → statement M
