@@ -34,7 +34,7 @@ package Hollwern is
    --  Bytes of stack that a load takes.
    Stack_Load : constant := 31_744;
    --  Bytes of stack that any other call takes.
-   Stack_Other : constant := 10_240;
+   Stack_Other : constant := 11_264;
 
    --  Event kinds: the first byte of an event.
    Kind_Power_On : constant := 1;

@@ -59,7 +59,7 @@
  * differ. A program that binds memcpy and memset only at their first use runs the dynamic linker on the same stack
  * then, some 3 KiB more where it was measured: bind them before (-Wl,-z,now or -static), or provide for it. */
 #define HOLLWERN_STACK_LOAD 31744
-#define HOLLWERN_STACK_OTHER 10240
+#define HOLLWERN_STACK_OTHER 11264
 
 /* Event kinds: the first byte of an event. */
 #define HOLLWERN_KIND_POWER_ON 1

@@ -35,7 +35,7 @@ pub const BOOK_BYTES_MOST: usize = 8_200;
 /// Bytes of stack that a load takes.
 pub const STACK_LOAD: usize = 31_744;
 /// Bytes of stack that any other call takes.
-pub const STACK_OTHER: usize = 10_240;
+pub const STACK_OTHER: usize = 11_264;
 
 // Event kinds: the first byte of an event.
 pub const KIND_POWER_ON: u8 = 1;
