@@ -143,12 +143,13 @@ pub fn step(e: Engine, event: &[u8], journey: &[u8], book: &[u8], out: &mut [u8]
             let t = if event::is_report(v) {
                 judge::judge(before, v, effects::report(m, v, looked), room)
             } else if event::is_skip(v) {
+                // Before it is judged: read behind the judgement, the compiled step would copy the engine once more.
+                let stop = looked.stop;
+                let at = stop.at;
+                let given = m.skips;
+                let skips = skips_with(given, at, event::gives_skip(v));
                 let t = judge::judge(before, v, effects::skip(m, v, looked), room);
                 if is_accepted(t) {
-                    let stop = looked.stop;
-                    let at = stop.at;
-                    let given = m.skips;
-                    let skips = skips_with(given, at, event::gives_skip(v));
                     m.skips = skips;
                 }
                 t

@@ -77,21 +77,21 @@ taken c = let s = c .before in
     (⊎-elim
     (λ w.
     let r = skip-role (roleOf (v s)) (sym (w .1 .ensures) ∙ w .2 .taken) in
-    let k = judged s _ _ _ _ (w .4 .ensures) (w .3 .ensures (r .0) (r .1) (looked s) (r .2)) in
+    let k = judged s _ _ _ _ (w .8 .ensures) (w .7 .ensures (r .0) (r .1) (looked s) (r .2)) in
     let at = ap (λ (l : LookedUp). l .stop .at) (looked s) in
-    let on = w .9 .ensures ∙ ap skipGiven (r .2) in
-    let stored = w .10 .ensures ∙ ap₂ (λ (f : Found) (b : Bool). skipsFor (e s .skips) f b) at on in
+    let on = w .5 .ensures ∙ ap skipGiven (r .2) in
+    let stored = w .6 .ensures ∙ ap₂ (λ (f : Found) (b : Bool). skipsFor (e s .skips) f b) at on in
     subst (λ (t : Judgement). Is s t (c .if1 .m) (c .if1 .rewritten)) (sym (w .13))
-    (taken-skip (e s) (v s) (journey s) (book s) (memory s) (r .0) (r .1) (lookUp (e s) (v s) .stop .at) _ _ _ (r .2) (sym (w .5 .ensures) ∙ w .6 .taken)
+    (taken-skip (e s) (v s) (journey s) (book s) (memory s) (r .0) (r .1) (lookUp (e s) (v s) .stop .at) _ _ _ (r .2) (sym (w .9 .ensures) ∙ w .10 .taken)
     (w .11 ∙ ap (λ (l : List Bool). arrays (e s) (v s) (journey s) (book s) (memory s) (e s .points) l (e s .segments)) stored)
-    (subst (λ (l : LookedUp). Judges (e s) (skipJourney (r .1) (l .stop .at)) (v s) (memory s) (skipEffect (e s) (carried (v s)) (r .1) (l .stop)) (w .4 .result)) (looked s) k)))
+    (subst (λ (l : LookedUp). Judges (e s) (skipJourney (r .1) (l .stop .at)) (v s) (memory s) (skipEffect (e s) (carried (v s)) (r .1) (l .stop)) (w .8 .result)) (looked s) k)))
     (⊎-elim
     (λ w.
     let r = skip-role (roleOf (v s)) (sym (w .1 .ensures) ∙ w .2 .taken) in
-    let k = judged s _ _ _ _ (w .4 .ensures) (w .3 .ensures (r .0) (r .1) (looked s) (r .2)) in
-    subst (λ (t : Judgement). Is s t (c .if1 .m) (c .if1 .rewritten)) (sym (w .9))
-    (taken-refused (e s) (v s) (journey s) (book s) (memory s) (skip (r .0) (r .1)) (skipJourney (r .1) (lookUp (e s) (v s) .stop .at)) _ _ _ (r .2) (w .7) (w .8) (sym (w .5 .ensures) ∙ w .6 .left)
-    (subst (λ (l : LookedUp). Judges (e s) (skipJourney (r .1) (l .stop .at)) (v s) (memory s) (skipEffect (e s) (carried (v s)) (r .1) (l .stop)) (w .4 .result)) (looked s) k)))
+    let k = judged s _ _ _ _ (w .8 .ensures) (w .7 .ensures (r .0) (r .1) (looked s) (r .2)) in
+    subst (λ (t : Judgement). Is s t (c .if1 .m) (c .if1 .rewritten)) (sym (w .13))
+    (taken-refused (e s) (v s) (journey s) (book s) (memory s) (skip (r .0) (r .1)) (skipJourney (r .1) (lookUp (e s) (v s) .stop .at)) _ _ _ (r .2) (w .11) (w .12) (sym (w .9 .ensures) ∙ w .10 .left)
+    (subst (λ (l : LookedUp). Judges (e s) (skipJourney (r .1) (l .stop .at)) (v s) (memory s) (skipEffect (e s) (carried (v s)) (r .1) (l .stop)) (w .8 .result)) (looked s) k)))
     (⊎-elim
     (λ w.
     let q = off-role (roleOf (v s)) (sym (w .3 .ensures) ∙ w .4 .taken) in
@@ -138,7 +138,7 @@ written c = let j = c .before .before .before in let s = j .before in let t = j 
     (c .before .if8 .came)
 
 skips-with-requires : tie.Need-skips-with-requires
-skips-with-requires c κs = let s = c .before .before .before .before .before .before .before .before .before .before in subst (λ (l : LookedUp). IndexBelow 64 (l .stop .at)) (sym (looked s)) (stop-below (e s) (v s))
+skips-with-requires c κs = let s = c .before .before .before .before .before .before in subst (λ (l : LookedUp). IndexBelow 64 (l .stop .at)) (sym (looked s)) (stop-below (e s) (v s))
 
 returns : tie.Need-returns
 unfolding stepOf
@@ -183,6 +183,7 @@ step-spec =
     tie.close
     (tie.spec (search needs) (search needs) (search needs) (search needs) (search needs) (search needs) (search needs)
     (search needs) before-it-requires (search needs) (search needs) (search needs) (search needs) (search needs)
-    (search needs) (search needs) (search needs) skips-with-requires (search needs) (search needs) (search needs) (search needs)
+    skips-with-requires (search needs) (search needs) (search needs) (search needs) (search needs) (search needs)
     (search needs) (search needs) (search needs) (search needs) (search needs) (search needs) (search needs)
-    (search needs) (search needs) (search needs) (search needs) (search needs) (search needs) returns returns-2 same-length returns-3 returns-4)
+    (search needs) (search needs) (search needs) (search needs) (search needs) (search needs) (search needs) returns
+    returns-2 same-length returns-3 returns-4)
