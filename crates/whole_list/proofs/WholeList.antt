@@ -31,8 +31,6 @@ use Rattle.call.specs.Call.{Outcome, Step, conditionsIn, judged, outcomeOf, ste
 use Rattle.call.proofs.Rows.{memory-length}
 use Rattle.whole_list.specs.Values.{History, eventOfCall, latest, routeBy, reportsSince, behindAtLoad}
 use Rattle.whole_list.specs.Rules.{conditionsBy, machineBy, stateBy, requestBy, Engaged}
-use Rattle.traction.specs.View.{rememberedIn}
-use Rattle.traction.proofs.Laws.{told-again}
 use Rattle.whole_list.specs.Requests.{requestsSince, afterRequests, tractionBy}
 use Rattle.whole_list.proofs.Requests.{traction-exactly}
 use Rattle.whole_list.specs.Table.{packetsBy, answerBy, tableBy}
@@ -243,7 +241,7 @@ whole-list calls =
       status = claim-status _ _ _ _ k;
       judged = λ earlier c later e. claim-judged _ _ c (kept earlier .seen);
       request = ap (λ x. x .control .request) (k .seen);
-      traction = ap (λ x. rememberedIn (x .traction)) (k .seen) ∙ told-again (tractionBy (historyOf calls));
+      traction = ap (λ x. x .traction) (k .seen);
       as-ruled = record { stands = stands-exactly (historyOf calls); became = saw (historyOf calls); zones = zones-booked (historyOf calls) };
       shown = rw (k .seen) (shown-by (historyOf calls));
     }

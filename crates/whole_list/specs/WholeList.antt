@@ -26,7 +26,7 @@ use Rattle.state_codes.specs.Codes.{code}
 use Rattle.states.specs.States.{wanted}
 use Rattle.state_codes.specs.declared.EtcsMode.the-variants.{Other}
 use Rattle.state_codes.specs.declared.State.the-variants.{EG, DE}
-use Rattle.traction.specs.View.{rememberedIn}
+use Rattle.traction.specs.View.{tractionOf}
 use Rattle.call_values.specs.Call.{Call, Accepted}
 use Rattle.call.specs.Call.{Outcome, stepOf, conditionsIn}
 use Rattle.call.specs.View.{shownView}
@@ -122,7 +122,7 @@ pub record WholeList (calls : List Call) : Type 0 where
       → JudgedByTable (engineAfter earlier) (historyOf earlier) c (stepOf (engineAfter earlier) c)
   pub request : engineAfter calls .control .request ≡ requestBy (historyOf calls)
   -- 02, Q-1: "the range as a fact of the events since EG": what the engine remembers is that
-  pub traction : rememberedIn (engineAfter calls .traction) ≡ tractionBy (historyOf calls)
+  pub traction : engineAfter calls .traction ≡ tractionOf (tractionBy (historyOf calls))
   pub as-ruled : AsRuled (historyOf calls)
   pub shown : ShownBy (shownView (engineAfter calls)) (historyOf calls)
 
