@@ -44,18 +44,21 @@ fn lowest(size: u8) -> u8
     ensures { λ r. ⌜ r ≡ lowest ranges size ⌝ }
 {
     if holds(0, size) {
-        0
-    } else if holds(1, size) {
-        1
-    } else if holds(2, size) {
-        2
-    } else if holds(3, size) {
-        3
-    } else if holds(4, size) {
-        4
-    } else {
-        5
+        return 0;
     }
+    if holds(1, size) {
+        return 1;
+    }
+    if holds(2, size) {
+        return 2;
+    }
+    if holds(3, size) {
+        return 3;
+    }
+    if holds(4, size) {
+        return 4;
+    }
+    5
 }
 
 // The range of a request, from the one before.

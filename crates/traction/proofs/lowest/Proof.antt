@@ -22,4 +22,5 @@ returns-6 : tie.Need-returns-6
 returns-6 c = rw (sym (c .before .before .before .before .before .before .before .before .before .holds .ensures) ∙ c .before .before .before .before .before .before .before .before .if1 .left, sym (c .before .before .before .before .before .before .before .holds2 .ensures) ∙ c .before .before .before .before .before .before .if2 .left, sym (c .before .before .before .before .before .holds3 .ensures) ∙ c .before .before .before .before .if3 .left, sym (c .before .before .before .holds4 .ensures) ∙ c .before .before .if4 .left, sym (c .before .holds5 .ensures) ∙ c .if5 .left)
 
 pub lowest-spec : {M : Type 1} → statement M
-lowest-spec = tie.close (tie.spec (search needs) (search needs) (search needs) (search needs) (search needs) returns returns-2 returns-3 returns-4 returns-5 returns-6)
+lowest-spec =
+    tie.close (tie.spec (search needs) returns (search needs) returns-2 (search needs) returns-3 (search needs) returns-4 (search needs) returns-5 returns-6)
