@@ -43,7 +43,7 @@ pub const REVOKE: u8 = 13;
 
 pub const TRACTION: u8 = 14;
 
-// The greatest size of a traction request, in percent.
+// The greatest size of a traction request, without its sign.
 const MAX_REQUEST: u8 = 100;
 
 // A traction or braking request as its byte in two's complement, and the content of the packet 61 that tells it.

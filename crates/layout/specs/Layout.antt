@@ -8,8 +8,8 @@ use lib.Dec.{leb}
 use Rattle.wire.specs.Numbers.{number, bytesOf, magnitude}
 
 -- What stands in a field: any number that its bytes hold; a number to a highest one; a number between a lowest and a
--- highest one; a signed byte, from minus a highest size to that size; or several numbers in one, the lowest first, where `part base high rest` is a number to high plus base times
--- the rest.
+-- highest one; a signed byte, from minus a highest size to that size; or several numbers in one, the lowest first, where
+-- `part base high rest` is a number to high plus base times the rest.
 pub data Content : Type 0 where
   free : Content
   upTo : ℕ → Content
