@@ -223,6 +223,13 @@ fn appended() -> Vec<PacketTrial> {
     vec![append("P7 behind power on", 45, None), append("P7 with one byte less than it needs", 43, Some(16))]
 }
 
+/// Every state with every set of conditions: 4,096 words.
+fn every_word() -> Vec<PacketTrial> {
+    const NAMES: [&str; 8] = ["NP", "CO", "NA", "AV", "RE", "EG", "DE", "FA"];
+    let words = |(name, code)| (0..512).map(move |conditions| write(name, state(code, conditions), SIZE_68, None));
+    NAMES.into_iter().zip(0..).flat_map(words).collect()
+}
+
 /// 16: one byte less than the packet has, and far less; not with just enough.
 fn no_room() -> Vec<PacketTrial> {
     vec![
@@ -377,5 +384,5 @@ fn alter61() -> Vec<PacketTrial> {
 pub fn packet_trials() -> Vec<PacketTrial> {
     let writer = [written(), appended(), no_room(), out_of_range()];
     let reader = [read_back(), lengths_and_numbers(), alter62(), alter65(), alter68(), alter61()];
-    writer.into_iter().chain(reader).flatten().collect()
+    writer.into_iter().chain(reader).flatten().chain(every_word()).collect()
 }

@@ -9,7 +9,7 @@ use std::collections::{BTreeMap, BTreeSet};
 use std::fmt::Debug;
 
 /// Constants of the header by the beginning of their names, the crate that has them, and how they begin there.
-const CONSTANTS: [(&str, &str, &str); 14] = [
+const CONSTANTS: [(&str, &str, &str); 13] = [
     ("VERSION_", "host", ""),
     ("KIND_", "event", ""),
     ("STATUS_", "event_packets", ""),
@@ -23,13 +23,17 @@ const CONSTANTS: [(&str, &str, &str); 14] = [
     ("RECORDS_MOST", "engine_value", "MAX_SEGMENTS"),
     ("RECORD_POINTS_MOST", "segment_record", "MAX_RECORD_POINTS"),
     ("ZONES_MOST", "engine_value", "MAX_ZONES"),
-    ("ALL_CONDITIONS", "conditions", "ALL_CONDITIONS"),
 ];
 /// Structs of the header and the crate that has them.
 const STRUCTS: [(&str, &str); 4] =
     [("Answer", "host"), ("Shown", "call"), ("Header", "packets"), ("PacketFields", "packet_fields")];
-/// Where it is proved how much an event writes at most.
-const BYTES_PROVED: &str = "crates/call/proofs/Sizes.antt";
+/// Constants of the header that the proved code has as definitions: the file, how the line begins, and what stands before
+/// the number at its end.
+const STATED: [(&str, &str, &str, &str); 2] = [
+    // how much an event writes at most
+    ("BYTES_MOST", "crates/call/proofs/Sizes.antt", "pub bytes-most :", " ≤ "),
+    ("ALL_CONDITIONS", "crates/conditions/specs/Conditions.antt", "allConditions =", " = "),
+];
 
 type Named<T> = BTreeMap<String, T>;
 
@@ -88,11 +92,13 @@ impl Differences {
         self.compare(&path, "padding in an engine", Some(0), engine.map(|layout| layout.padding));
     }
 
-    fn check_bytes_most(&mut self, header: &Declared) {
-        let text = std::fs::read_to_string(BYTES_PROVED).unwrap_or_else(|error| panic!("{BYTES_PROVED}: {error}"));
-        let stated = text.lines().find(|line| line.starts_with("pub bytes-most :"));
-        let proved = stated.and_then(|line| line.rsplit_once(" ≤ ")?.1.parse().ok());
-        self.compare(BYTES_PROVED, "BYTES_MOST", header.constants.get("BYTES_MOST").copied(), proved);
+    fn check_stated(&mut self, header: &Declared) {
+        for (name, path, beginning, before) in STATED {
+            let text = std::fs::read_to_string(path).unwrap_or_else(|error| panic!("{path}: {error}"));
+            let stated = text.lines().find(|line| line.starts_with(beginning));
+            let proved = stated.and_then(|line| line.rsplit_once(before)?.1.parse().ok());
+            self.compare(path, name, header.constants.get(name).copied(), proved);
+        }
     }
 
     fn check_profiles_most(&mut self, header: &Declared) {
@@ -118,7 +124,7 @@ fn main() {
     differences.compare_declarations("host/hollwern.ads", &header);
     differences.compare_with_proved(&header);
     differences.check_engine(&header);
-    differences.check_bytes_most(&header);
+    differences.check_stated(&header);
     differences.check_profiles_most(&header);
     if differences.0.is_empty() {
         let Declared { constants, structs, calls } = header;

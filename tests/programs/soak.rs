@@ -1,5 +1,6 @@
 //! `soak STATE COUNT PROGRAM`: guided random lists against the model, through the C interface, until so many calls have
-//! agreed. The packets that each call wrote are read by both readers, also cut, longer and changed.
+//! agreed. The packets that each call wrote are read by both readers, also cut, longer and changed; before all that, a
+//! packet 68 with each of the 65,536 words.
 //! STATE holds what has agreed so far: lists, calls, packets read and refused; the next run goes on from there. PROGRAM
 //! is a digest of this very program, with the library, the model and the lists in it: what another one did counts for
 //! nothing.
@@ -8,7 +9,7 @@ use inputs::lists::new_list;
 use model::calls::Call;
 use model::words::call_in_words;
 use proved::pair::{Memory, Pair};
-use proved::reading::{try_packets, Readings};
+use proved::reading::{try_packets, try_words, Readings};
 
 /// The seed of list 0, far from those of `tests/run`.
 const SEED: u64 = 1_000_000_000;
@@ -116,6 +117,8 @@ fn try_lists(state: &State, mut done: Done, count: u64) -> Result<Done, String> 
 
 fn run(state: &State, count: u64) -> Result<(), String> {
     let before = state.read()?;
+    let [read, _, _, beyond] = try_words()?;
+    println!("every word of packet 68: {read} read alike, {beyond} refused by 19");
     let done = try_lists(state, before, count)?;
     let (lists, calls) = (done.lists - before.lists, done.calls - before.calls);
     if before.calls > 0 {

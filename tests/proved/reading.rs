@@ -1,7 +1,7 @@
 //! The proved packet reader beside the model's: every string of bytes must be read or refused, and cut, alike.
 
 use crate::hollwern::{front_size, packets as cut, read, Header, PacketFields};
-use model::packets::{self, size_of_number, split_packets, Content, Packet, TractionBrake};
+use model::packets::{self, size_of_number, split_packets, Content, Packet, TractionBrake, SIZE_68};
 
 /// How many strings were read, and how many refused by 17, 18 and 19.
 pub type Readings = [u64; 4];
@@ -49,6 +49,32 @@ fn strings(packet: &[u8], step: u8) -> Vec<Box<[u8]>> {
     cut.chain([longer]).chain(changed).collect()
 }
 
+/// One string of bytes. An error says what differs.
+fn try_string(bytes: &[u8], readings: &mut Readings) -> Result<(), String> {
+    let (expected, found) = (expected(bytes), read(bytes));
+    if found != expected {
+        return Err(format!("{bytes:02X?}: the model reads {expected:?}, the proved reader {found:?}"));
+    }
+    let (expected, found_front) = (expected_front(bytes), front_size(bytes));
+    if found_front != expected {
+        return Err(format!("{bytes:02X?}: a packet of {expected} bytes in front, not {found_front}"));
+    }
+    readings[usize::from(found.number.saturating_sub(16))] += 1;
+    Ok(())
+}
+
+/// Packet 68 with each of the 65,536 words, its header 0.
+pub fn try_words() -> Result<Readings, String> {
+    let mut readings = Readings::default();
+    for word in 0..=u16::MAX {
+        let mut bytes = [0; SIZE_68];
+        bytes[0] = 68;
+        bytes[SIZE_68 - 2..].copy_from_slice(&word.to_be_bytes());
+        try_string(&bytes, &mut readings)?;
+    }
+    Ok(readings)
+}
+
 /// The packets that a call wrote and the strings made of each. An error says what differs.
 pub fn try_packets(written: &[u8], step: u8, readings: &mut Readings) -> Result<(), String> {
     let packets = split_packets(written);
@@ -60,15 +86,7 @@ pub fn try_packets(written: &[u8], step: u8, readings: &mut Readings) -> Result<
             return Err(format!("a written packet is not read: {packet:02X?}"));
         }
         for bytes in strings(packet, step) {
-            let (expected, found) = (expected(&bytes), read(&bytes));
-            if found != expected {
-                return Err(format!("{bytes:02X?}: the model reads {expected:?}, the proved reader {found:?}"));
-            }
-            let (expected, found_front) = (expected_front(&bytes), front_size(&bytes));
-            if found_front != expected {
-                return Err(format!("{bytes:02X?}: a packet of {expected} bytes in front, not {found_front}"));
-            }
-            readings[usize::from(found.number.saturating_sub(16))] += 1;
+            try_string(&bytes, readings)?;
         }
     }
     Ok(())

@@ -20,6 +20,7 @@ use Rattle.event.proofs.Known.{OfTraction, traction-of}
 use Rattle.event.specs.Kinds.{Role, off, load, report, other, skip, Carried, roleOf, carried}
 use Rattle.packets.specs.Packets.{packetBytes, joined}
 use Rattle.packets.specs.declared.Requested.{Requested}
+use Rattle.status_word.specs.declared.OperationalConditions.{OperationalConditions}
 use Rattle.packets.specs.declared.Packet.{Packet}
 use Rattle.packets.proofs.PacketLaws.{length-packetBytes, length-joined, length-one}
 use Rattle.journey.specs.declared.Head.{Head}
@@ -145,7 +146,7 @@ module _ (j : Route) (x : Position) where
   size-65 none = refl
   size-65 (some h) = length-one (jpReceived j x h) 29 refl
 
-  size-68 : (b : Bool) (s n : ℕ) → length (joined (when b (atoStatus j x s n))) ≤ 19
+  size-68 : (b : Bool) (s : ℕ) (n : OperationalConditions) → length (joined (when b (atoStatus j x s n))) ≤ 19
   unfolding atoStatus
   size-68 true s n = omega (arith, length-one (atoStatus j x s n) 19 refl)
   size-68 false s n = omega arith

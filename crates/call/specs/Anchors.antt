@@ -22,6 +22,8 @@ use Rattle.event.specs.Kinds.{carried}
 use Rattle.event.specs.declared.TractionRequest.{TractionRequest}
 use Rattle.event.specs.declared.Event.{Event}
 use Rattle.event.specs.declared.Event.the-variants.{PowerOn, Configured, PowerOff, Fault, Reports, Mode, Lever, Press, PositionReport, Length, Load, Skip, Revoke, Traction as Request}
+use Rattle.status_word.specs.Anchors.{numbered}
+use Rattle.status_word.specs.View.{conditionsNumber}
 use Rattle.packets.specs.declared.Header.{Header}
 use Rattle.packets.specs.declared.Packet.{Packet}
 use Rattle.journey.specs.declared.Head.{Head}
@@ -148,7 +150,7 @@ abbrev pub packet65 : Header → Packet
 packet65 h = Packet.JpReceived (record { header = h; nidc = 17; atots = 5; date = 1; seconds = 2; counter = 3; status = 0 })
 
 abbrev pub packet68 : Header → ℕ → ℕ → Packet
-packet68 h s n = Packet.AtoStatus (record { header = h; state = s; conditions = n })
+packet68 h s n = Packet.AtoStatus (record { header = h; state = s; conditions = numbered n })
 
 abbrev pub packet61 : Header → ℕ → Packet
 packet61 h suptb = Packet.TractionBrake (record { header = h; requested = request 0 suptb .content })
@@ -287,9 +289,9 @@ pub record Anchors : Type 0 where
   })
       ≡ engine another noSkips (train 5 6 9) (progress 4 true) (inputs 0 1 31) (control 4 true false)
   -- conditions 2 to 8 with reports 20, the End of Journey being the third point of five: none passed, it is targeted, reached, passed; all passed
-  pub nine : map (λ (p : Progress). conditionsIn (inState 3 p)) (progress 0 false ∷ progress 2 false ∷ progress 2 true ∷ progress 3 false ∷ progress 5 false ∷ [])
+  pub nine : map (λ (p : Progress). conditionsNumber (conditionsIn (inState 3 p))) (progress 0 false ∷ progress 2 false ∷ progress 2 true ∷ progress 3 false ∷ progress 5 false ∷ [])
       ≡ 252 ∷ 252 ∷ 248 ∷ 248 ∷ 240 ∷ []
-  pub status : statusIn held ≡ record { state = 3; conditions = 252; speed = 7 }
+  pub status : statusIn held ≡ record { state = 3; conditions = numbered 252; speed = 7 }
   -- "Q_EOJ_REACHED (after that change; 0 once the End of Journey is reached or passed, else 1)": the standing of the third point, whichever changed
   pub told : map (changeIn (held .load))
       (change 1 0 (progress 2 false) ∷ change 2 0 (progress 3 false) ∷ change 2 1 (progress 2 true) ∷ change 4 5 (progress 1 true) ∷ [])

@@ -13,6 +13,7 @@ use Rattle.event.specs.Events.{eventOf}
 use Rattle.event.specs.Kinds.{kindOf}
 use Rattle.event.specs.declared.Event.{Event}
 use Rattle.packets.specs.Packets.{joined}
+use Rattle.status_word.specs.declared.OperationalConditions.{OperationalConditions}
 use Rattle.packets.specs.declared.Packet.{Packet}
 use Rattle.position.specs.Standing.{standing}
 use Rattle.state_codes.specs.Codes.{stateAt}
@@ -32,8 +33,8 @@ pub record Outcome : Type 0 where
   pub engine : Engine
   pub memory : List ℕ
 
--- the nine conditions as the engine shows them
-unfoldable pub conditionsIn : Engine → ℕ
+-- the nine conditions
+unfoldable pub conditionsIn : Engine → OperationalConditions
 conditionsIn e = conditions (routeIn e) (e .inputs .reports) (e .train .position) (standing (e .progress))
 
 abbrev pub statusIn : Engine → Status

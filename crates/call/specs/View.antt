@@ -3,6 +3,7 @@ use Rattle.wire.specs.Judged.{Judged}
 use Rattle.wire.specs.Judged.Judged.{refuse, accept}
 use Rattle.engine_value.specs.Engine.{routeIn, maxPoints}
 use Rattle.engine_value.specs.declared.Engine.{Engine}
+use Rattle.status_word.specs.View.{conditionsNumber}
 use Rattle.position.specs.Position.{pointCount}
 use Rattle.call_values.specs.Call.{Accepted}
 use Rattle.call.specs.Call.{conditionsIn}
@@ -21,7 +22,7 @@ shownView e =
     record {
       state = stateIn e;
       request = requestIn e;
-      conditions = conditionsIn e;
+      conditions = conditionsNumber (conditionsIn e);
       «point_count» = pointCount (routeIn e);
       standings = standingsIn e maxPoints;
     }

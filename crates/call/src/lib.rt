@@ -59,12 +59,13 @@ pub fn show(e: Engine) -> Shown
     ensures { λ r. ⌜ (r ≡ shownView e) × (r .conditions ≤ allConditions) ⌝ }
 {
     let conditions = conditions::conditions(e);
+    let number = status_word::number_of(conditions);
     let points = position::points_loaded(e.load);
     let standings = standings(e);
     Shown {
         state: e.control.state,
         request: e.control.request,
-        conditions: conditions,
+        conditions: (number % 65536) as u16,
         point_count: points,
         standings: standings,
     }

@@ -8,6 +8,7 @@ use Rattle.engine_value.specs.Engine.{Route, noRoute, blankPoint, blankSegment,
 use Rattle.engine_value.specs.declared.Segment.{Segment}
 use Rattle.engine_value.specs.declared.Point.{Point}
 use Rattle.engine_value.specs.declared.Position.{Position}
+use Rattle.status_word.specs.Anchors.{numbered}
 use Rattle.packets.specs.declared.Header.{Header}
 use Rattle.packets.specs.declared.Requested.{Requested}
 use Rattle.packets.specs.declared.Packet.{Packet}
@@ -52,7 +53,7 @@ abbrev pub packet65 : Header → ℕ → Packet
 packet65 h c = Packet.JpReceived (record { header = h; nidc = c; atots = 5; date = 1; seconds = 2; counter = 3; status = 0 })
 
 abbrev pub packet68 : ℕ → ℕ → Packet
-packet68 s n = Packet.AtoStatus (record { header = headerAt 17 500 39900; state = s; conditions = n })
+packet68 s n = Packet.AtoStatus (record { header = headerAt 17 500 39900; state = s; conditions = numbered n })
 
 abbrev pub requested : Requested
 requested = record { «m_ato_trabrrq» = 1; «m_ato_locobrrq» = 2; «q_ato_suptb» = 3; «m_ato_rtbrq» = 4 }
@@ -61,7 +62,7 @@ abbrev pub packet61 : Packet
 packet61 = Packet.TractionBrake (record { header = headerAt 17 500 39900; requested = requested })
 
 abbrev pub shown : ℕ → ℕ → ℕ → Status
-shown state conditions speed = record { state = state; conditions = conditions; speed = speed }
+shown state conditions speed = record { state = state; conditions = numbered conditions; speed = speed }
 
 pub record Anchors : Type 0 where
   -- "header: NID_C (2), NID_SP (4), offset (4), speed (2), NID_OPERATIONAL (4; FFFFFFFF hexadecimal with no journey)"

@@ -10,7 +10,9 @@ use Rattle.engine_value.specs.declared.Load.{Load}
 use Rattle.engine_value.specs.declared.Point.{Point}
 use Rattle.engine_value.specs.declared.Position.{Position}
 use Rattle.packets.specs.Layouts.{unknownNidc}
+use Rattle.status_word.specs.View.{sameConditions}
 use Rattle.packets.specs.declared.Header.{Header}
+use Rattle.status_word.specs.declared.OperationalConditions.{OperationalConditions}
 use Rattle.packets.specs.declared.Requested.{Requested}
 use Rattle.packets.specs.declared.Packet.{Packet}
 use Rattle.journey.specs.declared.Head.{Head}
@@ -72,23 +74,23 @@ unfoldable pub jpReceived : Route → Position → Head → Packet
 jpReceived j x head = jpReceivedOf (header j x) (country j x) head
 
 -- "68: state + 16 × conditions (2)."
-abbrev pub atoStatusOf : Header → ℕ → ℕ → Packet
+abbrev pub atoStatusOf : Header → ℕ → OperationalConditions → Packet
 atoStatusOf h state conditions = Packet.AtoStatus (record { header = h; state = state; conditions = conditions })
 
-unfoldable pub atoStatus : Route → Position → ℕ → ℕ → Packet
+unfoldable pub atoStatus : Route → Position → ℕ → OperationalConditions → Packet
 atoStatus j x state conditions = atoStatusOf (header j x) state conditions
 
 -- what a packet 68 is written for: state, conditions and speed
 pub record Status : Type 0 where
   pub state : ℕ
-  pub conditions : ℕ
+  pub conditions : OperationalConditions
   pub speed : ℕ
 
 -- "Written when state or conditions changed, or speed rose from 0 while not EG afterwards; once an event."
 unfoldable pub statusDue : Status → Status → Bool
 statusDue before after =
     not (eqb (after .state) (before .state))
-    || (not (eqb (after .conditions) (before .conditions))
+    || (not (sameConditions (after .conditions) (before .conditions))
     || (eqb (before .speed) 0 && (not (eqb (after .speed) 0) && not (eqb (after .state) (code EG)))))
 
 abbrev pub received : Route → Position → Option Head → List Packet

@@ -25,7 +25,6 @@ anchors = record {
   outside-unplaced = refl;
   outside-elsewhere = refl;
   outside-too-far = refl;
-  word = refl;
   all-nine = refl;
   in-order = refl;
   all-there = refl;

@@ -1,11 +1,11 @@
 -- Laws of the conditions' definitions, by case, for the proofs of the functions.
 use mathlib.Core.Path.{_≡_, refl, sym, _∙_}
 use mathlib.Core.Bool.{Bool, true, false, not, _&&_, _||_}
-use Prim.Native.Nat.{ℕ, zero, suc, _+_, _-_, _*_, min, _≤_, _<_}
+use Prim.Native.Nat.{ℕ, zero, suc, _+_, _-_, min, _≤_, _<_}
 use native.Mathlib.Omega.{arith}
 use lib.Dec.{eqb, ltb, leb}
 use borrow.Author.Tests.{lt-ltb, le-ltb, le-leb, lt-leb, eq-eqb, ne-eqb, ltb-true, ltb-false, leb-true, leb-false}
-use Rattle.wire.specs.Numbers.{flag, if_then_else_}
+use Rattle.wire.specs.Numbers.{if_then_else_}
 use Rattle.engine_value.specs.Engine.{Route, undefined}
 use Rattle.engine_value.specs.declared.Load.{Load}
 use Rattle.engine_value.specs.declared.Position.{Position}
@@ -14,8 +14,7 @@ use Rattle.position.specs.Position.{pointsLoaded, pointCount, placed}
 use Rattle.position.specs.Standing.{standing, isPassed, behind}
 use Rattle.position.specs.declared.Named.{Named}
 use Rattle.position.specs.declared.Standing.the-variants.{Targeted, Reached}
-use Rattle.conditions.specs.Conditions.{etcsFulfilled, noEmergencyBrake, noInconsistency, dataValid, endAhead, lastAhead, firstAhead, profilesThere, tooFar, located, routeConditionsBy, nine, wordOf}
-use Rattle.conditions.specs.declared.RouteConditions.{RouteConditions}
+use Rattle.conditions.specs.Conditions.{endAhead, lastAhead, firstAhead, profilesThere, tooFar, located, routeConditionsBy}
 
 -- ---- where a point stands, by the first point not passed
 
@@ -110,16 +109,3 @@ module _ (s : Named) (x : Position) where
   pub is-located : (profiles : Bool) → located s x ≡ true
       → record { profiles = profiles; located = true; outside = not (s .inside) } ≡ routeConditionsBy s x profiles
   is-located profiles e = rw e
-
--- ---- the nine as a number
-
-pub word-is : (l : Load) (reports : ℕ) (w : RouteConditions) (p : Progress) (c0 c1 c2 c3 c4 c5 c6 c7 c8 : ℕ) → c0 ≡ flag (etcsFulfilled reports) → c1 ≡ flag (noEmergencyBrake reports)
-    → c2 ≡ flag (endAhead l (standing p)) → c3 ≡ flag (lastAhead l (standing p)) → c4 ≡ flag (w .profiles)
-    → c5 ≡ flag (noInconsistency reports) → c6 ≡ flag (w .located) → c7 ≡ flag (w .outside) → c8 ≡ flag (dataValid reports)
-    → c0 + 2 * c1 + 4 * c2 + 8 * c3 + 16 * c4 + 32 * c5 + 64 * c6 + 128 * c7 + 256 * c8 ≡ wordOf (nine l reports w (standing p))
-word-is l reports w p c0 c1 c2 c3 c4 c5 c6 c7 c8 e0 e1 e2 e3 e4 e5 e6 e7 e8 = rw (e0, e1, e2, e3, e4, e5, e6, e7, e8) (sum _ _ _ _ _ _ _ _ _)
-  where
-    sum : (f0 f1 f2 f3 f4 f5 f6 f7 f8 : ℕ)
-        → f0 + 2 * f1 + 4 * f2 + 8 * f3 + 16 * f4 + 32 * f5 + 64 * f6 + 128 * f7 + 256 * f8
-        ≡ f0 + 2 * (f1 + 2 * (f2 + 2 * (f3 + 2 * (f4 + 2 * (f5 + 2 * (f6 + 2 * (f7 + 2 * (f8 + 2 * 0))))))))
-    sum f0 f1 f2 f3 f4 f5 f6 f7 f8 = omega arith

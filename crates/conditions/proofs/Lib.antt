@@ -1,4 +1,4 @@
 pub mod Laws
-pub mod WordLaws
+pub mod NineLaws
 pub mod Anchors
 pub mod Sentences

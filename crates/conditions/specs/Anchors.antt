@@ -8,6 +8,7 @@ use lib.Dec.{eqb}
 use Rattle.wire.specs.Numbers.{if_then_else_}
 use Rattle.engine_value.specs.Engine.{Route, blankPoint, noRoute, freshPosition, noOperational, progress, undefined}
 use Rattle.engine_value.specs.declared.Position.{Position}
+use Rattle.status_word.specs.View.{conditionsNumber}
 use Rattle.position.specs.Position.{segmentNamed}
 use Rattle.position.specs.Standing.{standing}
 use Rattle.position.specs.Sample.{journey, at}
@@ -15,7 +16,7 @@ use Rattle.position.specs.declared.Named.{Named}
 use Rattle.position.specs.declared.Standing.{Standing}
 use Rattle.position.specs.declared.Standing.the-variants.{Unused, Passed}
 use Rattle.conditions.specs.Conditions.{etcsFulfilled, noEmergencyBrake, noInconsistency, dataValid, endAhead, lastAhead, firstAhead}
-use Rattle.conditions.specs.Conditions.{profilesThere, tooFar, located, outsideZones, nine, wordOf, conditions, allConditions, O}
+use Rattle.conditions.specs.Conditions.{profilesThere, tooFar, located, outsideZones, nine, conditions, allConditions, O}
 
 -- where the points stand: n of them passed, the next targeted or reached
 abbrev targeted : ℕ → ℕ → Standing
@@ -47,6 +48,10 @@ zoned = record { found = true; booked = true; placed = true; inside = true; star
 -- the four that are report bits
 abbrev byReports : ℕ → List Bool
 byReports n = etcsFulfilled n ∷ noEmergencyBrake n ∷ noInconsistency n ∷ dataValid n ∷ []
+
+-- the nine as one number, condition 0 the least significant bit
+abbrev numberOf : Route → ℕ → Position → (ℕ → Standing) → ℕ
+numberOf j reports x standing = conditionsNumber (conditions j reports x standing)
 
 pub record Anchors : Type 0 where
   -- "0, 1, 5, 8 are report bits 0, 1, 2, 3."
@@ -82,26 +87,22 @@ pub record Anchors : Type 0 where
       ≡ true ∷ false ∷ false ∷ true ∷ []
   pub outside-elsewhere : map (λ x. outsideZones (segmentNamed journey x) x) (at 17 502 15 0 ∷ at 17 501 15 0 ∷ []) ≡ true ∷ true ∷ []
   pub outside-too-far : map (λ o. outsideZones zoned (at 17 500 o 0)) (100 ∷ 101 ∷ undefined ∷ []) ≡ false ∷ true ∷ true ∷ []
-  -- the word, "bit 0 is least significant": each of the nine alone
-  pub word : map wordOf (
-      (true ∷ []) ∷ (false ∷ true ∷ []) ∷ (false ∷ false ∷ true ∷ []) ∷ (true ∷ true ∷ true ∷ true ∷ true ∷ true ∷ true ∷ true ∷ true ∷ []) ∷ [])
-      ≡ 1 ∷ 2 ∷ 4 ∷ 511 ∷ []
   pub all-nine : allConditions ≡ 511
   pub in-order : nine (journey .load) 10 (record { profiles = false; located = true; outside = false }) (targeted 4)
       ≡ false ∷ true ∷ false ∷ true ∷ false ∷ false ∷ true ∷ false ∷ true ∷ []
   -- each of the nine lacking alone, report bit 4 beside them
-  pub all-there : conditions journey 15 here (targeted 0) ∷ conditions journey 31 here (targeted 0) ∷ [] ≡ 511 ∷ 511 ∷ []
-  pub lacking-reports : map (λ n. conditions journey n here (targeted 0)) (30 ∷ 29 ∷ 27 ∷ 23 ∷ []) ≡ 510 ∷ 509 ∷ 479 ∷ 255 ∷ []
-  pub lacking-2 : conditions journey 31 here (reached 3) ≡ 507
-  pub lacking-3 : conditions journey 31 here (only 4) ≡ 503
-  pub lacking-4 : conditions unplacedJourney 31 (at 17 501 5 0) (targeted 0) ≡ 495
-  pub lacking-6 : map (λ x. conditions journey 31 x (targeted 0)) (at 17 500 undefined 0 ∷ at 17 500 100001 0 ∷ at 17 502 5 0 ∷ [])
+  pub all-there : numberOf journey 15 here (targeted 0) ∷ numberOf journey 31 here (targeted 0) ∷ [] ≡ 511 ∷ 511 ∷ []
+  pub lacking-reports : map (λ n. numberOf journey n here (targeted 0)) (30 ∷ 29 ∷ 27 ∷ 23 ∷ []) ≡ 510 ∷ 509 ∷ 479 ∷ 255 ∷ []
+  pub lacking-2 : numberOf journey 31 here (reached 3) ≡ 507
+  pub lacking-3 : numberOf journey 31 here (only 4) ≡ 503
+  pub lacking-4 : numberOf unplacedJourney 31 (at 17 501 5 0) (targeted 0) ≡ 495
+  pub lacking-6 : map (λ x. numberOf journey 31 x (targeted 0)) (at 17 500 undefined 0 ∷ at 17 500 100001 0 ∷ at 17 502 5 0 ∷ [])
       ≡ 447 ∷ 447 ∷ 447 ∷ []
-  pub lacking-7 : conditions journey 31 (at 17 500 20000 0) (targeted 0) ≡ 383
+  pub lacking-7 : numberOf journey 31 (at 17 500 20000 0) (targeted 0) ≡ 383
   -- none left: 2 and 3 are 0, 4 is 1
-  pub none-left : conditions journey 0 here (targeted 5) ≡ 208
+  pub none-left : numberOf journey 0 here (targeted 5) ≡ 208
   -- "With no journey 2, 3, 4, 6 are 0 and 7 is 1."
-  pub no-journey : conditions noRoute 0 freshPosition (targeted 0) ∷ conditions noRoute 31 (at 0 0 5 0) (targeted 0) ∷ [] ≡ 128 ∷ 419 ∷ []
+  pub no-journey : numberOf noRoute 0 freshPosition (targeted 0) ∷ numberOf noRoute 31 (at 0 0 5 0) (targeted 0) ∷ [] ≡ 128 ∷ 419 ∷ []
   -- "O means all nine"
   pub O-there : O journey 15 here (targeted 0) ∷ O journey 31 (at 33 500 200 0) (targeted 3) ∷ [] ≡ true ∷ true ∷ []
   pub O-reports : map (λ n. O journey n here (targeted 0)) (30 ∷ 29 ∷ 27 ∷ 23 ∷ []) ≡ false ∷ false ∷ false ∷ false ∷ []

@@ -1,12 +1,14 @@
 -- The nine conditions (001 §6.4.9): functions of the journey in force, the reports, the position, and where each point stands.
-use Prim.Native.Nat.{ℕ, zero, suc, _+_, _-_, _*_}
-use mathlib.Core.List.{List, [], _∷_}
+use Prim.Native.Nat.{ℕ, zero, suc, _+_, _-_}
+use mathlib.Core.List.{List, [], _∷_, map}
 use mathlib.Core.Bool.{Bool, true, false, not, _&&_, _||_}
 use lib.Dec.{ltb, leb}
 use Rattle.wire.specs.Numbers.{bit, flag, if_then_else_}
 use Rattle.engine_value.specs.Engine.{Route}
 use Rattle.engine_value.specs.declared.Load.{Load}
 use Rattle.engine_value.specs.declared.Position.{Position}
+use Rattle.status_word.specs.Word.{conditionsOf}
+use Rattle.status_word.specs.declared.OperationalConditions.{OperationalConditions}
 use Rattle.position.specs.Position.{segmentNamed, offsetDefined, pointsLoaded, pointCount, placed}
 use Rattle.position.specs.Standing.{isPassed, behind}
 use Rattle.position.specs.declared.Named.{Named}
@@ -78,19 +80,15 @@ nine l reports w standing =
     ∷ dataValid reports
     ∷ []
 
--- conditions as a number, condition 0 the least significant bit
-abbrev pub wordOf : List Bool → ℕ
-wordOf [] = 0
-wordOf (b ∷ bs) = flag b + 2 * wordOf bs
-
 abbrev pub allOf : List Bool → Bool
 allOf [] = true
 allOf (b ∷ bs) = b && allOf bs
 
-unfoldable pub conditions : Route → ℕ → Position → (ℕ → Standing) → ℕ
-conditions j reports x standing = wordOf (nine (j .load) reports (routeConditions j x standing) standing)
+-- and as zeros and ones, as packet 68 has them
+unfoldable pub conditions : Route → ℕ → Position → (ℕ → Standing) → OperationalConditions
+conditions j reports x standing = conditionsOf (map flag (nine (j .load) reports (routeConditions j x standing) standing))
 
--- all nine bits
+-- the number of all nine
 abbrev pub allConditions : ℕ
 allConditions = 511
 

@@ -1,12 +1,14 @@
 // The nine conditions (001 §6.4.9).
 ghost use mathlib.Core.Path.{_≡_};
-ghost use Prim.Native.Nat.{_-_, _≤_};
+ghost use mathlib.Core.List.{map};
+ghost use Prim.Native.Nat.{_-_};
 ghost use Rattle.wire.specs.Numbers.{flag};
 ghost use Rattle.engine_value.specs.Engine.{Route, routeIn};
+ghost use Rattle.status_word.specs.Word.{conditionsOf};
 ghost use Rattle.position.specs.Position.{placed};
 ghost use Rattle.position.specs.Standing.{standing};
 ghost use Rattle.conditions.specs.Conditions.{etcsFulfilled, noEmergencyBrake, noInconsistency, dataValid};
-ghost use Rattle.conditions.specs.Conditions.{endAhead, lastAhead, profilesThere, tooFar, located, routeConditionsBy, routeConditions, nine, wordOf, conditions, allConditions};
+ghost use Rattle.conditions.specs.Conditions.{endAhead, lastAhead, profilesThere, tooFar, located, routeConditionsBy, routeConditions, nine, conditions};
 use engine_value::Engine;
 use engine_value::Load;
 use engine_value::MAX_POINTS;
@@ -14,9 +16,7 @@ use engine_value::Position;
 use engine_value::Progress;
 use engine_value::UNDEFINED;
 use position::Named;
-
-// The number of all nine.
-pub const ALL_CONDITIONS: u16 = 511;
+use status_word::OperationalConditions;
 
 // What the conditions look up in the journey: 4, the first point not passed is placed, or none is left; 6, the offset counts in a segment
 // of the journey; 7, it is outside of the zones.
@@ -157,32 +157,34 @@ fn route_conditions_in(e: Engine) -> RouteConditions
     route_conditions(s, e.train.position, profiles)
 }
 
-fn number(b: bool) -> u16
-    ensures { λ r. ⌜ (r ≡ flag b) × (r ≤ 1) ⌝ }
+// A test as zero or one.
+fn flag(b: bool) -> u8
+    ensures { λ r. ⌜ r ≡ flag b ⌝ }
 {
     if b { 1 } else { 0 }
 }
 
-// The nine conditions as a number, condition 0 the least significant bit, from what they look up.
-pub fn word_of(l: Load, reports: u8, w: RouteConditions, p: Progress) -> u16
-    ensures { λ r. ⌜ (r ≡ wordOf (nine l reports w (standing p))) × (r ≤ allConditions) ⌝ }
+// The nine conditions, from what they look up.
+pub fn conditions_of(l: Load, reports: u8, w: RouteConditions, p: Progress) -> OperationalConditions
+    ensures { λ r. ⌜ r ≡ conditionsOf (map flag (nine l reports w (standing p))) ⌝ }
 {
-    let c0 = number(etcs_fulfilled(reports));
-    let c1 = number(no_emergency_brake(reports));
-    let c2 = number(end_ahead(l, p));
-    let c3 = number(last_ahead(l, p));
-    let c4 = number(w.profiles);
-    let c5 = number(no_inconsistency(reports));
-    let c6 = number(w.located);
-    let c7 = number(w.outside);
-    let c8 = number(data_valid(reports));
-    c0 + 2 * c1 + 4 * c2 + 8 * c3 + 16 * c4 + 32 * c5 + 64 * c6 + 128 * c7 + 256 * c8
+    OperationalConditions {
+        etcs_fulfilled: flag(etcs_fulfilled(reports)),
+        no_emergency_brake: flag(no_emergency_brake(reports)),
+        end_ahead: flag(end_ahead(l, p)),
+        last_ahead: flag(last_ahead(l, p)),
+        profiles_there: flag(w.profiles),
+        no_inconsistency: flag(no_inconsistency(reports)),
+        located: flag(w.located),
+        outside_zones: flag(w.outside),
+        data_valid: flag(data_valid(reports)),
+    }
 }
 
 // The same of an engine.
-pub fn conditions(e: Engine) -> u16
-    ensures { λ r. ⌜ (r ≡ conditions (routeIn e) (e .inputs .reports) (e .train .position) (standing (e .progress))) × (r ≤ allConditions) ⌝ }
+pub fn conditions(e: Engine) -> OperationalConditions
+    ensures { λ r. ⌜ r ≡ conditions (routeIn e) (e .inputs .reports) (e .train .position) (standing (e .progress)) ⌝ }
 {
     let w = route_conditions_in(e);
-    word_of(e.load, e.inputs.reports, w, e.progress)
+    conditions_of(e.load, e.inputs.reports, w, e.progress)
 }

@@ -55,8 +55,8 @@ fn before_it(e: Engine, c: RouteConditions) -> Before
     requires { ⌜ c ≡ routeConditionsIn e ⌝ }
     ensures { λ r. ⌜ (statusView (r .status) ≡ statusIn e) × (r .traction ≡ e .traction) ⌝ }
 {
-    let word = conditions::word_of(e.load, e.inputs.reports, c, e.progress);
-    let status = judge::status(e.control, e.train, word);
+    let conditions = conditions::conditions_of(e.load, e.inputs.reports, c, e.progress);
+    let status = judge::status(e.control, e.train, conditions);
     let traction = e.traction;
     Before {
         status: status,

@@ -15,6 +15,7 @@ use packets::TimingPoint;
 use packets::TractionBrake;
 use position::Front;
 use position::Named;
+use status_word::OperationalConditions;
 use traction::Own;
 ghost use mathlib.Core.Path.{_≡_};
 ghost use Prim.Native.Nat.{_-_, _≤_};
@@ -66,7 +67,7 @@ pub enum Received {
 // State, conditions and speed: a packet 68 is written when they change.
 pub struct Status {
     pub state: u8,
-    pub conditions: u16,
+    pub conditions: OperationalConditions,
     pub speed: u16,
 }
 
@@ -77,7 +78,7 @@ pub struct Writes {
     pub changes: Changes,
     pub own: Own,
     pub due: bool,
-    pub conditions: u16,
+    pub conditions: OperationalConditions,
 }
 
 // ---- the packets
@@ -180,7 +181,7 @@ fn traction_brake(header: Header, requested: Requested) -> Packet
 }
 
 // Packet 68 with the engine's state.
-fn ato_status(header: Header, state: u8, conditions: u16) -> Packet
+fn ato_status(header: Header, state: u8, conditions: OperationalConditions) -> Packet
     ensures { λ r. ⌜ r ≡ atoStatusOf header state conditions ⌝ }
 {
     Packet::AtoStatus(AtoStatus {
@@ -197,7 +198,7 @@ pub fn status_due(before: Status, after: Status) -> bool
     if after.state != before.state {
         return true;
     }
-    if after.conditions != before.conditions {
+    if !status_word::same(after.conditions, before.conditions) {
         return true;
     }
     (before.speed == 0) & ((after.speed != 0) & (after.state != EG))

@@ -1,12 +1,13 @@
 -- An effect that is judged: the engine after it, its packets, and 16.
 use Prim.Native.Nat.{ℕ, _≤_, _<_}
 use mathlib.Core.Path.{_≡_, refl, sym, ap, _∙_}
-use mathlib.Core.List.{List}
+use mathlib.Core.List.{List, map}
 use mathlib.Core.Bool.{Bool, true, false}
 use lib.ListN.{length}
 use lib.Dec.{ltb}
 use borrow.Author.Tests.{lt-ltb, le-ltb, ltb-false}
 use native.Mathlib.Omega.{arith}
+use Rattle.wire.specs.Numbers.{flag}
 use Rattle.wire.specs.Judged.{Judged, thenJudge, row}
 use Rattle.wire.specs.Judged.Judged.{refuse, accept}
 use Rattle.wire.specs.View.{verdictView}
@@ -16,10 +17,12 @@ use Rattle.engine_value.specs.declared.Control.{Control}
 use Rattle.engine_value.specs.declared.Traction.{Traction}
 use Rattle.engine_value.specs.declared.Engine.{Engine}
 use Rattle.event.specs.declared.Event.{Event}
+use Rattle.status_word.specs.Word.{conditionsOf}
 use Rattle.packets.specs.Packets.{joined}
+use Rattle.status_word.specs.declared.OperationalConditions.{OperationalConditions}
 use Rattle.packets.specs.declared.Packet.{Packet}
 use Rattle.position.specs.Standing.{standing}
-use Rattle.conditions.specs.Conditions.{nine, wordOf, conditions}
+use Rattle.conditions.specs.Conditions.{nine, conditions}
 use Rattle.conditions.specs.declared.RouteConditions.{RouteConditions}
 use Rattle.states.specs.ControlGroup.{controlAfter}
 use Rattle.state_codes.specs.Codes.{stateAt}
@@ -68,9 +71,9 @@ fits-16 p room size h = ltb-false room size (go p _ h)
 -- ---- an effect that is judged
 module _ (e : Engine) (j : JourneyAfter) (v : Event) (memory : List ℕ) (x : Judged model.Effect) (f : Effect) (given : Gives e j x f)
     (before after : Status) (shown : statusView before ≡ statusIn e)
-    (word : ℕ) (nine-after : word ≡ wordOf (nine (f .load) (f .inputs .reports) (f .after) (standing (f .progress))))
-    (control : Control) (rows-of-states : control ≡ controlAfter (f .inputs) (f .control) v (f .reached) word)
-    (shown-after : after ≡ statusOf control (f .train) word)
+    (shows : OperationalConditions) (nine-after : shows ≡ conditionsOf (map flag (nine (f .load) (f .inputs .reports) (f .after) (standing (f .progress)))))
+    (control : Control) (rows-of-states : control ≡ controlAfter (f .inputs) (f .control) v (f .reached) shows)
+    (shown-after : after ≡ statusOf control (f .train) shows)
     (due : Bool) (is-due : due ≡ statusDue (statusView before) (statusView after))
     (remembered : Traction) (told : remembered ≡ e .traction)
     (traction : Traction) (requests : traction ≡ tractionOf (rememberedAfter (stateAt (before .state)) v (stateAt (control .state)) (rememberedIn remembered)))
@@ -80,22 +83,22 @@ module _ (e : Engine) (j : JourneyAfter) (v : Event) (memory : List ℕ) (x : Ju
   step = stepBy e v (acceptedView j f)
 
   -- the conditions after the event, from what the effect has beside it
-  word-after : word ≡ conditionsIn (step .engine)
+  conditions-after : shows ≡ conditionsIn (step .engine)
   unfolding conditionsIn conditions
-  word-after =
+  conditions-after =
       nine-after
-      ∙ ap (λ (l : Load). wordOf (nine l (f .inputs .reports) (f .after) (standing (f .progress)))) (given .load)
-      ∙ ap (λ (w : RouteConditions). wordOf (nine (step .engine .load) (f .inputs .reports) w (standing (f .progress)))) (given .after)
+      ∙ ap (λ (l : Load). conditionsOf (map flag (nine l (f .inputs .reports) (f .after) (standing (f .progress))))) (given .load)
+      ∙ ap (λ (w : RouteConditions). conditionsOf (map flag (nine (step .engine .load) (f .inputs .reports) w (standing (f .progress))))) (given .after)
 
   control-after : control ≡ step .engine .control
   unfolding conditionsIn
-  control-after = rows-of-states ∙ ap (controlAfter (f .inputs) (f .control) v (f .reached)) word-after
+  control-after = rows-of-states ∙ ap (controlAfter (f .inputs) (f .control) v (f .reached)) conditions-after
 
   status-after : statusView after ≡ statusIn (step .engine)
   status-after =
       ap (λ (s : Status). statusView s) shown-after
-      ∙ ap (λ (c : Control). statusView (statusOf c (f .train) word)) control-after
-      ∙ ap (λ (n : ℕ). statusView (statusOf (step .engine .control) (f .train) n)) word-after
+      ∙ ap (λ (c : Control). statusView (statusOf c (f .train) shows)) control-after
+      ∙ ap (λ (o : OperationalConditions). statusView (statusOf (step .engine .control) (f .train) o)) conditions-after
 
   due-after : due ≡ statusDue (statusIn e) (statusIn (step .engine))
   due-after = is-due ∙ ap (λ (s : packets.Status). statusDue s (statusView after)) shown ∙ ap (statusDue (statusIn e)) status-after
@@ -118,10 +121,10 @@ module _ (e : Engine) (j : JourneyAfter) (v : Event) (memory : List ℕ) (x : Ju
       ∙ ap (λ (t : Traction). writtenContent (stateAt (e .control .state)) v (rememberedIn t) (rememberedIn traction)) told
       ∙ ap (λ (t : Traction). writtenContent (stateAt (e .control .state)) v (rememberedIn (e .traction)) (rememberedIn t)) traction-after
 
-  packets-after : packetsView (step .engine) (effectWrites f own due word) ≡ step .packets
-  packets-after = packets-in (step .engine) (effectWrites f own due word) _ (statusIn e) (statusIn (step .engine)) (given .nidc) due-after refl word-after own-after
+  packets-after : packetsView (step .engine) (effectWrites f own due shows) ≡ step .packets
+  packets-after = packets-in (step .engine) (effectWrites f own due shows) _ (statusIn e) (statusIn (step .engine)) (given .nidc) due-after refl conditions-after own-after
 
-  module _ (room : ℕ) (lent : room ≡ length memory) (w : Writes) (written : w ≡ effectWrites f own due word) (size : ℕ) (sized : size ≡ sizeView w)
+  module _ (room : ℕ) (lent : room ≡ length memory) (w : Writes) (written : w ≡ effectWrites f own due shows) (size : ℕ) (sized : size ≡ sizeView w)
       (verdict : Verdict) (rows : verdictView verdict ≡ outputRow (verdictView (f .verdict)) room size) where
     abbrev judgement : Judgement
     judgement =

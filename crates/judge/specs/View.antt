@@ -14,6 +14,7 @@ use Rattle.engine_value.specs.declared.Control.{Control}
 use Rattle.engine_value.specs.declared.Engine.{Engine}
 use Rattle.event.specs.declared.Event.{Event}
 use Rattle.packets.specs.Packets.{joined}
+use Rattle.status_word.specs.declared.OperationalConditions.{OperationalConditions}
 use Rattle.call.specs.Call.{Step, judge}
 use Rattle.call.specs.Effect as model
 use Rattle.call.specs.Effect.{JourneyAfter, routeAfter, skipsAfter}
@@ -28,11 +29,12 @@ use Rattle.judge.specs.declared.Judgement.{Judgement}
 abbrev pub outputRow : Judged (Unit {0}) → ℕ → ℕ → Judged (Unit {0})
 outputRow before room size = before >> row 16 (ltb room size)
 
-abbrev pub statusOf : Control → Train → ℕ → Status
-statusOf c t n = record { state = c .state; conditions = n; speed = t .position .speed }
+abbrev pub statusOf : Control → Train → OperationalConditions → Status
+statusOf c t conditions = record { state = c .state; conditions = conditions; speed = t .position .speed }
 
-abbrev pub effectWrites : Effect → Own → Bool → ℕ → Writes
-effectWrites f own due n = record { received = f .received; nidc = f .nidc; changes = f .changes; own = own; due = due; conditions = n }
+abbrev pub effectWrites : Effect → Own → Bool → OperationalConditions → Writes
+effectWrites f own due conditions =
+    record { received = f .received; nidc = f .nidc; changes = f .changes; own = own; due = due; conditions = conditions }
 
 -- the engine with the groups of a judgement, and with what becomes of the journey
 abbrev pub engineWith : Engine → JourneyAfter → Judgement → Engine

@@ -9,6 +9,7 @@ use engine_value::Train;
 use event::Event;
 use event_packets::Status;
 use event_packets::Writes;
+use status_word::OperationalConditions;
 use traction::Own;
 use wire::Verdict;
 ghost use mathlib.Core.Path.{_≡_};
@@ -43,7 +44,7 @@ pub struct Before {
     pub traction: Traction,
 }
 
-pub fn status(control: Control, train: Train, conditions: u16) -> Status
+pub fn status(control: Control, train: Train, conditions: OperationalConditions) -> Status
     ensures { λ r. ⌜ r ≡ statusOf control train conditions ⌝ }
 {
     Status {
@@ -54,7 +55,7 @@ pub fn status(control: Control, train: Train, conditions: u16) -> Status
 }
 
 // What the packets are made of.
-fn writes_of(f: Effect, own: Own, due: bool, conditions: u16) -> Writes
+fn writes_of(f: Effect, own: Own, due: bool, conditions: OperationalConditions) -> Writes
     ensures { λ r. ⌜ r ≡ effectWrites f own due conditions ⌝ }
 {
     let received = f.received;
@@ -85,13 +86,13 @@ fn output_row(verdict: Verdict, room: usize, size: usize) -> Verdict
 pub fn judge(before: Before, v: Event, f: Effect, room: usize) -> Judgement
     ensures { λ r. ⌜ ((e : engine.Engine) (j : model.JourneyAfter) (memory : List ℕ) (x : Judged model.Effect) → statusView (before .status) ≡ statusIn e → before .traction ≡ e .traction → room ≡ length memory → Gives e j x f → Judges e j v memory x r) ⌝ }
 {
-    let word = conditions::word_of(f.load, f.inputs.reports, f.after, f.progress);
-    let control = states::control_after(f.inputs, f.control, v, f.reached, word);
-    let due = event_packets::status_due(before.status, status(control, f.train, word));
+    let conditions = conditions::conditions_of(f.load, f.inputs.reports, f.after, f.progress);
+    let control = states::control_after(f.inputs, f.control, v, f.reached, conditions);
+    let due = event_packets::status_due(before.status, status(control, f.train, conditions));
     let state = before.status.state;
     let traction = traction::traction_after(state, v, control.state, before.traction);
     let own = traction::own_of(state, v, before.traction, traction);
-    let w = writes_of(f, own, due, word);
+    let w = writes_of(f, own, due, conditions);
     let size = event_packets::size(w);
     let verdict = f.verdict;
     let load = f.load;

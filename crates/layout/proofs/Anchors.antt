@@ -9,6 +9,9 @@ unfolding number bytesOf bytes valuesAt
 anchors = record {
   packing = refl;
   unpacking = refl;
+  sums = refl;
+  as-list = refl;
+  by-place = refl;
   plain = refl;
   taken = refl;
   laid = refl;

@@ -8,6 +8,7 @@ use Rattle.wire.specs.Judged.Judged.{refuse, accept}
 use Rattle.packets.specs.declared.Header.{Header}
 use Rattle.packets.specs.declared.Packet.{Packet}
 use Rattle.packets.specs.View.{packetView}
+use Rattle.status_word.specs.View.{conditionsNumber}
 use Rattle.packets.specs.Packets.{sizeOf}
 use Rattle.packet_fields.specs.declared.PacketFields.{PacketFields}
 
@@ -54,7 +55,7 @@ packetFieldsView (Packet.TimingPoint p) =
 packetFieldsView (Packet.JpReceived p) =
     read (Packet.JpReceived p) (p .header) (p .nidc ∷ 0 ∷ 0 ∷ 0 ∷ p .status ∷ 0 ∷ p .atots ∷ p .date ∷ p .seconds ∷ p .counter ∷ [])
 packetFieldsView (Packet.AtoStatus p) =
-    read (Packet.AtoStatus p) (p .header) (0 ∷ 0 ∷ 0 ∷ 0 ∷ 0 ∷ 0 ∷ 0 ∷ 0 ∷ 0 ∷ 0 ∷ p .state ∷ p .conditions ∷ [])
+    read (Packet.AtoStatus p) (p .header) (0 ∷ 0 ∷ 0 ∷ 0 ∷ 0 ∷ 0 ∷ 0 ∷ 0 ∷ 0 ∷ 0 ∷ p .state ∷ conditionsNumber (p .conditions) ∷ [])
 packetFieldsView (Packet.TractionBrake p) =
     let r = p .requested in
     read (Packet.TractionBrake p) (p .header)

@@ -7,7 +7,8 @@ use packets::Packet;
 use packets::TimingPoint;
 use packets::TractionBrake;
 ghost use mathlib.Core.Path.{_≡_};
-ghost use Rattle.packets.specs.Packets.{packetOf};
+ghost use mathlib.Core.Bool.{true};
+ghost use Rattle.packets.specs.Packets.{packetFits, packetOf};
 ghost use Rattle.packet_fields.specs.View.{refusedView, begunView, packetFieldsView, fieldsView};
 
 // A packet that was read: its number as `kind`, its bytes as `size`, and its values. Else the number of the row that refuses.
@@ -111,11 +112,13 @@ fn jp_received_fields(p: JpReceived) -> PacketFields
 }
 
 fn ato_status_fields(p: AtoStatus) -> PacketFields
+    requires { ⌜ packetFits (Packet.AtoStatus p) ≡ true ⌝ }
     ensures { λ r. ⌜ r ≡ packetFieldsView (Packet.AtoStatus p) ⌝ }
 {
     let mut fields = begun(packets::ATO_STATUS, packets::ATO_STATUS_SIZE, p.header);
     fields.state = p.state;
-    fields.conditions = p.conditions;
+    let number = status_word::number_of(p.conditions);
+    fields.conditions = (number % 65536) as u16;
     fields
 }
 
@@ -135,6 +138,7 @@ fn traction_brake_fields(p: TractionBrake) -> PacketFields
 }
 
 fn packet_fields(p: Packet) -> PacketFields
+    requires { ⌜ packetFits p ≡ true ⌝ }
     ensures { λ r. ⌜ r ≡ packetFieldsView p ⌝ }
 {
     match p {

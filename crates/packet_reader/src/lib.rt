@@ -40,7 +40,7 @@ fn get_timing_point(s: &[u8]) -> TimingPoint
         nidc: wire::be16(s, 17),
         nidtp: wire::be32(s, 19),
         q_eoj_reached: info % 2,
-        alignment: info / 2 % 4,
+        alignment: info % 8 / 2,
         status: info / 8,
         stopping: wire::be8(s, 24),
     }
@@ -67,7 +67,7 @@ fn get_ato_status(s: &[u8]) -> AtoStatus
     AtoStatus {
         header: get_header(s),
         state: (word % 16) as u8,
-        conditions: word / 16,
+        conditions: status_word::conditions_of_word(word),
     }
 }
 

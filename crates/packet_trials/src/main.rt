@@ -100,7 +100,8 @@ fn print_packet(p: Packet) {
         }
         Packet::AtoStatus(x) => {
             print_header(packets::ATO_STATUS, x.header);
-            print_values(&[x.state as u64, x.conditions as u64]);
+            let conditions = status_word::number_of(x.conditions);
+            print_values(&[x.state as u64, conditions as u64]);
         }
         Packet::TractionBrake(x) => {
             print_header(packets::TRACTION_BRAKE, x.header);
@@ -155,7 +156,7 @@ fn packet_of(s: &[u8]) -> Packet {
         _ => Packet::AtoStatus(AtoStatus {
             header: header,
             state: wire::be8(s, 17),
-            conditions: wire::be16(s, 18),
+            conditions: status_word::conditions_of_word(wire::be16(s, 18) % 4096 * 16),
         }),
     }
 }

@@ -6,12 +6,12 @@ use packets::Packet;
 use packets::TimingPoint;
 use packets::TractionBrake;
 ghost use mathlib.Core.Path.{_≡_};
-ghost use mathlib.Core.List.{_∷_, _++_};
-ghost use Prim.Native.Nat.{min, _+_, _*_, _%_};
+ghost use mathlib.Core.List.{[], _∷_, _++_};
+ghost use Prim.Native.Nat.{min, _+_, _%_};
 ghost use lib.ListN.{take, drop};
 ghost use lib.Seq.{sets};
 ghost use Rattle.wire.specs.Numbers.{bytesOf};
-ghost use Rattle.layout.specs.Layout.{bytes};
+ghost use Rattle.layout.specs.Layout.{weighed, bytes};
 ghost use Rattle.packets.specs.Layouts.{headerLayout};
 ghost use Rattle.packets.specs.View.{headerView};
 ghost use Rattle.packets.specs.Packets.{packetBytes, writtenCount, writtenMemory};
@@ -37,7 +37,7 @@ fn put_header(number: u8, h: Header, out: &mut [u8])
 
 // The info byte. The remainder alters no info whose parts are in their ranges.
 fn info_byte(p: TimingPoint) -> u8
-    ensures { λ r. ⌜ r ≡ (p .«q_eoj_reached» + 2 * (p .alignment + 4 * p .status)) % 256 ⌝ }
+    ensures { λ r. ⌜ r ≡ (p .«q_eoj_reached» + weighed (2 ∷ 8 ∷ []) (p .alignment ∷ p .status ∷ [])) % 256 ⌝ }
 {
     let sum = (p.q_eoj_reached as u32) + 2 * (p.alignment as u32) + 8 * (p.status as u32);
     (sum % 256) as u8
@@ -65,19 +65,13 @@ fn put_jp_received(p: JpReceived, out: &mut [u8])
     wire::put8(out, 28, p.status);
 }
 
-// State and conditions in one word. The remainder alters no word whose parts are in their ranges.
-fn status_word(p: AtoStatus) -> u16
-    ensures { λ r. ⌜ r ≡ (p .state + 16 * p .conditions) % 65536 ⌝ }
-{
-    let sum = (p.state as u32) + 16 * (p.conditions as u32);
-    (sum % 65536) as u16
-}
-
 fn put_ato_status(p: AtoStatus, out: &mut [u8])
     ensures { λ _. ⌜ now (out .exit) ≡ sets (now (out .entry)) 0 (packetBytes (Packet.AtoStatus p)) ⌝ }
 {
     put_header(packets::ATO_STATUS, p.header, out);
-    wire::put16(out, 17, status_word(p));
+    let word = status_word::word_of(p.state, p.conditions);
+    // The remainder alters no word whose parts are in their ranges.
+    wire::put16(out, 17, (word % 65536) as u16);
 }
 
 fn put_traction_brake(p: TractionBrake, out: &mut [u8])

@@ -51,6 +51,7 @@ writing = record {
   unfit = refl;
   unfit-kept = refl;
   beyond = refl;
+  beyond-one = refl;
 }
 
 pieces : Pieces

@@ -1,4 +1,6 @@
 pub mod PacketLaws
 pub mod RoundTrips
 pub mod Cutting
+pub mod ConditionLaws
 pub mod Anchors
+pub mod Sentences

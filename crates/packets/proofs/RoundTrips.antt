@@ -89,13 +89,13 @@ one-reading p q f t g u e =
 abbrev valuesIn : PacketKind → List ℕ → PacketValues
 valuesIn k s = record { kind = k; header = valuesAt headerLayout 1 s; content = valuesAt (k .content) contentAt s }
 
-values-same : (k : PacketKind) (s : List ℕ) → Bytes s → length s ≡ kindSize k → getD s 0 0 ≡ k .number → valueBytes (valuesIn k s) ≡ s
+values-same : (k : PacketKind) (s : List ℕ) → sound (k .content) ≡ true → Bytes s → length s ≡ kindSize k → getD s 0 0 ≡ k .number → valueBytes (valuesIn k s) ≡ s
 unfolding valueBytes
-values-same k s b n e =
+values-same k s o b n e =
     let all : drop (kindSize k) s ≡ [] = drop-of-length-le s {i = kindSize k} (omega arith) in
     let c : bytes (k .content) (valuesAt (k .content) contentAt s) ≡ drop contentAt s
-    = sym (append-nil _) ∙ ap (λ (l : List ℕ). bytes (k .content) (valuesAt (k .content) contentAt s) ++ l) (sym all) ∙ bytes-back (k .content) contentAt s b (omega arith) in
-    rw (c, bytes-back headerLayout 1 s b (omega arith), ← e) (sym (drop-cons s 0 0 (omega arith)))
+    = sym (append-nil _) ∙ ap (λ (l : List ℕ). bytes (k .content) (valuesAt (k .content) contentAt s) ++ l) (sym all) ∙ bytes-back (k .content) contentAt s o b (omega arith) in
+    rw (c, bytes-back headerLayout 1 s refl b (omega arith), ← e) (sym (drop-cons s 0 0 (omega arith)))
 
 -- what an accepted reading tells
 record ReadAs (s : List ℕ) (p : Packet) : Type 0 where
@@ -140,7 +140,10 @@ read-inv s p = go (eqb (length s) 0)
 module _ (s : List ℕ) (p : Packet) (e : packetOf s ≡ accept p) where
   -- writing a packet that was read gives its bytes back
   pub written-read : Bytes s → packetBytes p ≡ s
-  written-read b = let r = read-inv s p e in ap valueBytes (r .values) ∙ values-same (r .kind) s b (r .whole) (r .number)
+  written-read b =
+      let r = read-inv s p e in
+      let sound-kind : sound (r .kind .content) ≡ true = ap (λ (v : PacketValues). sound (v .kind .content)) (sym (r .values)) ∙ known p .sound-content in
+      ap valueBytes (r .values) ∙ values-same (r .kind) s sound-kind b (r .whole) (r .number)
 
   -- a packet that was read is in its ranges and within its types, so the writer takes it
   pub read-fits : packetFits p ≡ true

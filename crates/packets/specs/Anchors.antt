@@ -1,10 +1,12 @@
--- Packets in bytes, worked out by hand from documents 01 and 02 (Q-1), which the definitions must give.
+-- Packets in bytes, worked out by hand from documents 01 and 02 (Q-1, Q-2), which the definitions must give.
 use Prim.Native.Nat.{ℕ}
 use mathlib.Core.Path.{_≡_}
 use mathlib.Core.List.{List, [], _∷_, _++_, map}
-use lib.ListN.{length, take}
+use lib.ListN.{length, take, set, replicate}
 use Rattle.wire.specs.Judged.{Judged}
 use Rattle.wire.specs.Judged.Judged.{refuse, accept}
+use Rattle.status_word.specs.Word.{conditionsOf}
+use Rattle.status_word.specs.Anchors.{five, nine}
 use Rattle.packets.specs.Layouts.{contentAt, unknownNidc}
 use Rattle.packets.specs.Packets.{packetBytes, joined, sizeOf, packetOf, writtenCount, writtenMemory, sizeAt, frontSize, cutPackets}
 use Rattle.packets.specs.declared.Header.{Header}
@@ -18,7 +20,7 @@ powerOn =
     Packet.AtoStatus (record {
       header = record { nidc = 0; nidsp = 0; offset = 16777215; speed = 0; operational = 4294967295 };
       state = 1;
-      conditions = 128;
+      conditions = conditionsOf (0 ∷ 0 ∷ 0 ∷ 0 ∷ 0 ∷ 0 ∷ 0 ∷ 1 ∷ 0 ∷ []);
     })
 
 abbrev pub powerOnBytes : List ℕ
@@ -76,8 +78,8 @@ jpReceivedBytes =
     0x41 ∷ headerBytes ++ (0x04 ∷ 0x00 ∷ 0x3A ∷ 0x5B ∷ 0x7C ∷ 0x1D ∷ 0x89 ∷ 0xAB ∷ 0xCD ∷ 0xEF ∷ 0xFE ∷ 0x00 ∷ [])
 
 -- "68: state + 16 × conditions (2)."
-abbrev pub atoStatus : ℕ → ℕ → Packet
-atoStatus state conditions = Packet.AtoStatus (record { header = header; state = state; conditions = conditions })
+abbrev pub atoStatus : ℕ → List ℕ → Packet
+atoStatus state conditions = Packet.AtoStatus (record { header = header; state = state; conditions = conditionsOf conditions })
 
 abbrev pub atoStatusBytes : List ℕ
 atoStatusBytes = 0x44 ∷ headerBytes ++ (0x1A ∷ 0x65 ∷ [])
@@ -105,7 +107,8 @@ pub record InBytes : Type 0 where
   pub point : Worked (timingPoint 1 2 1 0x55) (timingPointBytes 0x0D 0x55)
   pub ended : Worked (timingPoint 0 1 2 0) (timingPointBytes 0x12 0x00)
   pub journey : Worked jpReceived jpReceivedBytes
-  pub status : Worked (atoStatus 5 0x1A6) atoStatusBytes
+  -- 5 + 32 + 64 + 512 + 2,048 + 4,096
+  pub status : Worked (atoStatus 5 five) atoStatusBytes
   pub traction : Worked tractionBrake tractionBrakeBytes
   -- "for 62, 65, 68 .. 25, 29, 19 bytes"; 02: "packet 61 has 22 bytes": the content behind number and header
   pub sizes : map sizeOf (stopped ∷ jpReceived ∷ powerOn ∷ tractionBrake ∷ []) ≡ 25 ∷ 29 ∷ 19 ∷ 22 ∷ []
@@ -203,19 +206,21 @@ pub record Lengths : Type 0 where
 pub record Writing : Type 0 where
   -- "The packet writer returns its byte count and keeps the bytes behind"
   pub count : map (λ m. writtenCount stopped (m ++ stoppedBytes)) ([] ∷ (0xEE ∷ []) ∷ []) ≡ accept 25 ∷ accept 25 ∷ []
-  pub counts : map (λ p. writtenCount p (stoppedBytes ++ powerOnBytes)) (jpReceived ∷ atoStatus 5 0x1A6 ∷ tractionBrake ∷ []) ≡ accept 29 ∷ accept 19 ∷ accept 22 ∷ []
+  pub counts : map (λ p. writtenCount p (stoppedBytes ++ powerOnBytes)) (jpReceived ∷ atoStatus 5 five ∷ tractionBrake ∷ []) ≡ accept 29 ∷ accept 19 ∷ accept 22 ∷ []
   pub memory : writtenMemory powerOn (stoppedBytes ++ (0xEE ∷ [])) ≡ powerOnBytes ++ (0x00 ∷ 0x00 ∷ 0x1B ∷ 0x59 ∷ 0x09 ∷ 0x00 ∷ 0xEE ∷ [])
   -- "16 shorter than": one byte less; "changes neither engine nor memory"
   pub short : map (λ m. writtenCount powerOn m) (take 18 stoppedBytes ∷ take 19 stoppedBytes ∷ []) ≡ refuse 16 ∷ accept 19 ∷ []
   pub traction-short : map (λ m. writtenCount tractionBrake m) (take 21 stoppedBytes ∷ take 22 stoppedBytes ∷ []) ≡ refuse 16 ∷ accept 22 ∷ []
   pub short-kept : writtenMemory powerOn (take 18 stoppedBytes) ≡ take 18 stoppedBytes
   -- "(the writer of one packet: 19, then 16)": with room and with none
-  pub unfit : map (λ m. writtenCount (atoStatus 8 0) m) (stoppedBytes ∷ [] ∷ []) ≡ refuse 19 ∷ refuse 19 ∷ []
-  pub unfit-kept : writtenMemory (atoStatus 8 0) stoppedBytes ≡ stoppedBytes
-  -- values that would run into their neighbours in the same byte: Q_EOJ_REACHED 2, alignment 3, status 9, state 8, conditions of ten bits
+  pub unfit : map (λ m. writtenCount (atoStatus 8 []) m) (stoppedBytes ∷ [] ∷ []) ≡ refuse 19 ∷ refuse 19 ∷ []
+  pub unfit-kept : writtenMemory (atoStatus 8 []) stoppedBytes ≡ stoppedBytes
+  -- values that would run into their neighbours in the same bytes: Q_EOJ_REACHED 2, alignment 3, status 9, state 8
   pub beyond : map (λ p. numberIn (writtenCount p []))
-      (timingPoint 1 2 8 0 ∷ timingPoint 2 0 0 0 ∷ timingPoint 0 3 0 0 ∷ timingPoint 0 0 9 0 ∷ atoStatus 7 511 ∷ atoStatus 8 0 ∷ atoStatus 0 512 ∷ [])
-      ≡ 16 ∷ 19 ∷ 19 ∷ 19 ∷ 16 ∷ 19 ∷ 19 ∷ []
+      (timingPoint 1 2 8 0 ∷ timingPoint 2 0 0 0 ∷ timingPoint 0 3 0 0 ∷ timingPoint 0 0 9 0 ∷ atoStatus 7 nine ∷ atoStatus 8 [] ∷ [])
+      ≡ 16 ∷ 19 ∷ 19 ∷ 19 ∷ 16 ∷ 19 ∷ []
+  -- and each of the nine conditions at 2
+  pub beyond-one : map (λ k. numberIn (writtenCount (atoStatus 0 (set nine k 2)) [])) (0 ∷ 1 ∷ 2 ∷ 3 ∷ 4 ∷ 5 ∷ 6 ∷ 7 ∷ 8 ∷ []) ≡ replicate 9 19
 
 -- ---- packets in memory
 

@@ -1,12 +1,13 @@
--- Documents 01, "Packets", and 02, Q-1: the layouts of 61, 62, 65 and 68, and what lies between their fields.
+-- Documents 01, "Packets", and 02, Q-1 and Q-2: the layouts of 61, 62, 65 and 68, and what lies between their fields.
 -- "Ranges: NID_C to 1,023 (content of 65: 1,024); offset to 16,777,215; NID_ATOTS to 16,384; date to 32,767; alignment 0-2;
 -- status 0-8 in 62, 0 in 65; stopping data to 127, 0 unless status 1; state 0-7; spare bits 0. Other fields are free."
 use Prim.Native.Nat.{ℕ, _+_}
 use mathlib.Core.List.{List, [], _∷_}
 use mathlib.Core.Bool.{Bool, true, _||_}
 use lib.Dec.{eqb}
-use Rattle.layout.specs.Layout.{Layout, Values, field, size}
-use Rattle.layout.specs.Layout.Content.{free, upTo, part}
+use Rattle.layout.specs.Layout.{Layout, Values, part, field, listed, size}
+use Rattle.layout.specs.Layout.Content.{free, upTo, weighted}
+use Rattle.status_word.specs.Word.{conditionParts, conditionsOf}
 use Rattle.packets.specs.declared.Header.{Header}
 use Rattle.packets.specs.declared.TimingPoint.{TimingPoint}
 use Rattle.packets.specs.declared.JpReceived.{JpReceived}
@@ -49,17 +50,17 @@ abbrev pub content62 : Layout
 content62 =
     field "NID_C" 2 (upTo 1023)
     ∷ field "NID_TP" 4 free
-    ∷ field "info" 1 (part 2 1 (part 4 2 (upTo 8)))
+    ∷ field "info" 1 (weighted 1 (part 2 2 ∷ part 8 8 ∷ []))
     ∷ field "stopping data" 1 (upTo 127)
     ∷ []
 
 -- "stopping data .. 0 unless status 1"
 abbrev pub stoppingAllowed : Values content62 → Bool
-stoppingAllowed v = let (_, (_, ((_, (_, status)), (stopping, _)))) = v in eqb status 1 || eqb stopping 0
+stoppingAllowed v = let (_, (_, ((_, (_, (status, _))), (stopping, _)))) = v in eqb status 1 || eqb stopping 0
 
 abbrev pub timingPointOf : Values headerLayout → Values content62 → TimingPoint
 timingPointOf h v =
-    let (nidc, (nidtp, ((reached, (alignment, status)), (stopping, _)))) = v in
+    let (nidc, (nidtp, ((reached, (alignment, (status, _))), (stopping, _)))) = v in
     record { header = headerOf h; nidc = nidc; nidtp = nidtp; «q_eoj_reached» = reached; alignment = alignment; status = status; stopping = stopping }
 
 abbrev pub kind62 : PacketKind
@@ -88,12 +89,14 @@ jpReceivedOf h v =
 abbrev pub kind65 : PacketKind
 kind65 = record { number = 65; content = content65; between = λ v. true; packet = λ h v. Packet.JpReceived (jpReceivedOf h v) }
 
--- "68: state + 16 × conditions (2)."; the conditions are nine bits
+-- "68: state + 16 × conditions (2)."; by 02, Q-2, each condition by its weight
 abbrev pub content68 : Layout
-content68 = field "state and conditions" 2 (part 16 7 (upTo 511)) ∷ []
+content68 = field "state and conditions" 2 (weighted 7 conditionParts) ∷ []
 
 abbrev pub atoStatusOf : Values headerLayout → Values content68 → AtoStatus
-atoStatusOf h v = let ((state, conditions), _) = v in record { header = headerOf h; state = state; conditions = conditions }
+atoStatusOf h v =
+    let ((state, conditions), _) = v in
+    record { header = headerOf h; state = state; conditions = conditionsOf (listed conditionParts conditions) }
 
 abbrev pub kind68 : PacketKind
 kind68 = record { number = 68; content = content68; between = λ v. true; packet = λ h v. Packet.AtoStatus (atoStatusOf h v) }

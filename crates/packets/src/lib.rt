@@ -1,4 +1,5 @@
 // Recorder packets 61, 62, 65 and 68: their values, their sizes and the ranges of their fields.
+use status_word::OperationalConditions;
 ghost use mathlib.Core.Path.{_≡_};
 ghost use Rattle.layout.specs.Layout.{fits};
 ghost use Rattle.packets.specs.Layouts.{headerLayout};
@@ -44,7 +45,7 @@ pub struct JpReceived {
 pub struct AtoStatus {
     pub header: Header,
     pub state: u8,
-    pub conditions: u16,
+    pub conditions: OperationalConditions,
 }
 
 // The content of packet 61: SUBSET-140, Table 4. M_ATO_RTBRq, an INT16 there, as its unsigned 16 bits.
@@ -108,8 +109,6 @@ const ATOTS_MAX: u16 = 16384;
 const DATE_MAX: u16 = 32767;
 
 const STATE_MAX: u8 = 7;
-
-const CONDITIONS_MAX: u16 = 511;
 
 // The bytes of a packet.
 pub fn packet_size(p: Packet) -> usize
@@ -181,7 +180,18 @@ fn jp_received_fits(p: JpReceived) -> bool
 fn ato_status_fits(p: AtoStatus) -> bool
     ensures { λ r. ⌜ r ≡ packetFits (Packet.AtoStatus p) ⌝ }
 {
-    header_fits(p.header) & (p.state <= STATE_MAX) & (p.conditions <= CONDITIONS_MAX)
+    let c = p.conditions;
+    header_fits(p.header)
+        & (p.state <= STATE_MAX)
+        & (c.etcs_fulfilled <= 1)
+        & (c.no_emergency_brake <= 1)
+        & (c.end_ahead <= 1)
+        & (c.last_ahead <= 1)
+        & (c.profiles_there <= 1)
+        & (c.no_inconsistency <= 1)
+        & (c.located <= 1)
+        & (c.outside_zones <= 1)
+        & (c.data_valid <= 1)
 }
 
 // Each value is in its range.

@@ -31,7 +31,6 @@ anchors = record {
   wanting = refl;
   given-before = refl;
   not-before = refl;
-  nine = refl;
   looked-at = refl;
   kept = refl;
   powers-on = refl;

@@ -7,6 +7,7 @@ use lib.ListN.{replicate}
 use Rattle.engine_value.specs.Engine.{freshPosition}
 use Rattle.engine_value.specs.declared.Control.{Control}
 use Rattle.engine_value.specs.declared.Inputs.{Inputs}
+use Rattle.status_word.specs.Anchors.{numbered}
 use Rattle.event.specs.Kinds.{kinds}
 use Rattle.event.specs.declared.Event.the-variants.{PowerOn, Configured, PowerOff, Fault, Reports, Mode, Lever, Press, PositionReport}
 use Rattle.event.specs.declared.Row.{Row}
@@ -18,7 +19,7 @@ use Rattle.state_codes.specs.declared.EtcsMode.the-variants.{Other, AD}
 use Rattle.state_codes.specs.declared.DriverLever.{DriverLever}
 use Rattle.state_codes.specs.declared.DriverLever.the-variants.{Neutral, Traction, Brake}
 use Rattle.states.specs.States.{machine, T, N, U, fromRE, fromEG, fromDE, byState, byRow, machineAfter, wanted, given}
-use Rattle.states.specs.ControlGroup.{allNine, valuesIn, machineIn, controlAfter}
+use Rattle.states.specs.ControlGroup.{valuesIn, machineIn, controlAfter}
 use Rattle.states.specs.declared.Values.{Values}
 use Rattle.states.specs.declared.Machine.{Machine}
 
@@ -134,23 +135,21 @@ pub record Anchors : Type 0 where
   pub not-before : map (λ s. table (λ v. given s v false)) states
       ≡ four (six false) ∷ four (six false) ∷ four (six false) ∷ four (six false)
       ∷ replicate 3 (four (true ∷ false ∷ true ∷ false ∷ true ∷ false ∷ [])) ++ (four (six false) ∷ [])
-  -- "O means all nine": any one away
-  pub nine : map allNine (511 ∷ 510 ∷ 509 ∷ 507 ∷ 503 ∷ 495 ∷ 479 ∷ 447 ∷ 383 ∷ 255 ∷ 0 ∷ []) ≡ true ∷ replicate 10 false
   -- what the rows look at, by the codes that the engine keeps
-  pub looked-at : valuesIn (inputs 1 2 16) 511 ∷ valuesIn (inputs 0 1 15) 510 ∷ valuesIn (inputs 1 0 31) 255 ∷ []
+  pub looked-at : valuesIn (inputs 1 2 16) (numbered 511) ∷ valuesIn (inputs 0 1 15) (numbered 510) ∷ valuesIn (inputs 1 0 31) (numbered 255) ∷ []
       ≡ values true true Brake AD ∷ values false false Traction Other ∷ values false true Neutral AD ∷ []
   pub kept : map machineIn (control 4 true false ∷ control 5 false true ∷ []) ≡ pressed RE ∷ still EG ∷ []
   -- state, press and request after: power on; configured; the press; the AD report
-  pub powers-on : controlAfter (inputs 0 0 0) (control 0 false false) PowerOn false 128 ≡ control 1 false false
-  pub configures : controlAfter (inputs 0 0 31) (control 1 false false) Configured false 511 ≡ control 4 false true
-  pub presses : controlAfter (inputs 0 0 31) (control 4 false true) Press false 511 ≡ control 4 true true
-  pub engages : controlAfter (inputs 1 0 31) (control 4 true true) (Mode 1) false 511 ≡ control 5 false true
+  pub powers-on : controlAfter (inputs 0 0 0) (control 0 false false) PowerOn false (numbered 128) ≡ control 1 false false
+  pub configures : controlAfter (inputs 0 0 31) (control 1 false false) Configured false (numbered 511) ≡ control 4 false true
+  pub presses : controlAfter (inputs 0 0 31) (control 4 false true) Press false (numbered 511) ≡ control 4 true true
+  pub engages : controlAfter (inputs 1 0 31) (control 4 true true) (Mode 1) false (numbered 511) ≡ control 5 false true
   -- from there: a stop reached; T lost, then the brake; a fault; power off
-  pub stops : controlAfter (inputs 1 0 31) (control 5 false true) (PositionReport freshPosition) true 511 ≡ control 3 false true
-  pub degrades : controlAfter (inputs 1 0 15) (control 5 false true) (Reports 15) false 511 ≡ control 6 false true
-  pub brakes : controlAfter (inputs 1 2 15) (control 6 false true) (Lever 2) false 511 ≡ control 3 false false
-  pub fails : controlAfter (inputs 1 0 31) (control 5 false true) Fault false 511 ≡ control 7 false false
-  pub powers-off : controlAfter (inputs 0 0 0) (control 7 false false) PowerOff false 128 ≡ control 0 false false
+  pub stops : controlAfter (inputs 1 0 31) (control 5 false true) (PositionReport freshPosition) true (numbered 511) ≡ control 3 false true
+  pub degrades : controlAfter (inputs 1 0 15) (control 5 false true) (Reports 15) false (numbered 511) ≡ control 6 false true
+  pub brakes : controlAfter (inputs 1 2 15) (control 6 false true) (Lever 2) false (numbered 511) ≡ control 3 false false
+  pub fails : controlAfter (inputs 1 0 31) (control 5 false true) Fault false (numbered 511) ≡ control 7 false false
+  pub powers-off : controlAfter (inputs 0 0 0) (control 7 false false) PowerOff false (numbered 128) ≡ control 0 false false
   -- "False turns: .. DE back to EG when conditions return; lever back to neutral in AV starting a request while still in AD"
-  pub stays-DE : controlAfter (inputs 1 0 31) (control 6 false true) (Reports 31) false 511 ≡ control 6 false true
-  pub unasked : controlAfter (inputs 1 0 31) (control 3 false false) (Lever 0) false 511 ≡ control 3 false false
+  pub stays-DE : controlAfter (inputs 1 0 31) (control 6 false true) (Reports 31) false (numbered 511) ≡ control 6 false true
+  pub unasked : controlAfter (inputs 1 0 31) (control 3 false false) (Lever 0) false (numbered 511) ≡ control 3 false false

@@ -3,8 +3,7 @@ ghost use mathlib.Core.Path.{_≡_};
 ghost use mathlib.Core.Bool.{false, not, _&&_, _||_};
 ghost use Rattle.state_codes.specs.Codes.{isAD, isBrake};
 ghost use Rattle.states.specs.States.{machine, T, N, U, fromRE, fromEG, fromDE, byState, machineAfter, wanted, given};
-ghost use Rattle.states.specs.ControlGroup.{allNine, valuesIn, machineIn, controlAfter};
-use conditions::ALL_CONDITIONS;
+ghost use Rattle.states.specs.ControlGroup.{valuesIn, machineIn, controlAfter};
 use engine_value::Control;
 use engine_value::Inputs;
 use event::Event;
@@ -13,6 +12,7 @@ use event::row_of;
 use state_codes::DriverLever;
 use state_codes::EtcsMode;
 use state_codes::State;
+use status_word::OperationalConditions;
 
 // What the rows look at, after an event: O, all nine conditions; T, the train conditions; the lever and the mode.
 pub struct Values {
@@ -214,16 +214,10 @@ fn train_conditions(reports: u8) -> bool
     reports / 16 % 2 == 1
 }
 
-pub fn all_nine(word: u16) -> bool
-    ensures { λ r. ⌜ r ≡ allNine word ⌝ }
+fn values_in(inputs: Inputs, conditions: OperationalConditions) -> Values
+    ensures { λ r. ⌜ r ≡ valuesIn inputs conditions ⌝ }
 {
-    word == ALL_CONDITIONS
-}
-
-fn values_in(inputs: Inputs, word: u16) -> Values
-    ensures { λ r. ⌜ r ≡ valuesIn inputs word ⌝ }
-{
-    let o = all_nine(word);
+    let o = status_word::all_nine(conditions);
     let t = train_conditions(inputs.reports);
     let lever = state_codes::lever_at(inputs.lever);
     let mode = state_codes::mode_at(inputs.mode);
@@ -246,11 +240,17 @@ fn machine_in(c: Control) -> Machine
 }
 
 // The control group after an event, from the inputs with those of the event already in them;
-// `reached`: a point became reached in this event; `word`: the nine conditions after it.
-pub fn control_after(inputs: Inputs, c: Control, event: Event, reached: bool, word: u16) -> Control
-    ensures { λ r. ⌜ r ≡ controlAfter inputs c event reached word ⌝ }
+// `reached`: a point became reached in this event; `conditions`: those after it.
+pub fn control_after(
+    inputs: Inputs,
+    c: Control,
+    event: Event,
+    reached: bool,
+    conditions: OperationalConditions,
+) -> Control
+    ensures { λ r. ⌜ r ≡ controlAfter inputs c event reached conditions ⌝ }
 {
-    let v = values_in(inputs, word);
+    let v = values_in(inputs, conditions);
     let m = machine_after(machine_in(c), event, reached, v);
     let s = m.state;
     let request = given(s, v, c.request);

@@ -13,6 +13,7 @@ use Rattle.event.specs.declared.Event.the-variants.{PositionReport}
 use Rattle.event.specs.Kinds.{Role, off, load, report, other, skip}
 use Rattle.journey.specs.declared.Head.{Head}
 use Rattle.packets.specs.Packets.{packetOf}
+use Rattle.status_word.specs.declared.OperationalConditions.{OperationalConditions}
 use Rattle.packets.specs.declared.Requested.{Requested}
 use Rattle.packets.specs.declared.Packet.{Packet}
 use Rattle.traction.specs.Requests.{writtenContent}
@@ -83,7 +84,7 @@ module _ (j : Route) (x : Position) where
   of-61 none = refl
   of-61 (some r) = refl
 
-  of-68 : (due : Bool) (s n : ℕ) → toldOfEach (when due (atoStatus j x s n)) ≡ []
+  of-68 : (due : Bool) (s : ℕ) (n : OperationalConditions) → toldOfEach (when due (atoStatus j x s n)) ≡ []
   unfolding toldOfEach atoStatus
   of-68 true s n = refl
   of-68 false s n = refl

@@ -1,14 +1,15 @@
 -- The whole engine as a function of the history, and that it shows what the rules show.
 use mathlib.Core.Path.{_≡_, refl, sym, _∙_, ap}
 use mathlib.Core.Bool.{Bool, true, false, not, _&&_, _||_}
-use mathlib.Core.List.{List, [], _∷_}
+use mathlib.Core.List.{List, [], _∷_, map}
 use Prim.Native.Nat.{ℕ, zero, suc, _+_, _-_, _≤_, _<_}
 use native.Mathlib.Omega.{arith}
 use lib.Dec.{eqb, leb}
 use lib.ListN.{length, getD, set, replicate, length-set}
 use lib.Seq.{getD-set-same, getD-set-other}
 use borrow.Author.Tests.{eqb-true, eqb-false}
-use Rattle.wire.specs.Numbers.{if_then_else_}
+use Rattle.wire.specs.Numbers.{flag, if_then_else_}
+use Rattle.status_word.specs.Word.{conditionsOf}
 use Rattle.engine_value.specs.Engine.{trainOf, inputsOf, Route, noSkips, progress, blankPoint}
 use Rattle.engine_value.specs.declared.Point.{Point}
 use Rattle.engine_value.specs.declared.Position.{Position}
@@ -28,7 +29,7 @@ use Rattle.position.specs.declared.Standing.{Standing}
 use Rattle.timing.proofs.Steps.{InRange, started, run-range, target-most}
 use Rattle.timing.proofs.Rule.{as-rule}
 use Rattle.state_codes.specs.Codes.{code}
-use Rattle.conditions.specs.Conditions.{endAhead, lastAhead, firstAhead, profilesThere, routeConditions, nine, conditions, wordOf}
+use Rattle.conditions.specs.Conditions.{endAhead, lastAhead, firstAhead, profilesThere, routeConditions, nine, conditions}
 use Rattle.whole_list.specs.Values.{History, roleOfCall, numberBy, reportsBy, positionBy, lengthBy, routeBy, isPoint, skippedBy, reportsSince, behindAtLoad}
 use Rattle.whole_list.specs.Rules.{standingBy, conditionsBy, machineBy, stateBy, requestBy}
 use Rattle.traction.specs.View.{tractionOf}
@@ -197,4 +198,4 @@ module _ (j : Route) (s t : ℕ → Standing) (ends : RouteIn j) (same : (k : �
 
 pub conditions-is : (h : History) → conditions (routeBy h) (reportsBy h) (positionBy h) (standing (progressRun h)) ≡ conditionsBy h
 unfolding conditions conditionsBy
-conditions-is h = ap wordOf (nine-ext (routeBy h) (standing (progressRun h)) (standingBy h) (route-in h) (stands-at h) (reportsBy h) (positionBy h))
+conditions-is h = ap (λ (l : List Bool). conditionsOf (map flag l)) (nine-ext (routeBy h) (standing (progressRun h)) (standingBy h) (route-in h) (stands-at h) (reportsBy h) (positionBy h))

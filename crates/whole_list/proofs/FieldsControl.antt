@@ -10,7 +10,7 @@ use Rattle.event.specs.Kinds.{Role, off, load, report, other, skip, rowOf, role
 use Rattle.event.proofs.Known.{OfRole, known}
 use Rattle.state_codes.specs.Codes.{code, stateAt, modeAt, leverAt}
 use Rattle.conditions.specs.Conditions.{O}
-use Rattle.conditions.proofs.WordLaws.{O-word}
+use Rattle.conditions.proofs.NineLaws.{O-ones}
 use Rattle.state_codes.proofs.CodeLaws.{state-code}
 use Rattle.states.specs.States.{machine, T, byRow, machineAfter, given}
 use Rattle.states.specs.declared.Values.{Values}
@@ -30,9 +30,9 @@ use Rattle.whole_list.proofs.Requests.{remembered-is}
 use Rattle.whole_list.proofs.Fields.{inputsBy, controlBy, engineOf, conditions-is}
 use Rattle.whole_list.proofs.FieldsEffect.{untilOff, effectOf, stored-is}
 
-word-is : (h : History) (c : Call) → conditionsIn (stored (engineOf h) (effectOf h c)) ≡ conditionsBy (c ∷ h)
+conditions-stored : (h : History) (c : Call) → conditionsIn (stored (engineOf h) (effectOf h c)) ≡ conditionsBy (c ∷ h)
 unfolding conditionsIn
-word-is h c = ap conditionsIn (stored-is h c) ∙ conditions-is (c ∷ h)
+conditions-stored h c = ap conditionsIn (stored-is h c) ∙ conditions-is (c ∷ h)
 
 pub conditions-in : (h : History) → conditionsIn (engineOf h) ≡ conditionsBy h
 unfolding conditionsIn
@@ -41,7 +41,7 @@ conditions-in h = conditions-is h
 values-is : (h : History) → valuesIn (inputsBy h) (conditionsBy h) ≡ valuesBy h
 unfolding valuesBy conditionsBy
 values-is h = λ i. record {
-  O = sym (O-word (routeBy h) (reportsBy h) (positionBy h) (standingBy h)) i;
+  O = sym (O-ones (routeBy h) (reportsBy h) (positionBy h) (standingBy h)) i;
   T = T (reportsBy h);
   lever = leverAt (leverBy h);
   mode = modeAt (modeBy h);
@@ -81,7 +81,7 @@ control-is h c =
     let e = eventOfCall c in
     let r = becameReachedBy (c ∷ h) in
     let v : Values = valuesBy (c ∷ h) in
-    let value-is : valuesIn (inputsBy (c ∷ h)) (conditionsIn (stored (engineOf h) (effectOf h c))) ≡ v = ap (valuesIn (inputsBy (c ∷ h))) (word-is h c) ∙ values-is (c ∷ h) in
+    let value-is : valuesIn (inputsBy (c ∷ h)) (conditionsIn (stored (engineOf h) (effectOf h c))) ≡ v = ap (valuesIn (inputsBy (c ∷ h))) (conditions-stored h c) ∙ values-is (c ∷ h) in
     let machine-is : machineAfter (machineIn before) e r v ≡ machineAfter (machineBy h) e r v = machine-kept (machineBy h) r v e in
     ap (λ u. controlOf before u (machineAfter (machineIn before) e r u)) value-is
     ∙ ap (λ m. controlOf before v m) machine-is

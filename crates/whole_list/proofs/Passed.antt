@@ -15,6 +15,7 @@ use Rattle.event.proofs.Known.{OfRole, known}
 use Rattle.event.specs.declared.Event.the-variants as kind
 use Rattle.packets.specs.Packets.{packetOf, cut, cutPackets}
 use Rattle.packets.specs.declared.TimingPoint.{TimingPoint}
+use Rattle.status_word.specs.declared.OperationalConditions.{OperationalConditions}
 use Rattle.packets.specs.declared.Requested.{Requested}
 use Rattle.packets.specs.declared.Packet.{Packet}
 use Rattle.position.specs.Position.{point, pointCount}
@@ -123,7 +124,7 @@ module _ (j : Route) (x : Position) (p : TimingPoint) where
   not-65 (some d) (inl e) = zero-one (cc)
   not-65 (some d) (inr q) = q
 
-  not-68 : (due : Bool) (s n : ℕ) → In (Packet.TimingPoint p) (when due (atoStatus j x s n)) → ⊥
+  not-68 : (due : Bool) (s : ℕ) (n : OperationalConditions) → In (Packet.TimingPoint p) (when due (atoStatus j x s n)) → ⊥
   unfolding atoStatus
   not-68 true s n (inl e) = zero-one (cc)
   not-68 true s n (inr q) = q

@@ -27,8 +27,12 @@ use Rattle.layout.specs.Layout.{fits}
 use Rattle.layout.proofs.LayoutLaws.{Typed}
 use Rattle.packets.specs.Layouts.{headerLayout, unknownNidc}
 use Rattle.packets.specs.View.{headerView}
+use Rattle.status_word.specs.View.{conditionsView}
+use Rattle.status_word.specs.Sentences.{ZerosAndOnes}
 use Rattle.packets.specs.Packets.{packetBytes, packetFits, packetOf}
+use Rattle.packets.proofs.ConditionLaws.{status-fits}
 use Rattle.packets.proofs.RoundTrips.{TypedPacket, read-written}
+use Rattle.status_word.specs.declared.OperationalConditions.{OperationalConditions}
 use Rattle.packets.specs.declared.Requested.{Requested}
 use Rattle.packets.specs.declared.Packet.{Packet}
 use Rattle.traction.specs.Requests.{writtenContent}
@@ -41,7 +45,7 @@ use Rattle.position.specs.declared.Found.the-variants.{At, Nothing}
 use Rattle.position.specs.declared.Standing.{Standing}
 use Rattle.position.specs.declared.Standing.the-variants.{Unused, Targeted, Reached, Passed}
 use Rattle.conditions.specs.Conditions.{endAhead}
-use Rattle.conditions.proofs.WordLaws.{conditions-most}
+use Rattle.conditions.proofs.NineLaws.{conditions-zeros}
 use Rattle.state_codes.proofs.CodeLaws.{code-most}
 use Rattle.call_values.specs.Packets.{PointChange, header, timingPoint, jpReceived, tractionBrake, tractionBrakes, atoStatus, statusDue, received, packetsOf}
 use Rattle.call_values.specs.Call.{Call}
@@ -108,9 +112,9 @@ module _ (j : Route) (x : Position) (r : Ranged j x) where
   unfolding tractionBrake
   fits-61 q f = (rw header-fits, (header-typed, (omega (arith, f .trabrrq), (omega (arith, f .locobrrq), (omega (arith, f .suptb), (omega (arith, f .rtbrq), tt))))))
 
-  fits-68 : (s c : ℕ) → s ≤ 7 → c ≤ 511 → Fits (atoStatus j x s c)
+  fits-68 : (s : ℕ) (c : OperationalConditions) → s ≤ 7 → ZerosAndOnes (conditionsView c) → Fits (atoStatus j x s c)
   unfolding atoStatus
-  fits-68 s c h k = (rw (header-fits, le-leb s 7 h, le-leb c 511 k), (header-typed, (tt, tt)))
+  fits-68 s c h k = (status-fits (record { header = header j x; state = s; conditions = c }) header-fits h k, (header-typed, (tt, tt)))
 
   -- ---- all of an event
 
@@ -126,7 +130,7 @@ module _ (j : Route) (x : Position) (r : Ranged j x) where
   all-61 none k = tt
   all-61 (some q) k = (fits-61 q (k q refl), tt)
 
-  all-68 : (due : Bool) (s c : ℕ) → s ≤ 7 → c ≤ 511 → All Fits (when due (atoStatus j x s c))
+  all-68 : (due : Bool) (s : ℕ) (c : OperationalConditions) → s ≤ 7 → ZerosAndOnes (conditionsView c) → All Fits (when due (atoStatus j x s c))
   all-68 true s c h k = (fits-68 s c h k, tt)
   all-68 false s c h k = tt
 
@@ -216,7 +220,7 @@ module _ (h : History) (c : Call) where
       (all-append Fits (map (timingPoint (routeBy (c ∷ h)) (positionBy (c ∷ h))) (changesBy h c)) _
       (all-62 _ _ r (changesBy h c) (route-in (c ∷ h)) (status-in h c))
       (all-append Fits (ownBy h c) _ (all-61 _ _ r _ content-in)
-      (all-68 _ _ r (statusDue (statusBy h) (statusBy (c ∷ h))) _ _ (code-most (stateBy (c ∷ h))) (conditions-most _ _ _ _))))
+      (all-68 _ _ r (statusDue (statusBy h) (statusBy (c ∷ h))) _ _ (code-most (stateBy (c ∷ h))) (conditions-zeros _ _ _ _))))
 
 -- each is read back as it was
 pub read-back : (ps : List Packet) → All Fits ps → map packetOf (bytesOfEach ps) ≡ map accept ps

@@ -14,8 +14,13 @@ use Rattle.engine_value.specs.declared.Position.{Position}
 use Rattle.journey.specs.declared.Head.{Head}
 use Rattle.packets.specs.Packets.{valueBytes, packetBytes, joined, cutPackets}
 use Rattle.packets.proofs.Cutting.{cut-joined}
+use Rattle.status_word.specs.View.{conditionsView}
+use Rattle.status_word.specs.Sentences.{ZerosAndOnes}
+use Rattle.packets.proofs.ConditionLaws.{status-fits}
 use Rattle.packets.proofs.RoundTrips.{read-written}
+use Rattle.status_word.specs.declared.OperationalConditions.{OperationalConditions}
 use Rattle.packets.specs.declared.Requested.{Requested}
+use Rattle.packets.specs.declared.AtoStatus.{AtoStatus}
 use Rattle.packets.specs.declared.Packet.{Packet}
 use Rattle.timing.specs.Changes.{when}
 use Rattle.call_values.specs.Packets.{PointChange, header, timingPoint, jpReceived, tractionBrake, tractionBrakes, atoStatus, Status, statusDue, received, packetsOf}
@@ -57,7 +62,7 @@ module _ (j : Route) (x : Position) where
   newest-61 o none = refl
   newest-61 o (some r) = refl
 
-  newest-68 : (o : Option (List ℕ)) (due : Bool) (s c : ℕ) → newest o (bytesOfEach (when due (atoStatus j x s c))) ≡ (if due then some (packetBytes (atoStatus j x s c)) else o)
+  newest-68 : (o : Option (List ℕ)) (due : Bool) (s : ℕ) (c : OperationalConditions) → newest o (bytesOfEach (when due (atoStatus j x s c))) ≡ (if due then some (packetBytes (atoStatus j x s c)) else o)
   unfolding newest atoStatus valueBytes
   newest-68 o true s c = refl
   newest-68 o false s c = refl
@@ -86,13 +91,16 @@ pub record Ranged (j : Route) (x : Position) : Type 0 where
   pub speed : x .speed ≤ max2
   pub operational : j .load .operational ≤ max4
 
-pub status-tells : (j : Route) (x : Position) (state conditions : ℕ) → Ranged j x → state ≤ 7 → conditions ≤ 511 → StatusPacket (packetBytes (atoStatus j x state conditions)) state conditions
+pub status-tells : (j : Route) (x : Position) (state : ℕ) (conditions : OperationalConditions) → Ranged j x → state ≤ 7 → ZerosAndOnes (conditionsView conditions) → StatusPacket (packetBytes (atoStatus j x state conditions)) state conditions
 unfolding atoStatus
 status-tells j x state conditions r s c =
     record {
-      status = record { header = header j x; state = state; conditions = conditions };
-      read = read-written _ (rw (le-leb (x .nidc) 1023 (r .nidc), le-leb (x .offset) 16777215 (r .offset), le-leb state 7 s, le-leb conditions 511 c))
+      status = told;
+      read = read-written (Packet.AtoStatus told) (status-fits told (rw (le-leb (x .nidc) 1023 (r .nidc), le-leb (x .offset) 16777215 (r .offset))) s c)
           ((tt, (omega (arith, r .nidsp), (tt, (omega (arith, r .speed), (omega (arith, r .operational), tt))))), (tt, tt));
       state-is = refl;
       conditions-are = refl;
     }
+  where
+    told : AtoStatus
+    told = record { header = header j x; state = state; conditions = conditions }

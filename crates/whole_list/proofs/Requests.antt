@@ -15,6 +15,7 @@ use Rattle.event.specs.declared.Event.{Event}
 use Rattle.event.proofs.Known.{OfTraction, traction-of}
 use Rattle.journey.specs.declared.Head.{Head}
 use Rattle.packets.specs.Packets.{valueBytes, packetBytes}
+use Rattle.status_word.specs.declared.OperationalConditions.{OperationalConditions}
 use Rattle.packets.specs.declared.Requested.{Requested}
 use Rattle.packets.specs.declared.Packet.{Packet}
 use Rattle.timing.specs.Changes.{when}
@@ -99,7 +100,7 @@ module _ (j : Route) (x : Position) where
   none-62 (c ∷ l) (p, inl e, n) = let z : _≡_ {A = ℕ} 62 61 = other-number 62 p _ e refl n in omega arith
   none-62 (c ∷ l) (p, inr i, n) = none-62 l (p, i, n)
 
-  none-68 : (due : Bool) (s n : ℕ) → Has61 (bytesOfEach (when due (atoStatus j x s n))) → ⊥
+  none-68 : (due : Bool) (s : ℕ) (n : OperationalConditions) → Has61 (bytesOfEach (when due (atoStatus j x s n))) → ⊥
   unfolding atoStatus valueBytes
   none-68 false s n (p, i, m) = i
   none-68 true s n (p, inl e, m) = let z : _≡_ {A = ℕ} 68 61 = other-number 68 p _ e refl m in omega arith

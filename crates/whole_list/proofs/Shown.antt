@@ -12,6 +12,7 @@ use lib.Dec.{ltb}
 use borrow.Author.Tests.{ltb-true, ltb-false}
 use Rattle.engine_value.specs.Engine.{maxPoints}
 use Rattle.engine_value.specs.declared.Engine.{Engine}
+use Rattle.status_word.specs.View.{conditionsNumber}
 use Rattle.position.specs.Position.{pointCount}
 use Rattle.position.specs.Standing.{standingCode}
 use Rattle.call.specs.Shown.{standingIn, standingsIn}
@@ -43,7 +44,7 @@ pub shown-by : (h : History) → ShownBy (shownView (engineOf h)) h
 shown-by h = record {
   state = refl;
   request = refl;
-  conditions = conditions-in h;
+  conditions = ap conditionsNumber (conditions-in h);
   count = refl;
   as-many = long e maxPoints;
   each = λ k l. at e maxPoints k (omega arith) ∙ sym (standing-there e k l) ∙ ap standingCode (stands-at h k l);

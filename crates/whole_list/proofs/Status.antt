@@ -8,9 +8,11 @@ use Prim.Native.Nat.{ℕ}
 use lib.Dec.{eqb}
 use borrow.Author.Tests.{eqb-true, ne-eqb}
 use Rattle.wire.specs.Numbers.{if_then_else_}
+use Rattle.status_word.specs.View.{sameConditions}
 use Rattle.packets.specs.Packets.{packetBytes}
+use Rattle.status_word.proofs.ConditionLaws.{conditions-equal}
 use Rattle.state_codes.specs.Codes.{code, stateAt}
-use Rattle.conditions.proofs.WordLaws.{conditions-most}
+use Rattle.conditions.proofs.NineLaws.{conditions-zeros}
 use Rattle.state_codes.proofs.CodeLaws.{code-most, state-code}
 use Rattle.state_codes.specs.declared.State.the-variants.{NP}
 use Rattle.call_values.specs.Call.{Call}
@@ -33,8 +35,8 @@ module _ (before after : Status) where
   unfolding statusDue
   not-due h = go _ refl _ refl
     where
-      go : (a : Bool) → eqb (after .state) (before .state) ≡ a → (b : Bool) → eqb (after .conditions) (before .conditions) ≡ b → (after .state ≡ before .state) × (after .conditions ≡ before .conditions)
-      go true p true q = (eqb-true _ _ p, eqb-true _ _ q)
+      go : (a : Bool) → eqb (after .state) (before .state) ≡ a → (b : Bool) → sameConditions (after .conditions) (before .conditions) ≡ b → (after .state ≡ before .state) × (after .conditions ≡ before .conditions)
+      go true p true q = (eqb-true _ _ p, conditions-equal _ _ q)
       go true p false q = absurd (false≢true (sym h ∙ rw (p, q)))
       go false p b q = absurd (false≢true (sym h ∙ rw p))
 
@@ -50,7 +52,7 @@ statusPacket h = packetBytes (atoStatus (routeBy h) (positionBy h) (code (stateB
 
 pub packet-tells : (h : History) → StatusPacket (statusPacket h) (code (stateBy h)) (conditionsBy h)
 unfolding conditionsBy
-packet-tells h = status-tells (routeBy h) (positionBy h) (code (stateBy h)) (conditionsBy h) (ranged h) (code-most (stateBy h)) (conditions-most _ _ _ _)
+packet-tells h = status-tells (routeBy h) (positionBy h) (code (stateBy h)) (conditionsBy h) (ranged h) (code-most (stateBy h)) (conditions-zeros _ _ _ _)
 
 module _ (o : Option (List ℕ)) (h : History) (c : Call) where
   pub newest-by : newest o (bytesOfEach (packetsBy h c)) ≡ (if statusDue (statusBy h) (statusBy (c ∷ h)) then some (statusPacket (c ∷ h)) else o)

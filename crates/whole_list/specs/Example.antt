@@ -2,6 +2,7 @@
 use mathlib.Core.Path.{_≡_}
 use mathlib.Core.Bool.{true, false}
 use mathlib.Core.List.{List, [], _∷_, _++_, map}
+use Rattle.status_word.specs.View.{conditionsNumber}
 use mathlib.Core.Option.{none, some}
 use Prim.Native.Nat.{ℕ}
 use lib.ListN.{length}
@@ -72,7 +73,7 @@ pub record Example : Type 0 where
   pub by-rule-passed : standingBy (historyOf finished) 1 ≡ Passed
   pub by-rows : code (stateBy (historyOf driven)) ≡ 5
   pub by-rows-too : code (stateBy (historyOf finished)) ≡ 6
-  pub all-nine : conditionsBy (historyOf driven) ≡ 511
+  pub all-nine : conditionsNumber (conditionsBy (historyOf driven)) ≡ 511
   pub requested : requestBy (historyOf driven) ≡ true
   -- 61 at 20, at 75 and with the other Q_ATO_SupTB; by the rules and in the engine range 2 and 6, until EG is entered again
   pub requests : answersOf pulling

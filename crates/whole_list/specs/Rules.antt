@@ -7,6 +7,7 @@ use lib.ListN.{length, drop, getD}
 use Rattle.engine_value.specs.declared.Position.{Position}
 use Rattle.event.specs.declared.Event.the-variants.{PositionReport}
 use Rattle.event.specs.Kinds.{off, load, report, other, skip}
+use Rattle.status_word.specs.declared.OperationalConditions.{OperationalConditions}
 use Rattle.position.specs.Position.{pointCount}
 use Rattle.position.specs.Standing.{isReached}
 use Rattle.timing.specs.History.{Stands}
@@ -33,7 +34,7 @@ unfoldable pub standingBy : History → ℕ → Standing
 standingBy h k = standingByReports (routeBy h) (behindAtLoad h) (reportsSince h) k
 
 -- "Conditions, O, T and N follow."
-unfoldable pub conditionsBy : History → ℕ
+unfoldable pub conditionsBy : History → OperationalConditions
 conditionsBy h = conditions (routeBy h) (reportsBy h) (positionBy h) (standingBy h)
 
 unfoldable pub valuesBy : History → Values

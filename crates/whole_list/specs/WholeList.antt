@@ -12,7 +12,9 @@ use Rattle.engine_value.specs.declared.Position.{Position}
 use Rattle.engine_value.specs.declared.Engine.{Engine}
 use Rattle.event.specs.declared.TractionRequest.{TractionRequest}
 use Rattle.event.specs.declared.Event.the-variants.{PositionReport, Traction}
+use Rattle.status_word.specs.View.{conditionsNumber}
 use Rattle.packets.specs.Packets.{packetOf, packetBytes}
+use Rattle.status_word.specs.declared.OperationalConditions.{OperationalConditions}
 use Rattle.packets.specs.declared.TimingPoint.{TimingPoint}
 use Rattle.packets.specs.declared.AtoStatus.{AtoStatus}
 use Rattle.packets.specs.declared.Packet.{Packet}
@@ -53,7 +55,7 @@ abbrev pub bytesOfEach : List Packet → List (List ℕ)
 bytesOfEach l = map packetBytes l
 
 -- a packet 68 with these values
-pub record StatusPacket (packet : List ℕ) (state conditions : ℕ) : Type 0 where
+pub record StatusPacket (packet : List ℕ) (state : ℕ) (conditions : OperationalConditions) : Type 0 where
   pub status : AtoStatus
   pub read : packetOf packet ≡ accept (Packet.AtoStatus status)
   pub state-is : status .state ≡ state
@@ -107,7 +109,7 @@ pub record AsRuled (h : History) : Type 0 where
 pub record ShownBy (s : Shown) (h : History) : Type 0 where
   pub state : s .state ≡ code (stateBy h)
   pub request : s .request ≡ requestBy h
-  pub conditions : s .conditions ≡ conditionsBy h
+  pub conditions : s .conditions ≡ conditionsNumber (conditionsBy h)
   pub count : s .«point_count» ≡ pointCount (routeBy h)
   -- one code for each of 64 points, 0 where there is no such point
   pub as-many : length (s .standings) ≡ maxPoints

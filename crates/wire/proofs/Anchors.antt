@@ -42,6 +42,8 @@ lists = record {
   all = ((refl, (refl, tt)), tt);
   not-first = λ h. let q = h .0 in absurd (omega arith);
   not-last = λ h. let q = h .1 .0 in absurd (omega arith);
+  alike = refl;
+  none-alike = refl;
   sums = refl;
   tables = refl;
 }

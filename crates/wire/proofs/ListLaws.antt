@@ -2,14 +2,14 @@
 use Prim.Native.Nat.{ℕ, zero, suc, _+_, _*_, _≤_, _<_}
 use mathlib.Core.Path.{_≡_, refl, sym, ap, _∙_}
 use mathlib.Core.List.{List, [], _∷_, _++_, map}
-use mathlib.Core.Bool.{Bool, true, false, not, _&&_, _||_, and-false, false≢true}
+use mathlib.Core.Bool.{Bool, true, false, not, _&&_, _||_, and-true, and-false, and-assoc, false≢true}
 use native.Mathlib.Numerals.{add-one}
 use native.Mathlib.Omega.{arith}
 use lib.ListN.{length, getD, take, drop, set, length-take, drop-of-length-le}
 use lib.Seq.{slice-cons, take-suc-set}
-use lib.Dec.{ltb, leb}
-use borrow.Author.Tests.{lt-ltb, le-ltb, ltb-true, ltb-false, le-leb, leb-true}
-use Rattle.wire.specs.Lists.{All, any, every, tabulate, sum, falls, strictlyRises}
+use lib.Dec.{eqb, ltb, leb}
+use borrow.Author.Tests.{eqb-true, lt-ltb, le-ltb, ltb-true, ltb-false, le-leb, leb-true}
+use Rattle.wire.specs.Lists.{All, any, every, sameNumbers, tabulate, sum, falls, strictlyRises}
 
 -- ---- tests
 
@@ -57,6 +57,33 @@ every-append f (x ∷ xs) y = rw (every-append f xs y) (go (f x) (every f xs) (f
     go : (a b c : Bool) → (a && (b && c)) ≡ ((a && b) && c)
     go true b c = refl
     go false b c = refl
+
+-- tests as code has them: one after the other, joined to those before
+abbrev pub everyFrom : {A : Type 0} → (A → Bool) → Bool → List A → Bool
+everyFrom f before [] = before
+everyFrom f before (x ∷ xs) = everyFrom f (before && f x) xs
+
+pub every-from : {A : Type 0} (f : A → Bool) (before : Bool) (l : List A) → everyFrom f before l ≡ (before && every f l)
+every-from f before [] = sym (and-true before)
+every-from f before (x ∷ xs) = every-from f (before && f x) xs ∙ and-assoc before (f x) (every f xs)
+
+abbrev pub sameFrom : Bool → List ℕ → List ℕ → Bool
+sameFrom before [] [] = before
+sameFrom before [] (y ∷ ys) = false
+sameFrom before (x ∷ xs) [] = false
+sameFrom before (x ∷ xs) (y ∷ ys) = sameFrom (before && eqb x y) xs ys
+
+pub same-from : (before : Bool) (xs ys : List ℕ) → sameFrom before xs ys ≡ (before && sameNumbers xs ys)
+same-from before [] [] = sym (and-true before)
+same-from before [] (y ∷ ys) = sym (and-false before)
+same-from before (x ∷ xs) [] = sym (and-false before)
+same-from before (x ∷ xs) (y ∷ ys) = same-from (before && eqb x y) xs ys ∙ and-assoc before (eqb x y) (sameNumbers xs ys)
+
+pub same-equal : (xs ys : List ℕ) → sameNumbers xs ys ≡ true → xs ≡ ys
+same-equal [] [] e = refl
+same-equal [] (y ∷ ys) e = absurd (false≢true e)
+same-equal (x ∷ xs) [] e = absurd (false≢true e)
+same-equal (x ∷ xs) (y ∷ ys) e = λ i. eqb-true x y (and-left (eqb x y) _ e) i ∷ same-equal xs ys (and-right (eqb x y) _ e) i
 
 -- ---- tables and sums
 

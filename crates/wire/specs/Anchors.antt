@@ -5,7 +5,7 @@ use mathlib.Core.Bool.{Bool, true, false}
 use mathlib.Core.List.{List, [], _∷_, map}
 use lib.Dec.{eqb, ltb}
 use Rattle.wire.specs.Numbers.{number, bytesOf, bit, flag, if_then_else_, magnitude, Bytes}
-use Rattle.wire.specs.Lists.{All, any, every, those, tabulate, sum, twice, falls, strictlyRises}
+use Rattle.wire.specs.Lists.{All, any, every, those, sameNumbers, tabulate, sum, twice, falls, strictlyRises}
 use Rattle.wire.specs.Judged.{Judged, thenJudge, row, _>>=_, _>>_}
 use Rattle.wire.specs.Judged.Judged.{refuse, accept}
 use Rattle.wire.specs.View.{verdictView}
@@ -64,6 +64,8 @@ pub record Lists : Type 0 where
   pub all : Fours (4 ∷ 4 ∷ []) × Fours []
   pub not-first : ¬ Fours (5 ∷ 4 ∷ [])
   pub not-last : ¬ Fours (4 ∷ 5 ∷ [])
+  pub alike : map (sameNumbers (4 ∷ 5 ∷ [])) lists ≡ false ∷ false ∷ false ∷ true ∷ false ∷ false ∷ false ∷ false ∷ false ∷ false ∷ []
+  pub none-alike : map (sameNumbers []) ([] ∷ (0 ∷ []) ∷ []) ≡ true ∷ false ∷ []
   -- "its start is the sum of the lengths before it"
   pub sums : map sum ([] ∷ (7 ∷ []) ∷ (1 ∷ 20 ∷ 300 ∷ []) ∷ []) ≡ 0 ∷ 7 ∷ 321 ∷ []
   pub tables : map (λ n. tabulate n (λ k. k + 10)) (0 ∷ 1 ∷ 3 ∷ []) ≡ [] ∷ (10 ∷ []) ∷ (10 ∷ 11 ∷ 12 ∷ []) ∷ []

@@ -2,7 +2,7 @@
 use Prim.Native.Nat.{ℕ, zero, suc, _+_}
 use mathlib.Core.List.{List, [], _∷_}
 use mathlib.Core.Bool.{Bool, true, false, cond, _&&_, _||_}
-use lib.Dec.{ltb}
+use lib.Dec.{eqb, ltb}
 
 abbrev pub All : {A : Type 0} → (A → Type 0) → List A → Type 0
 All P [] = Unit {0}
@@ -21,6 +21,13 @@ every f (x ∷ xs) = f x && every f xs
 abbrev pub those : {A : Type 0} → (A → Bool) → List A → List A
 those f [] = []
 those f (x ∷ xs) = cond (f x) (x ∷ those f xs) (those f xs)
+
+-- the same numbers in the same order
+abbrev pub sameNumbers : List ℕ → List ℕ → Bool
+sameNumbers [] [] = true
+sameNumbers [] (y ∷ ys) = false
+sameNumbers (x ∷ xs) [] = false
+sameNumbers (x ∷ xs) (y ∷ ys) = eqb x y && sameNumbers xs ys
 
 -- f 0, f 1 and so on, n of them
 abbrev pub tabulate : {A : Type 0} → ℕ → (ℕ → A) → List A

@@ -15,7 +15,7 @@ returns c =
     let n = k .before in
     let a = n .before .args in
     λ e j memory x shown told lent given. judges e j (a .v) memory x (a .f) given (a .before .status) _ shown
-    _ (n .word-of .ensures .0) _ (k .control-after .ensures) (t .status .ensures) _ (d .status-due .ensures)
+    _ (n .conditions-of .ensures) _ (k .control-after .ensures) (t .status .ensures) _ (d .status-due .ensures)
     (a .before .traction) told _ (r .traction-after .ensures) _ (o .own-of .ensures)
     (a .room) lent _ (w .writes-of .ensures) _ (s .size .ensures) _ (c .output-row .ensures)
 

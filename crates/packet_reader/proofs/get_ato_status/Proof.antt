@@ -8,4 +8,4 @@ unfolding valuesAt
 returns c = cc
 
 pub get-ato-status-spec : {M : Type 1} → statement M
-get-ato-status-spec = tie.close (tie.spec (search needs) (search needs) (search needs) returns)
+get-ato-status-spec = tie.close (tie.spec (search needs) (search needs) (search needs) (search needs) returns)

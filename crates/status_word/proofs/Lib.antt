@@ -1,0 +1,3 @@
+pub mod ConditionLaws
+pub mod Anchors
+pub mod Sentences

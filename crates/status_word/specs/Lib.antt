@@ -1,0 +1,4 @@
+pub mod Word
+pub mod View
+pub mod Anchors
+pub mod Sentences
