@@ -1,4 +1,6 @@
 // Books: segment records end to end, read and checked (7, 8), and look-ups in them.
+#![tactic(auto)]
+
 ghost use Rattle.std.specs.Prelude.{◌≡◌, List, ℕ, ◌^◌, ◌<◌, ◌≤◌, min, length, drop, take, get_or, eqb};
 ghost use Rattle.wire.specs.Numbers.{number};
 ghost use Rattle.wire.specs.Lists.{any, twice};
@@ -13,7 +15,7 @@ use segment_record::{Entry, MAX_RECORD_POINTS, SegmentRead};
 use wire::Verdict;
 
 // The records of a book in their order; none where a row refuses.
-#[derive(Drop)]
+#[derive(Clone, Copy)]
 pub struct Book {
     pub entries: [Entry; MAX_SEGMENTS],
     pub verdict: Verdict,
@@ -21,14 +23,14 @@ pub struct Book {
 }
 
 // How many records a book is to its end.
-#[derive(Drop)]
+#[derive(Clone, Copy)]
 enum Counted {
     Whole(usize),
     Bad,
 }
 
 // One pass over a book: its records are counted, and the first 40 are kept.
-#[derive(Drop)]
+#[derive(Clone, Copy)]
 struct Records {
     first: [Entry; MAX_SEGMENTS],
     counted: Counted,

@@ -1,4 +1,6 @@
 // The meaning of a call stands in specs/; here are its answer as a type, and what an engine shows.
+#![tactic(auto)]
+
 ghost use Rattle.std.specs.Prelude.{◌≡◌, ◌≤◌};
 ghost use Rattle.engine_value.specs.Engine.{max_points};
 ghost use Rattle.conditions.specs.Conditions.{all_conditions};
@@ -8,7 +10,7 @@ ghost use Rattle.call.specs.View.{shown_view};
 use engine_value::{Engine, MAX_POINTS};
 
 // State, request and bytes written, or the number of the row that refuses.
-#[derive(Drop)]
+#[derive(Clone, Copy)]
 pub enum Answer {
     Accepted {
         state: u8,
@@ -21,7 +23,7 @@ pub enum Answer {
 // What an engine shows: the state's code, whether AD is requested, the nine conditions as a number (condition 0 the least
 // significant bit), how many points the journey has, and where each stands: 0 not used, 1 targeted, 2 reached, 3 passed.
 #[repr(C)]
-#[derive(Drop)]
+#[derive(Clone, Copy)]
 pub struct Shown {
     pub state: u8,
     pub request: bool,

@@ -1,1 +1,2 @@
 // Examples of calls: definitions and proofs only.
+#![tactic(auto)]

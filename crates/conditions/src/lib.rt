@@ -1,4 +1,6 @@
 // The nine conditions (001 §6.4.9).
+#![tactic(auto)]
+
 ghost use Rattle.std.specs.Prelude.{◌≡◌, map, ◌-◌};
 ghost use Rattle.wire.specs.Numbers.{flag};
 ghost use Rattle.engine_value.specs.Engine.{Route, route_in};
@@ -14,7 +16,7 @@ use status_word::OperationalConditions;
 
 // What the conditions look up in the journey: 4, the first point not passed is placed, or none is left; 6, the offset counts in a segment
 // of the journey; 7, it is outside of the zones.
-#[derive(Drop)]
+#[derive(Clone, Copy)]
 pub struct RouteConditions {
     pub profiles: bool,
     pub located: bool,

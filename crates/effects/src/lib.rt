@@ -1,4 +1,6 @@
 // What an event does, group by group and never as an engine, and the rows of the table of numbers that refuse it.
+#![tactic(auto)]
+
 ghost use Rattle.std.specs.Prelude.{◌≡◌, Bool, ℕ, ◌<◌};
 ghost use Rattle.engine_value.specs.Engine.{max_points};
 ghost use Rattle.wire.specs.Judged.{row};
@@ -26,7 +28,7 @@ use wire::Verdict;
 
 // The groups with the event's values, the head of a journey that was loaded and the NID_C of its packet, the points that changed, whether one
 // became reached, and conditions 4, 6 and 7 after it; where a row refuses, its number alone counts.
-#[derive(Drop)]
+#[derive(Clone, Copy)]
 pub struct Effect {
     pub verdict: Verdict,
     pub load: Load,
@@ -42,7 +44,7 @@ pub struct Effect {
 }
 
 // The effect of a load, with the new journey's arrays.
-#[derive(Drop)]
+#[derive(Clone, Copy)]
 pub struct LoadEffect {
     pub effect: Effect,
     pub points: [Point; MAX_POINTS],
@@ -50,7 +52,7 @@ pub struct LoadEffect {
 }
 
 // What a load leaves as it is.
-#[derive(Drop)]
+#[derive(Clone, Copy)]
 pub struct Kept {
     pub train: Train,
     pub inputs: Inputs,

@@ -1,1 +1,2 @@
 // The engagement rule and the AD request over every run of accepted events. Nothing is compiled.
+#![tactic(auto)]

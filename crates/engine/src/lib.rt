@@ -1,6 +1,8 @@
 // The event call: one event, with the profiles and the output memory that the host lends. It is read; power and state allow it; it looks up
 // the journey; it has its effect, which is judged; and what comes of it is stored and written. There is one engine variable and one way out,
 // and a load stands last: compiled, an event then copies the engine once, beside the arrays that it looks up.
+#![tactic(auto)]
+
 ghost use Rattle.std.specs.Prelude.{◌≡◌, false, true};
 ghost use Rattle.wire.specs.View.{verdict_view};
 ghost use Rattle.event.specs.Kinds.{kind_of};
@@ -21,7 +23,7 @@ use position::Found;
 use wire::Verdict;
 
 // What a call answers, the engine that it leaves, and whether that has another journey's points and segments.
-#[derive(Drop)]
+#[derive(Clone, Copy)]
 pub struct Stepped {
     pub engine: Engine,
     pub answer: Answer,

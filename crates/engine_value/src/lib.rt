@@ -1,5 +1,7 @@
 // The engine as a value: the journey in force, the train, how far it has come, and the ATO state. Numbers, bools and arrays of
 // plain structs, so that a host in C can hold it.
+#![tactic(auto)]
+
 ghost use Rattle.std.specs.Prelude.{◌≡◌};
 ghost use Rattle.engine_value.specs.Engine.{blank_segment, blank_point, no_load, fresh_train, fresh_inputs, fresh_control, no_traction, fresh};
 
@@ -25,7 +27,7 @@ pub const NO_OPERATIONAL: u32 = 4294967295;
 
 // An inhibition zone of a segment, both ends inside.
 #[repr(C)]
-#[derive(Drop)]
+#[derive(Clone, Copy)]
 pub struct Zone {
     pub start: u32,
     pub end: u32,
@@ -33,7 +35,7 @@ pub struct Zone {
 
 // A segment of the journey. It is placed if it and all before it are in the book; `start` is then counted from the journey's start.
 #[repr(C)]
-#[derive(Drop)]
+#[derive(Clone, Copy)]
 pub struct Segment {
     pub nidsp: u32,
     pub start: u32,
@@ -48,7 +50,7 @@ pub struct Segment {
 // A timing point of the journey. Where it is placed, `place` is counted from the journey's start, and `reach` is the reached distance R.
 // `spare` is always 0: room for one mark.
 #[repr(C)]
-#[derive(Drop)]
+#[derive(Clone, Copy)]
 pub struct Point {
     pub nidtp: u32,
     pub place: u32,
@@ -64,7 +66,7 @@ pub struct Point {
 
 // What a load settles beside the points and the segments; `ending` is the index of the End of Journey.
 #[repr(C)]
-#[derive(Drop)]
+#[derive(Clone, Copy)]
 pub struct Load {
     pub operational: u32,
     pub valid: bool,
@@ -75,14 +77,14 @@ pub struct Load {
 
 // The first point not passed, and whether it is reached: points before it are passed, later ones not used.
 #[repr(C)]
-#[derive(Drop)]
+#[derive(Clone, Copy)]
 pub struct Progress {
     pub next: u8,
     pub reached: bool,
 }
 
 #[repr(C)]
-#[derive(Drop)]
+#[derive(Clone, Copy)]
 pub struct Position {
     pub nidsp: u32,
     pub offset: u32,
@@ -92,7 +94,7 @@ pub struct Position {
 
 // Where the train is and how long it is, as the latest events tell.
 #[repr(C)]
-#[derive(Drop)]
+#[derive(Clone, Copy)]
 pub struct Train {
     pub position: Position,
     pub length: u32,
@@ -100,7 +102,7 @@ pub struct Train {
 
 // What the latest mode, lever and report events tell.
 #[repr(C)]
-#[derive(Drop)]
+#[derive(Clone, Copy)]
 pub struct Inputs {
     pub mode: u8,
     pub lever: u8,
@@ -109,7 +111,7 @@ pub struct Inputs {
 
 // The ATO state by its code, whether a press is pending, and the AD request.
 #[repr(C)]
-#[derive(Drop)]
+#[derive(Clone, Copy)]
 pub struct Control {
     pub state: u8,
     pub press: bool,
@@ -119,7 +121,7 @@ pub struct Control {
 // Range and Q_ATO_SupTB of the latest traction request, where they are remembered; else 0. `spare` is always 0: without it the engine would end in
 // a byte of padding.
 #[repr(C)]
-#[derive(Drop)]
+#[derive(Clone, Copy)]
 pub struct Traction {
     pub remembered: bool,
     pub range: u8,
@@ -129,7 +131,7 @@ pub struct Traction {
 
 // The journey's points and the driver skips of each, its segments, and the groups above.
 #[repr(C)]
-#[derive(Drop)]
+#[derive(Clone, Copy)]
 pub struct Engine {
     pub points: [Point; MAX_POINTS],
     pub skips: [bool; MAX_POINTS],

@@ -1,4 +1,6 @@
 // Events: one byte kind and what it carries, read and checked (1, 2).
+#![tactic(auto)]
+
 ghost use Rattle.std.specs.Prelude.{◌≡◌, ◌&&◌, leb};
 ghost use Rattle.event.specs.Kinds.{kind_of, row_of, role_of, is_report, is_load, is_off, is_skip, skip_given, skip_name, newer, carried, position_content, traction_content};
 ghost use Rattle.event.specs.Events.{event_rows, event_with, event_of};
@@ -41,13 +43,13 @@ pub const TRACTION: u8 = 14;
 const MAX_REQUEST: u8 = 100;
 
 // A traction or braking request as its byte in two's complement, and the content of the packet 61 that tells it.
-#[derive(Drop)]
+#[derive(Clone, Copy)]
 pub struct TractionRequest {
     pub request: u8,
     pub content: Requested,
 }
 
-#[derive(Drop)]
+#[derive(Clone, Copy)]
 pub enum Event {
     PowerOn,
     Configured,
@@ -66,7 +68,7 @@ pub enum Event {
 }
 
 // The row of the states that an event takes: one of its own, or that of the state before.
-#[derive(Drop)]
+#[derive(Clone, Copy)]
 pub enum Row {
     SwitchOn,
     Configure,
@@ -77,7 +79,7 @@ pub enum Row {
 }
 
 // An event, or the number that refuses it.
-#[derive(Drop)]
+#[derive(Clone, Copy)]
 pub enum EventRead {
     Event(Event),
     Refused(u8),

@@ -1,4 +1,6 @@
 // The packets of an accepted event, written one behind the other into the output memory.
+#![tactic(auto)]
+
 ghost use Rattle.std.specs.Prelude.{◌≡◌, ◌-◌, ◌≤◌, eqb};
 ghost use Rattle.std.proofs.lemmas.List.Edits.{sets};
 ghost use Rattle.wire.specs.Numbers.{flag, if◌then◌else◌};
@@ -18,7 +20,7 @@ use traction::Own;
 
 // What an event changes of the points: first, perhaps, a departure, a skip or its revocation; then the points from `from` to `to`, without that one,
 // pass; last, perhaps, the first point not passed becomes reached.
-#[derive(Drop)]
+#[derive(Clone, Copy)]
 pub struct Changes {
     pub first: bool,
     pub index: u8,
@@ -47,14 +49,14 @@ const EG: u8 = 5;
 const RECEIVED: u8 = 0;
 
 // The head of a journey that was loaded.
-#[derive(Drop)]
+#[derive(Clone, Copy)]
 pub enum Received {
     Nothing,
     Journey(Head),
 }
 
 // State, conditions and speed: a packet 68 is written when they change.
-#[derive(Drop)]
+#[derive(Clone, Copy)]
 pub struct Status {
     pub state: u8,
     pub conditions: OperationalConditions,
@@ -62,7 +64,7 @@ pub struct Status {
 }
 
 // What an event writes, beside the values of the engine after it; `nidc` is that of a packet 65, `own` what its kind alone writes.
-#[derive(Drop)]
+#[derive(Clone, Copy)]
 pub struct Writes {
     pub received: Received,
     pub nidc: u16,

@@ -1,4 +1,6 @@
 // Fields of layouts: numbers of a width that stand within their range, maps of bits, optional fields.
+#![tactic(auto)]
+
 ghost use Rattle.std.specs.Prelude.{◌≡◌, ◌∷◌, [], not, drop};
 ghost use Rattle.wire.specs.Numbers.{number, bit, if◌then◌else◌};
 ghost use Rattle.wire.specs.Lists.{every};
@@ -8,7 +10,7 @@ ghost use Rattle.fields.specs.View.{field_at};
 use wire::{be8, be16, be32};
 
 // The widths of the numbers in a layout.
-#[derive(Drop)]
+#[derive(Clone, Copy)]
 pub enum Width {
     One,
     Two,
@@ -16,7 +18,7 @@ pub enum Width {
 }
 
 // A number that was read and the position behind it.
-#[derive(Drop)]
+#[derive(Clone, Copy)]
 pub enum Field {
     Value(u32, usize),
     Bad,

@@ -1,4 +1,6 @@
 // An engine that the host lends and keeps, and the packet reader: the calls that C, Ada, C++ and Rust hosts link. host/hollwern.h declares them.
+#![tactic(auto)]
+
 ghost use Rattle.std.specs.Prelude.{◌≡◌, ◌≤◌};
 ghost use Rattle.engine_value.specs.Engine.{fresh};
 ghost use Rattle.call.specs.Call.{step_of};
@@ -22,7 +24,7 @@ const PATCH: u32 = 0;
 
 // State, request and bytes written, where accepted; else the number of the row that refuses. The fields of the other case are 0.
 #[repr(C)]
-#[derive(Drop)]
+#[derive(Clone, Copy)]
 pub struct Answer {
     pub accepted: bool,
     pub number: u8,

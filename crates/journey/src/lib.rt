@@ -1,4 +1,6 @@
 // Journeys: read whole (9).
+#![tactic(auto)]
+
 ghost use Rattle.std.specs.Prelude.{◌≡◌, [], ◌∷◌, not, ◌&&◌, ◌||◌, drop};
 ghost use Rattle.wire.specs.Numbers.{bit};
 ghost use Rattle.fields.specs.Parse.{map_fits};
@@ -26,14 +28,14 @@ const MAX_ALIGNMENT: u32 = 2;
 const MAX_STOPPING: u32 = 127;
 
 // The name of a segment.
-#[derive(Drop)]
+#[derive(Clone, Copy)]
 pub struct Name {
     pub nidc: u16,
     pub nidsp: u32,
 }
 
 // A timing point as the journey has it; `index` is that of its segment.
-#[derive(Drop)]
+#[derive(Clone, Copy)]
 pub struct JourneyPoint {
     pub nidtp: u32,
     pub index: u8,
@@ -45,7 +47,7 @@ pub struct JourneyPoint {
 }
 
 // NID_OPERATIONAL, the stamp and NID_ATOTS.
-#[derive(Drop)]
+#[derive(Clone, Copy)]
 pub struct Head {
     pub operational: u32,
     pub date: u16,
@@ -55,7 +57,7 @@ pub struct Head {
 }
 
 // A journey that was read; blank where 9 refuses.
-#[derive(Drop)]
+#[derive(Clone, Copy)]
 pub struct Journey {
     pub names: [Name; MAX_SEGMENTS],
     pub points: [JourneyPoint; MAX_POINTS],
@@ -66,38 +68,38 @@ pub struct Journey {
 }
 
 // A value that was read and the position behind it.
-#[derive(Drop)]
+#[derive(Clone, Copy)]
 enum NameRead {
     Read(Name, usize),
     Bad,
 }
 
-#[derive(Drop)]
+#[derive(Clone, Copy)]
 enum PointRead {
     Read(JourneyPoint, usize),
     Bad,
 }
 
-#[derive(Drop)]
+#[derive(Clone, Copy)]
 enum HeadRead {
     Read(Head, usize),
     Bad,
 }
 
 // How many items were read, and the position behind them.
-#[derive(Drop)]
+#[derive(Clone, Copy)]
 enum Listed {
     Read(u8, usize),
     Bad,
 }
 
-#[derive(Drop)]
+#[derive(Clone, Copy)]
 struct Names {
     names: [Name; MAX_SEGMENTS],
     listed: Listed,
 }
 
-#[derive(Drop)]
+#[derive(Clone, Copy)]
 struct Points {
     points: [JourneyPoint; MAX_POINTS],
     listed: Listed,

@@ -1,4 +1,6 @@
 // What the rows 10 to 12 look at in a journey: names, indices, NID_TPs, End of Journey; and 12 over the points as they are placed.
+#![tactic(auto)]
+
 ghost use Rattle.std.specs.Prelude.{◌≡◌, not, ◌&&◌, ◌||◌, map, ◌+◌, ◌≤◌, min, length, take, eqb, ltb};
 ghost use Rattle.wire.specs.Numbers.{flag, if◌then◌else◌};
 ghost use Rattle.wire.specs.Lists.{All, twice, falls, strictly_rises};
@@ -49,7 +51,7 @@ pub fn name_twice(j: Journey) -> bool
 }
 
 // What one pass over the points sees; `ending` is how many there are before the End of Journey.
-#[derive(Drop)]
+#[derive(Clone, Copy)]
 pub struct Seen {
     pub ends: usize,
     pub ending: u8,

@@ -1,4 +1,6 @@
 // The rows of the states over an effect, the packets that are due, and 16.
+#![tactic(auto)]
+
 ghost use Rattle.std.specs.Prelude.{◌≡◌, List, ℕ, length};
 ghost use Rattle.wire.specs.Judged.{Judged};
 ghost use Rattle.wire.specs.View.{verdict_view};
@@ -18,7 +20,7 @@ use traction::Own;
 use wire::Verdict;
 
 // The engine's groups after the event, what it writes, and in how many bytes; where a row refuses, its number alone counts.
-#[derive(Drop)]
+#[derive(Clone, Copy)]
 pub struct Judgement {
     pub verdict: Verdict,
     pub load: Load,
@@ -32,7 +34,7 @@ pub struct Judgement {
 }
 
 // What the packets of an event are judged against: state, conditions and speed before it, and what was remembered of the traction requests.
-#[derive(Drop)]
+#[derive(Clone, Copy)]
 pub struct Before {
     pub status: Status,
     pub traction: Traction,

@@ -1,1 +1,2 @@
 // Layouts of fixed size as values. Nothing is compiled.
+#![tactic(auto)]

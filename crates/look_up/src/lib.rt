@@ -1,5 +1,7 @@
 // What an event looks up in the journey's segments and points and in the driver skips, before anything is stored: every read of the engine's
 // arrays, but for the points of its packets, stands here.
+#![tactic(auto)]
+
 ghost use Rattle.std.specs.Prelude.{◌≡◌};
 ghost use Rattle.engine_value.specs.Engine.{route_in};
 ghost use Rattle.event.specs.Kinds.{role_of};
@@ -14,7 +16,7 @@ use timing::Reported;
 
 // Conditions 4, 6 and 7 before the event, the segment that the position after it names, what a position report brings, and the stop that a
 // driver skip names.
-#[derive(Drop)]
+#[derive(Clone, Copy)]
 pub struct LookedUp {
     pub before: RouteConditions,
     pub segment: Named,

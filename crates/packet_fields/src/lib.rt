@@ -1,4 +1,6 @@
 // What the packet reader answers, as one struct of numbers: an exported function can hand over no enum.
+#![tactic(auto)]
+
 ghost use Rattle.std.specs.Prelude.{◌≡◌, true};
 ghost use Rattle.packets.specs.Packets.{packet_fits, packet_of};
 ghost use Rattle.packet_fields.specs.View.{refused_view, begun_view, packet_fields_view, fields_view};
@@ -9,7 +11,7 @@ use packets::{AtoStatus, Header, JpReceived, Packet, TimingPoint, TractionBrake}
 // A packet that was read: its number as `kind`, its bytes as `size`, and its values. Else the number of the row that refuses.
 // All else is 0.
 #[repr(C)]
-#[derive(Drop)]
+#[derive(Clone, Copy)]
 pub struct PacketFields {
     pub accepted: bool,
     pub number: u8,

@@ -1,4 +1,6 @@
 // The reader of one packet.
+#![tactic(auto)]
+
 ghost use Rattle.std.specs.Prelude.{◌≡◌};
 ghost use Rattle.layout.specs.Layout.{values_at};
 ghost use Rattle.packets.specs.Layouts.{header_layout, header_of, kind62, kind65, kind68, kind61};
@@ -8,7 +10,7 @@ ghost use Rattle.packet_reader.specs.View.{read_view};
 use packets::{AtoStatus, Header, JpReceived, Packet, Requested, TimingPoint, TractionBrake};
 
 // The packet that was read, or the number of the refusal.
-#[derive(Drop)]
+#[derive(Clone, Copy)]
 pub enum PacketRead {
     Packet(Packet),
     Refused(u8),

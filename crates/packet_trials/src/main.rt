@@ -1,6 +1,8 @@
 // Trials of the packets' reader and writer, from standard input. A trial is five bytes (what is tried, the position, the sizes of name, packet and
 // memory), then name, packet and memory. It gives a line: its name, and R and the number of a refusal, or W and the count, or the packet's number and its
 // values in decimal, header first; after writing also the memory in hexadecimal. tests/inputs/packet_trials.rs has the trials.
+#![tactic(auto)]
+
 use packet_reader::PacketRead;
 use packet_writer::Written;
 use packets::{AtoStatus, Header, JpReceived, Packet, Requested, TimingPoint, TractionBrake};

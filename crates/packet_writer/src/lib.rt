@@ -1,4 +1,6 @@
 // The writer of one packet.
+#![tactic(auto)]
+
 ghost use Rattle.std.specs.Prelude.{◌≡◌, [], ◌∷◌, ◌++◌, min, ◌+◌, ◌%◌, take, drop};
 ghost use Rattle.std.proofs.lemmas.List.Edits.{sets};
 ghost use Rattle.wire.specs.Numbers.{bytes_of};
@@ -11,7 +13,7 @@ ghost use Rattle.packet_writer.specs.View.{written_view};
 use packets::{AtoStatus, Header, JpReceived, Packet, TimingPoint, TractionBrake};
 
 // The bytes that were written, or the number of the refusal.
-#[derive(Drop)]
+#[derive(Clone, Copy)]
 pub enum Written {
     Wrote(usize),
     Refused(u8),

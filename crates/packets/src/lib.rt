@@ -1,4 +1,6 @@
 // Recorder packets 61, 62, 65 and 68: their values, their sizes and the ranges of their fields.
+#![tactic(auto)]
+
 ghost use Rattle.std.specs.Prelude.{◌≡◌};
 ghost use Rattle.layout.specs.Layout.{fits};
 ghost use Rattle.packets.specs.Layouts.{header_layout};
@@ -9,7 +11,7 @@ use status_word::OperationalConditions;
 
 // SUBSET-140, Table 3.
 #[repr(C)]
-#[derive(Drop)]
+#[derive(Clone, Copy)]
 pub struct Header {
     pub nidc: u16,
     pub nidsp: u32,
@@ -20,7 +22,7 @@ pub struct Header {
 
 // Packet 62: SUBSET-140, Table 5. `q_eoj_reached` is Q_EOJ_REACHED, `stopping` the stopping data.
 #[repr(C)]
-#[derive(Drop)]
+#[derive(Clone, Copy)]
 pub struct TimingPoint {
     pub header: Header,
     pub nidc: u16,
@@ -33,7 +35,7 @@ pub struct TimingPoint {
 
 // Packet 65: SUBSET-140, Table 8.
 #[repr(C)]
-#[derive(Drop)]
+#[derive(Clone, Copy)]
 pub struct JpReceived {
     pub header: Header,
     pub nidc: u16,
@@ -46,7 +48,7 @@ pub struct JpReceived {
 
 // Packet 68: SUBSET-140, Table 11.
 #[repr(C)]
-#[derive(Drop)]
+#[derive(Clone, Copy)]
 pub struct AtoStatus {
     pub header: Header,
     pub state: u8,
@@ -55,7 +57,7 @@ pub struct AtoStatus {
 
 // The content of packet 61: SUBSET-140, Table 4. M_ATO_RTBRq, an INT16 there, as its unsigned 16 bits.
 #[repr(C)]
-#[derive(Drop)]
+#[derive(Clone, Copy)]
 pub struct Requested {
     pub m_ato_trabrrq: u8,
     pub m_ato_locobrrq: u8,
@@ -65,13 +67,13 @@ pub struct Requested {
 
 // Packet 61, Traction_Brake_Pneumatic_Brake_Requested.
 #[repr(C)]
-#[derive(Drop)]
+#[derive(Clone, Copy)]
 pub struct TractionBrake {
     pub header: Header,
     pub requested: Requested,
 }
 
-#[derive(Drop)]
+#[derive(Clone, Copy)]
 pub enum Packet {
     TimingPoint(TimingPoint),
     JpReceived(JpReceived),

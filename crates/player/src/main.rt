@@ -1,5 +1,7 @@
 // The player: reads events from standard input, hands each to the engine, and writes the lines of its answer. Where reading or writing fails
 // it says so on standard error and ends; the language has no exit status to give.
+#![tactic(auto)]
+
 ghost use Rattle.std.specs.Prelude.{◌+◌, ◌-◌, ◌≤◌, ◌≡◌, length, take, drop};
 ghost use Rattle.player_text.specs.Lines.{most_lines};
 ghost use Rattle.player.specs.Played.{left};
@@ -20,14 +22,14 @@ const MEMORY: usize = 4096;
 const TEXT: usize = 65536;
 
 // How much of the text is used, and whether everything could be written so far.
-#[derive(Drop)]
+#[derive(Clone, Copy)]
 struct Text {
     used: usize,
     open: bool,
 }
 
 // The engine after some events, the position behind them in the input, and whether everything could be written.
-#[derive(Drop)]
+#[derive(Clone, Copy)]
 struct After {
     engine: Engine,
     at: usize,
@@ -36,7 +38,7 @@ struct After {
 
 // What a turn leaves: the engine, how many bytes of the input are kept, and whether there is more to do: not where the input has ended or a
 // write failed.
-#[derive(Drop)]
+#[derive(Clone, Copy)]
 struct Turn {
     engine: Engine,
     kept: usize,

@@ -1,4 +1,6 @@
 // One event of the player's input: the engine's call, and the lines of its answer.
+#![tactic(auto)]
+
 ghost use Rattle.call.specs.Call.{step_of};
 ghost use Rattle.player_text.specs.View.{given_view};
 ghost use Rattle.player_step.specs.View.{lent, Plays};
@@ -8,7 +10,7 @@ use player_text::calls::Call;
 use player_text::{lines, parts};
 
 // An engine, and a position.
-#[derive(Drop)]
+#[derive(Clone, Copy)]
 pub struct Played {
     pub engine: Engine,
     pub at: usize,

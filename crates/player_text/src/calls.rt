@@ -9,14 +9,14 @@ ghost use Rattle.player_text.specs.View.{part_view, block_view, call_view};
 use crate::parts::{Part, bytes_of};
 
 // A block, or an input that is cut short.
-#[derive(Drop)]
+#[derive(Clone, Copy)]
 pub enum Block {
     Whole(Part),
     Short,
 }
 
 // An event and its profiles, and the position behind them.
-#[derive(Drop)]
+#[derive(Clone, Copy)]
 pub struct Call {
     pub event: Part,
     pub journey: Part,
@@ -24,7 +24,7 @@ pub struct Call {
     pub next: usize,
 }
 
-#[derive(Drop)]
+#[derive(Clone, Copy)]
 pub enum CallRead {
     Whole(Call),
     Short,

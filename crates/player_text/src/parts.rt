@@ -3,7 +3,7 @@ ghost use Rattle.std.specs.Prelude.{min, ◌≡◌, length, take, drop};
 ghost use Rattle.player_text.specs.View.{part_view};
 
 // From a start to an end.
-#[derive(Drop)]
+#[derive(Clone, Copy)]
 pub struct Part {
     pub start: usize,
     pub end: usize,

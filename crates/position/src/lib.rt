@@ -1,4 +1,6 @@
 // Where the train's front is, and where each timing point stands.
+#![tactic(auto)]
+
 ghost use Rattle.std.specs.Prelude.{◌≡◌, ◌<◌, ◌^◌, min, [], ◌∷◌};
 ghost use Rattle.engine_value.specs.Engine.{route_in, max_points};
 ghost use Rattle.wire.specs.Lists.{any, those};
@@ -13,7 +15,7 @@ use engine_value::{
 };
 
 // The index of a segment or a point of the journey.
-#[derive(Drop)]
+#[derive(Clone, Copy)]
 pub enum Found {
     At(usize),
     Nothing,
@@ -21,7 +23,7 @@ pub enum Found {
 
 // The journey segment that a position names, in numbers: whether there is one, whether it is in the book and placed, whether the offset is
 // in one of its zones, its start and its length.
-#[derive(Drop)]
+#[derive(Clone, Copy)]
 pub struct Named {
     pub found: bool,
     pub booked: bool,
@@ -32,28 +34,28 @@ pub struct Named {
 }
 
 // The stop of a name, and whether the driver skips it.
-#[derive(Drop)]
+#[derive(Clone, Copy)]
 pub struct Stop {
     pub at: Found,
     pub skipped: bool,
 }
 
 // The segments that the positions before and after an event name.
-#[derive(Drop)]
+#[derive(Clone, Copy)]
 pub struct Both {
     pub before: Named,
     pub after: Named,
 }
 
 // Where the train's front is, from the journey's start.
-#[derive(Drop)]
+#[derive(Clone, Copy)]
 pub enum Front {
     Known(u64),
     Unknown,
 }
 
 // Where a timing point stands.
-#[derive(Drop)]
+#[derive(Clone, Copy)]
 pub enum Standing {
     Unused,
     Targeted,

@@ -1,4 +1,6 @@
 // Journeys against a book (10 to 12), and what a load takes from both.
+#![tactic(auto)]
+
 ghost use Rattle.std.specs.Prelude.{◌≡◌, List, false, not, ◌&&◌, ◌||◌, ℕ, ◌+◌, ◌^◌, ◌<◌, length};
 ghost use Rattle.std.proofs.Math.Option.{none, some};
 ghost use Rattle.wire.specs.Numbers.{if◌then◌else◌};
@@ -23,7 +25,7 @@ use segment_record::{Entry, PointFound};
 use wire::Verdict;
 
 // What a load takes; blank where a row refuses.
-#[derive(Drop)]
+#[derive(Clone, Copy)]
 pub struct Loaded {
     pub verdict: Verdict,
     pub load: Load,
@@ -33,21 +35,21 @@ pub struct Loaded {
 }
 
 // The book's entry of a segment of the journey.
-#[derive(Drop)]
+#[derive(Clone, Copy)]
 enum Recorded {
     Record(Entry),
     Missing,
 }
 
 // The journey's segments, and beside each the book's entry, blank where there is none.
-#[derive(Drop)]
+#[derive(Clone, Copy)]
 struct Placing {
     segments: [Segment; MAX_SEGMENTS],
     entries: [Entry; MAX_SEGMENTS],
 }
 
 // The journey's points, and whether a booked segment lacks one.
-#[derive(Drop)]
+#[derive(Clone, Copy)]
 struct Points {
     points: [Point; MAX_POINTS],
     missing: bool,

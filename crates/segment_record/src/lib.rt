@@ -1,4 +1,6 @@
 // A segment record of a book: its bytes, and look-ups in it.
+#![tactic(auto)]
+
 ghost use Rattle.std.specs.Prelude.{◌+◌, ◌*◌, min, ◌≡◌, [], ◌∷◌, length, drop};
 ghost use Rattle.fields.specs.Parse.{map_fits, many, listed};
 ghost use Rattle.segment_record.specs.Record.{segment_record, lookup_point};
@@ -18,7 +20,7 @@ pub const MAX_RECORD_POINTS: usize = 16;
 const MAX_REACH: u32 = 10000;
 
 // A segment record that was read: its numbers, and where its lists stand in the book's bytes.
-#[derive(Drop)]
+#[derive(Clone, Copy)]
 pub struct Entry {
     pub points_at: usize,
     pub zones_at: usize,
@@ -29,42 +31,42 @@ pub struct Entry {
     pub zones: u8,
 }
 
-#[derive(Drop)]
+#[derive(Clone, Copy)]
 pub enum PointFound {
     Found { place: u32, reach: u32 },
     Missing,
 }
 
 // The inhibition zones of a record; those beyond the count are blank.
-#[derive(Drop)]
+#[derive(Clone, Copy)]
 pub struct Zones {
     pub count: u8,
     pub zones: [Zone; MAX_ZONES],
 }
 
 // The lists of a record.
-#[derive(Drop)]
+#[derive(Clone, Copy)]
 enum Kind {
     Points,
     Zones,
 }
 
 // The position behind what was read.
-#[derive(Drop)]
+#[derive(Clone, Copy)]
 enum Ends {
     At(usize),
     Bad,
 }
 
 // How many items a list has, where the first stands, and the position behind the last.
-#[derive(Drop)]
+#[derive(Clone, Copy)]
 enum Items {
     Read(u8, usize, usize),
     Bad,
 }
 
 // A record and the position behind it.
-#[derive(Drop)]
+#[derive(Clone, Copy)]
 pub enum SegmentRead {
     Record(Entry, usize),
     Bad,

@@ -1,4 +1,6 @@
 // The states, the ETCS mode and the lever by their codes, and rows 3 to 6 of the table of numbers, which go by state and kind.
+#![tactic(auto)]
+
 ghost use Rattle.std.specs.Prelude.{◌≡◌, ◌≤◌};
 ghost use Rattle.wire.specs.View.{verdict_view};
 ghost use Rattle.state_codes.specs.Codes.{code, state_at, is, mode_at, is_ad, lever_at, is_neutral, is_brake};
@@ -8,7 +10,7 @@ use event::{CONFIGURED, POWER_OFF, POWER_ON, PRESS};
 use wire::Verdict;
 
 // The states of document 01, by their codes 0 to 7 in this order.
-#[derive(Drop)]
+#[derive(Clone, Copy)]
 pub enum State {
     NP,
     CO,
@@ -21,14 +23,14 @@ pub enum State {
 }
 
 // The ETCS mode: 0 other, 1 AD.
-#[derive(Drop)]
+#[derive(Clone, Copy)]
 pub enum EtcsMode {
     Other,
     AD,
 }
 
 // The lever: 0 neutral, 1 traction, 2 brake.
-#[derive(Drop)]
+#[derive(Clone, Copy)]
 pub enum DriverLever {
     Neutral,
     Traction,

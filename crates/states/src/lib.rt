@@ -1,4 +1,6 @@
 // The rows of the states, the AD request, and the control group after an event.
+#![tactic(auto)]
+
 ghost use Rattle.std.specs.Prelude.{◌≡◌, false, not, ◌&&◌, ◌||◌};
 ghost use Rattle.state_codes.specs.Codes.{is_ad, is_brake};
 ghost use Rattle.states.specs.States.{machine, T, N, U, from_re, from_eg, from_de, by_state, machine_after, wanted, given};
@@ -10,7 +12,7 @@ use state_codes::{DriverLever, EtcsMode, State};
 use status_word::OperationalConditions;
 
 // What the rows look at, after an event: O, all nine conditions; T, the train conditions; the lever and the mode.
-#[derive(Drop)]
+#[derive(Clone, Copy)]
 pub struct Values {
     pub O: bool,
     pub T: bool,
@@ -19,7 +21,7 @@ pub struct Values {
 }
 
 // The state, and whether a press is pending.
-#[derive(Drop)]
+#[derive(Clone, Copy)]
 pub struct Machine {
     pub state: State,
     pub press: bool,

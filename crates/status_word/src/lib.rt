@@ -1,11 +1,13 @@
 // The word of packet 68 (document 02, Q-2): the nine conditions as zeros and ones, and their sum with the state.
+#![tactic(auto)]
+
 ghost use Rattle.std.specs.Prelude.{◌≡◌};
 ghost use Rattle.status_word.specs.Word.{status_word, conditions_of_word};
 ghost use Rattle.status_word.specs.View.{conditions_view, conditions_number, same_conditions, all_nine};
 
 // M_ATO_OPERATIONAL_CONDITIONS of packet 68, SUBSET-140's Table 11: conditions 0 to 8 in their order, each 0 or 1.
 #[repr(C)]
-#[derive(Drop)]
+#[derive(Clone, Copy)]
 pub struct OperationalConditions {
     pub etcs_fulfilled: u8,
     pub no_emergency_brake: u8,

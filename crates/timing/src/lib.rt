@@ -1,4 +1,6 @@
 // Timing points: d and margin, the load's target, the steps of a position report.
+#![tactic(auto)]
+
 ghost use Rattle.std.specs.Prelude.{◌≡◌, true, false, not, ◌&&◌, ◌-◌, ◌≤◌, ◌<◌, ◌^◌, ltb};
 ghost use Rattle.wire.specs.Numbers.{if◌then◌else◌};
 ghost use Rattle.engine_value.specs.Engine.{route_in, progress, max_points};
@@ -14,7 +16,7 @@ use position::{Front, Named};
 // What a position report brings: the progress after it, the first point looked at, whether one departed before that, and whether one became
 // reached. Points from `from` to the new `next`, without it, are passed. Condition 4 asks whether the first point not passed is placed, before
 // the report and after it.
-#[derive(Drop)]
+#[derive(Clone, Copy)]
 pub struct Reported {
     pub progress: Progress,
     pub from: u8,
@@ -115,7 +117,7 @@ pub fn target(e: Engine, s: Named) -> u8
 // ---- the position report
 
 // How far the points were looked at, and whether the first point not passed is placed, before the report and after it.
-#[derive(Drop)]
+#[derive(Clone, Copy)]
 struct Looked {
     progress: Progress,
     placed_before: bool,

@@ -1,1 +1,2 @@
 // Told once, in order: definitions and proofs only.
+#![tactic(auto)]

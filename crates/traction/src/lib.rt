@@ -1,4 +1,6 @@
 // Traction requests: their ranges, what is remembered of them, and the packet 61 that tells a change.
+#![tactic(auto)]
+
 ghost use Rattle.std.specs.Prelude.{◌≡◌};
 ghost use Rattle.std.proofs.Math.Option.{some};
 ghost use Rattle.event.specs.Kinds.{carried};
@@ -13,7 +15,7 @@ use packets::Requested;
 use state_codes::State;
 
 // What one kind of event alone writes: nothing, or a packet 61 with its content.
-#[derive(Drop)]
+#[derive(Clone, Copy)]
 pub enum Own {
     Nothing,
     TractionBrake(Requested),

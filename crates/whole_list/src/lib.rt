@@ -1,1 +1,2 @@
 // The whole list: definitions and proofs only.
+#![tactic(auto)]
