@@ -1,0 +1,18 @@
+use borrow.Author.Tests.{eq-eqb, ne_eqb}
+use mathlib.Core.Bool.{and-false}
+use Rattle.journey.proofs.point_map.Goals as goal
+
+pub returns-then-map-ne1 : goal.returns-then-map-ne1
+returns-then-map-ne1 c = rw (ne_eqb _ _ c.if-map-ne1.true)
+
+pub returns-then-map-ne1-2 : goal.returns-then-map-ne1-2
+returns-then-map-ne1-2 c = rw (ne_eqb _ _ c.if-map-ne1-2.true, and-false)
+
+pub returns-then-map-eq1 : goal.returns-then-map-eq1
+returns-then-map-eq1 c = rw (eq-eqb _ _ c.if-map-ne1.false, eq-eqb _ _ c.if-map-ne1-2.false, eq-eqb _ _ c.if-map-eq1.true)
+
+pub returns-then-map-eq1-2 : goal.returns-then-map-eq1-2
+returns-then-map-eq1-2 c = rw (eq-eqb _ _ c.if-map-ne1.false, eq-eqb _ _ c.if-map-ne1-2.false, ne_eqb _ _ c.if-map-eq1.false, eq-eqb _ _ c.if-map-eq1-2.true)
+
+pub returns-else-map-eq1-2 : goal.returns-else-map-eq1-2
+returns-else-map-eq1-2 c = rw (eq-eqb _ _ c.if-map-ne1.false, eq-eqb _ _ c.if-map-ne1-2.false, ne_eqb _ _ c.if-map-eq1.false, ne_eqb _ _ c.if-map-eq1-2.false)

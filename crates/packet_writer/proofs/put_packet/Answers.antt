@@ -1,0 +1,20 @@
+use Prim.Native.Nat.{ℕ}
+use mathlib.Core.Path.{◌∙◌, ap}
+use mathlib.Core.List.{List, ◌++◌}
+use lib.ListN.{take}
+use lib.Seq.{sets}
+use Rattle.packets.specs.Packets.{packet_bytes}
+use Rattle.packet_writer.proofs.Stores.{tail_lent, tail_back, sets-part}
+use Rattle.packet_writer.proofs.put_packet.Goals as goal
+
+pub returns : goal.returns
+returns c =
+    let b = c in
+    let d = b in
+    let s = d.args in
+    let l = s.out.now in
+    let e = d.within-start.ensures in
+    let same = tail_lent l s.at d.within-start.result e in
+    tail_back l s.at d.within-start.result _ e
+    ∙ ap (λ (x : List ℕ). take s.at l ++ x) (b.put_front.ensures ∙ ap (λ (x : List ℕ). sets x 0 (packet_bytes s.p)) same)
+    ∙ sets-part s.at l (packet_bytes s.p)

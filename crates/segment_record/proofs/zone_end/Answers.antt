@@ -1,0 +1,31 @@
+use Prim.Native.Nat.{ℕ}
+use mathlib.Core.Path.{ap}
+use native.Mathlib.Omega.{arith}
+use Rattle.fields.proofs.Answers.{field_told, field_read}
+use Rattle.segment_record.specs.Record.{zone_record}
+use Rattle.segment_record.specs.View.{ends_at}
+use Rattle.segment_record.specs.declared.Ends.{Ends}
+use Rattle.segment_record.proofs.zone_end.Goals as goal
+
+pub returns-in_default : goal.returns-in_default
+unfolding zone_record ends_at
+returns-in_default c =
+    let s = c.args.s.now in
+    let e1 = field_told s _ _ _ _ _ _ c.read_field.ensures c.in_default.is in
+    rw (e1)
+
+pub returns-in_default-read_field : goal.returns-in_default-read_field
+unfolding zone_record ends_at
+returns-in_default-read_field c =
+    let s = c.args.s.now in
+    let e1 = field_told s _ _ _ _ _ _ c.read_field.ensures c.in-Value.is in
+    let e2 = field_told s _ _ _ _ _ _ c.read_field-2.ensures c.in_default-read_field.is in
+    rw (e1, e2)
+
+pub returns : goal.returns
+unfolding zone_record ends_at
+returns c =
+    let s = c.args.s.now in
+    let e1 = field_read s _ _ _ _ _ _ _ c.read_field.ensures c.in-Value.is in
+    let e2 = field_read s _ _ _ _ _ _ _ c.read_field-2.ensures c.in-Value-read_field.is in
+    rw (e1.0, e2.0) (ap (λ (x : ℕ). Ends.At x) (omega (arith, e1.1, e2.1)))
