@@ -1,4 +1,4 @@
--- Document 01, "Book and journey": books in bytes, the numbers 7 and 8, and the look_up of a segment. Values are worked out from the paper.
+-- Document 01, "Book and journey": books in bytes, the numbers 7 and 8, and the look-up of a segment. Values are worked out from the paper.
 use Rattle.std.specs.Prelude.{ℕ, zero, suc, ◌≡◌, List, [], ◌∷◌, ◌++◌, map, true, false, length}
 use Rattle.std.proofs.Math.Option.{none, some}
 use Rattle.wire.specs.Judged.{Judged, then_judge}

@@ -1,7 +1,7 @@
 -- Document 01, the place "book" of the table of numbers.
 use Rattle.std.specs.Prelude.{ℕ, suc, List, map, Bool, ◌&&◌, ◌||◌, length, eqb, ltb}
 use Rattle.wire.specs.Lists.{any, twice}
-use Rattle.wire.specs.Judged.{Judged, then_judge, row, ◌>>=◌, ◌>>◌}
+use Rattle.wire.specs.Judged.{Judged, row, ◌>>=◌, ◌>>◌}
 use Rattle.fields.specs.Parse.{read}
 use Rattle.wire.specs.Judged.Judged.{accept}
 use Rattle.engine_value.specs.Engine.{max_segments}

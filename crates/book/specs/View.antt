@@ -1,6 +1,5 @@
 -- What the values of the code say of the book's bytes s.
-use Rattle.std.specs.Prelude.{ℕ, suc, ◌+◌, ◌*◌, ◌^◌, ◌<◌, min, ◌≡◌, List, [], ◌∷◌, map, length, take, replicate, eqb}
-use Rattle.wire.specs.Numbers.{if◌then◌else◌}
+use Rattle.std.specs.Prelude.{ℕ, suc, ◌+◌, ◌*◌, ◌^◌, ◌<◌, min, ◌≡◌, List, [], ◌∷◌, map, length, take, replicate, eqb, if◌then◌else◌}
 use Rattle.wire.specs.Lists.{All}
 use Rattle.wire.specs.Judged.{Judged}
 use Rattle.wire.specs.Judged.Judged.{refuse, accept}

@@ -1,6 +1,5 @@
 -- The tests of rows 13 and 15.
-use Rattle.std.specs.Prelude.{Bool, not, ◌&&◌}
-use Rattle.wire.specs.Numbers.{if◌then◌else◌}
+use Rattle.std.specs.Prelude.{Bool, not, ◌&&◌, if◌then◌else◌}
 use Rattle.engine_value.specs.declared.Position.{Position}
 use Rattle.position.specs.Position.{offset_defined}
 use Rattle.position.specs.declared.Named.{Named}

@@ -1,7 +1,6 @@
 -- Values that the definitions must give for the journey of position/Sample, worked out by hand from document 01, "Nine conditions": the End of
 -- Journey is point 3, the last point 4, which is not placed.
-use Rattle.std.specs.Prelude.{ℕ, ◌≡◌, List, [], ◌∷◌, map, Bool, true, false, eqb}
-use Rattle.wire.specs.Numbers.{if◌then◌else◌}
+use Rattle.std.specs.Prelude.{ℕ, ◌≡◌, List, [], ◌∷◌, map, Bool, true, false, eqb, if◌then◌else◌}
 use Rattle.engine_value.specs.Engine.{Route, blank_point, no_route, fresh_position, no_operational, progress, undefined}
 use Rattle.engine_value.specs.declared.Position.{Position}
 use Rattle.status_word.specs.View.{conditions_number}

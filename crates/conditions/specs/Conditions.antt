@@ -1,6 +1,6 @@
 -- The nine conditions (001 §6.4.9): functions of the journey in force, the reports, the position, and where each point stands.
-use Rattle.std.specs.Prelude.{ℕ, zero, suc, ◌+◌, ◌-◌, List, [], ◌∷◌, map, Bool, true, false, not, ◌&&◌, ◌||◌, ltb, leb}
-use Rattle.wire.specs.Numbers.{bit, flag, if◌then◌else◌}
+use Rattle.std.specs.Prelude.{ℕ, zero, suc, ◌+◌, ◌-◌, List, [], ◌∷◌, map, Bool, true, not, ◌&&◌, ◌||◌, ltb, leb, if◌then◌else◌}
+use Rattle.wire.specs.Numbers.{bit, flag}
 use Rattle.engine_value.specs.Engine.{Route}
 use Rattle.engine_value.specs.declared.Load.{Load}
 use Rattle.engine_value.specs.declared.Position.{Position}

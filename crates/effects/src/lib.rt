@@ -131,7 +131,7 @@ fn plain(e: Engine, verdict: Verdict, after: RouteConditions) -> Effect
 
 // ---- the values that an event brings
 
-// Test behind test, with one way out: where each returned by itself, the compiled step would copy the engine twice more.
+// Test behind test, with one way out: where each returned by itself, more copies of the engine were compiled.
 fn train_with(e: Engine, v: Event) -> Train
     ensures { result ≡ train_with e (carried v) }
 {

@@ -1,6 +1,6 @@
 // The event call: one event, with the profiles and the output memory that the host lends. It is read; power and state allow it; it looks up
 // the journey; it has its effect, which is judged; and what comes of it is stored and written. There is one engine variable and one way out,
-// and a load stands last: compiled, an event then copies the engine once, beside the arrays that it looks up.
+// and a load stands last, so that few copies of the engine are compiled (docs/DECISIONS.md, "Cost of the by-value form").
 #![tactic(auto)]
 
 ghost use Rattle.std.specs.Prelude.{◌≡◌, false, true};

@@ -1,5 +1,5 @@
 -- The engine as a value: blank elements, fresh.
-use Rattle.std.specs.Prelude.{ℕ, List, ◌++◌, Bool, true, false, replicate, take}
+use Rattle.std.specs.Prelude.{ℕ, List, ◌++◌, Bool, false, replicate, take}
 use Rattle.engine_value.specs.declared.Zone.{Zone}
 use Rattle.engine_value.specs.declared.Segment.{Segment}
 use Rattle.engine_value.specs.declared.Point.{Point}

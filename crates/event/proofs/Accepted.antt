@@ -1,4 +1,5 @@
 -- What an accepted event tells: its fields are in their ranges, and its kind is the first byte.
+use Rattle.std.specs.Prelude.{if◌then◌else◌}
 use Prim.Native.Nat.{ℕ, ◌+◌, ◌≤◌}
 use mathlib.Core.Path.{◌≡◌, refl, sym, subst}
 use mathlib.Core.List.{List, [], ◌∷◌}
@@ -7,7 +8,7 @@ use lib.ListN.{length, get_or}
 use lib.Dec.{eqb, leb}
 use native.Mathlib.Omega.{arith}
 use borrow.Author.Tests.{eqb-true, leb-true}
-use Rattle.wire.specs.Numbers.{if◌then◌else◌, magnitude}
+use Rattle.wire.specs.Numbers.{magnitude}
 use Rattle.wire.specs.Judged.{Judged, then_judge, row}
 use Rattle.wire.specs.Judged.Judged.{refuse, accept}
 use Rattle.wire.proofs.ListLaws.{and_left, and_right}

@@ -11,6 +11,7 @@ use denote.Enum.Declared.{tag_of}
 use Rattle.wire.specs.Lists.{those}
 use Rattle.engine_value.specs.Engine.{fresh_position}
 use Rattle.event.specs.Kinds.{Role, off, load, report, other, skip, is_report, skip_name, no_request, kinds, role_of, carried}
+use Rattle.engine_value.specs.declared.Position.{Position}
 use Rattle.event.specs.declared.TractionRequest.{TractionRequest}
 use Rattle.event.specs.declared.Event.{Event}
 use Rattle.event.specs.contracts.Event.{the_type}
@@ -27,17 +28,17 @@ Otherwise d e = OneOf (others d) (tag_of the_type e)
 pub differs : (d e : Event) → T (not (has_key (others d) (tag_of the_type d))) → Otherwise d e → e ≡ d → ⊥
 differs d e h k q = miss (others d) (tag_of the_type d) h (subst (Otherwise d) q k)
 
-pub no_report_lem : (e : Event) → Otherwise (Event.PositionReport fresh_position) e → is_report (role_of e) ≡ false
+pub no_report_lem : (e : Event) → ((x : Position) → e ≡ Event.PositionReport x → ⊥) → is_report (role_of e) ≡ false
 no_report_lem e k = go (role_of e) (known e).role
   where
     go : (r : Role) → OfRole r e → is_report r ≡ false
     go off q = refl
     go load q = refl
-    go report q = absurd (differs (Event.PositionReport q.0) e tt k q.1)
+    go report q = absurd (k q.0 q.1)
     go other q = refl
     go (skip t on) q = refl
 
-pub no_skip : (e : Event) → Otherwise (Event.Skip 0) e → Otherwise (Event.Revoke 0) e → 0 ≡ skip_name (role_of e)
+pub no_skip : (e : Event) → ((t : ℕ) → e ≡ Event.Skip t → ⊥) → ((t : ℕ) → e ≡ Event.Revoke t → ⊥) → 0 ≡ skip_name (role_of e)
 no_skip e k l = go (role_of e) (known e).role
   where
     go : (r : Role) → OfRole r e → 0 ≡ skip_name r
@@ -45,12 +46,12 @@ no_skip e k l = go (role_of e) (known e).role
     go load q = refl
     go report q = refl
     go other q = refl
-    go (skip t true) q = absurd (differs (Event.Skip t) e tt k q)
-    go (skip t false) q = absurd (differs (Event.Revoke t) e tt l q)
+    go (skip t true) q = absurd (k t q)
+    go (skip t false) q = absurd (l t q)
 
-pub no_traction_lem : (e : Event) → Otherwise (Event.Traction no_request) e → (carried e).traction ≡ none
+pub no_traction_lem : (e : Event) → ((x : TractionRequest) → e ≡ Event.Traction x → ⊥) → (carried e).traction ≡ none
 no_traction_lem e k = go (carried e).traction (traction-of e)
   where
     go : (y : Option TractionRequest) → OfTraction y e → y ≡ none
     go none q = refl
-    go (some x) q = absurd (differs (Event.Traction x) e tt k q)
+    go (some x) q = absurd (k x q)

@@ -1,8 +1,7 @@
 -- What each kind of event is: its number, what it carries, its row of the states, what it is to the journey and its points, and which value it
 -- brings. A kind is said here and nowhere else; reader, effects, rules and proofs go by content, row, role and value.
-use Rattle.std.specs.Prelude.{ℕ, Bool, true, false, List, [], ◌∷◌, eqb}
+use Rattle.std.specs.Prelude.{ℕ, Bool, true, false, List, [], ◌∷◌, eqb, if◌then◌else◌}
 use Rattle.std.proofs.Math.Option.{Option, none, some}
-use Rattle.wire.specs.Numbers.{if◌then◌else◌}
 use Rattle.layout.specs.Layout.{Field, Layout, Value as ValueOf, Values, field, to_highest}
 use Rattle.layout.specs.Layout.Content.{free, up_to, between, signed}
 use Rattle.engine_value.specs.Engine.{max2, max4, max_nidc, undefined, fresh_position, Value, mode, lever, reports, train_length, place}

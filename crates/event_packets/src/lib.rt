@@ -1,9 +1,9 @@
 // The packets of an accepted event, written one behind the other into the output memory.
 #![tactic(auto)]
 
-ghost use Rattle.std.specs.Prelude.{◌≡◌, ◌-◌, ◌≤◌, eqb};
+ghost use Rattle.std.specs.Prelude.{◌≡◌, ◌-◌, ◌≤◌, eqb, if◌then◌else◌};
 ghost use Rattle.std.proofs.lemmas.List.Edits.{sets};
-ghost use Rattle.wire.specs.Numbers.{flag, if◌then◌else◌};
+ghost use Rattle.wire.specs.Numbers.{flag};
 ghost use Rattle.engine_value.specs.Engine.{Route, route_in};
 ghost use Rattle.packets.specs.Packets.{joined};
 ghost use Rattle.position.specs.Position.{point, segment_named};

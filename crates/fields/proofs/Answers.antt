@@ -1,4 +1,5 @@
 -- What an answer tells of the slice s that was read.
+use Rattle.std.specs.Prelude.{if◌then◌else◌}
 use Prim.Native.Nat.{ℕ, ◌+◌}
 use mathlib.Core.Path.{◌≡◌, refl, sym, ap, ◌∙◌}
 use mathlib.Core.List.{List}
@@ -7,7 +8,6 @@ use lib.ListN.{drop}
 use lib.Seq.{drop-drop}
 use native.Mathlib.Nat.{add-zero}
 use native.Mathlib.Omega.{arith}
-use Rattle.wire.specs.Numbers.{if◌then◌else◌}
 use Rattle.fields.specs.Parse.{Parse, field, optional}
 use Rattle.fields.specs.Parse.Parse.{bad, good}
 use Rattle.fields.specs.View.{field_at}

@@ -1,10 +1,10 @@
 -- What holds of the values that a reader gives, where it gives any.
 use Prim.Native.Nat.{ℕ, zero, suc, ◌≤◌}
 use mathlib.Core.Path.{◌≡◌, refl, ap, subst}
-use mathlib.Core.List.{List, [], ◌∷◌}
+use mathlib.Core.List.{List, ◌∷◌}
 use mathlib.Core.Bool.{Bool, true, false}
 use native.Mathlib.Omega.{arith}
-use lib.ListN.{length, get_or}
+use lib.ListN.{length}
 use Rattle.wire.specs.Lists.{All}
 use Rattle.fields.specs.Parse.{Parse, Reader, and_then, field, optional, many, counted, listed}
 use Rattle.fields.specs.Parse.Parse.{bad, good}

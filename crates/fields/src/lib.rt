@@ -1,8 +1,8 @@
 // Fields of layouts: numbers of a width that stand within their range, maps of bits, optional fields.
 #![tactic(auto)]
 
-ghost use Rattle.std.specs.Prelude.{◌≡◌, ◌∷◌, [], not, drop};
-ghost use Rattle.wire.specs.Numbers.{number, bit, if◌then◌else◌};
+ghost use Rattle.std.specs.Prelude.{◌≡◌, ◌∷◌, [], not, drop, if◌then◌else◌};
+ghost use Rattle.wire.specs.Numbers.{number, bit};
 ghost use Rattle.wire.specs.Lists.{every};
 ghost use Rattle.fields.specs.Parse.{bytes, field, optional};
 ghost use Rattle.fields.specs.View.{field_at};

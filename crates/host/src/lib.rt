@@ -73,10 +73,13 @@ pub extern "C" fn hollwern_step(
 {
     let s = engine::step(*e, event, journey, book, out);
     if s.rewritten {
-        (*e).points = s.engine.points;
-        (*e).segments = s.engine.segments;
+        let points = s.engine.points;
+        let segments = s.engine.segments;
+        (*e).points = points;
+        (*e).segments = segments;
     }
-    (*e).skips = s.engine.skips;
+    let skips = s.engine.skips;
+    (*e).skips = skips;
     (*e).load = s.engine.load;
     (*e).train = s.engine.train;
     (*e).progress = s.engine.progress;

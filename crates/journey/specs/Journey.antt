@@ -2,7 +2,7 @@
 use Rattle.std.specs.Prelude.{ℕ, List, [], ◌∷◌, false, not, ◌||◌}
 use Rattle.wire.specs.Numbers.{bit}
 use Rattle.engine_value.specs.Engine.{max_nidc, max_nidtp, no_operational, max_segments, max_points}
-use Rattle.fields.specs.Parse.{Reader, and_then, field, free, bit_map, optional, give, must, counted, ◌>>=◌, ◌>>◌, whole}
+use Rattle.fields.specs.Parse.{Reader, field, free, bit_map, optional, give, must, counted, ◌>>=◌, ◌>>◌, whole}
 use Rattle.wire.specs.Judged.{Judged}
 use Rattle.journey.specs.declared.Name.{Name}
 use Rattle.journey.specs.declared.JourneyPoint.{JourneyPoint}

@@ -1,4 +1,5 @@
 -- One pass over the points of a journey, a turn of the loop each.
+use Rattle.std.specs.Prelude.{if◌then◌else◌}
 use Prim.Native.Nat.{ℕ, ◌+◌, ◌≤◌, ◌<◌}
 use mathlib.Core.Path.{◌≡◌, refl, sym, ap, ◌∙◌}
 use mathlib.Core.List.{List, [], ◌∷◌, ◌++◌}
@@ -7,7 +8,7 @@ use native.Mathlib.Omega.{arith}
 use lib.ListN.{length, take, drop, set, length-set}
 use lib.Dec.{eqb, ltb, leb}
 use borrow.Author.Tests.{eq-eqb, ne_eqb, eqb-true, eqb-false}
-use Rattle.wire.specs.Numbers.{flag, if◌then◌else◌}
+use Rattle.wire.specs.Numbers.{flag}
 use Rattle.wire.specs.Lists.{any, falls}
 use Rattle.wire.proofs.ListLaws.{falls_from, falls_from_lem}
 use Rattle.book.proofs.Keys.{copied_more, copied_all}

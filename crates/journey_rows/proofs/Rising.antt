@@ -1,11 +1,11 @@
 -- "placed points do not strictly rise", in the form of the loop.
+use Rattle.std.specs.Prelude.{if◌then◌else◌}
 use Prim.Native.Nat.{ℕ, ◌+◌}
 use mathlib.Core.Path.{◌≡◌, refl, ap, ◌∙◌}
 use mathlib.Core.List.{List, [], ◌∷◌}
 use mathlib.Core.Bool.{Bool, true, false, not, ◌&&◌, ◌||◌}
 use lib.Dec.{ltb, leb}
 use borrow.Author.Tests.{lt-ltb, le-ltb, leb-true, leb-false}
-use Rattle.wire.specs.Numbers.{if◌then◌else◌}
 use Rattle.wire.specs.Lists.{strictly_rises}
 use Rattle.wire.proofs.ListLaws.{rises_from, rises_from_lem}
 use Rattle.engine_value.specs.declared.Point.{Point}

@@ -1,6 +1,6 @@
 -- Document 01, the rows 10 to 12 of the table of numbers: what they look at in a journey.
-use Rattle.std.specs.Prelude.{ℕ, ◌+◌, List, [], ◌∷◌, map, Bool, ◌&&◌, length, eqb, leb}
-use Rattle.wire.specs.Numbers.{flag, if◌then◌else◌}
+use Rattle.std.specs.Prelude.{ℕ, ◌+◌, List, [], ◌∷◌, map, Bool, ◌&&◌, length, eqb, leb, if◌then◌else◌}
+use Rattle.wire.specs.Numbers.{flag}
 use Rattle.wire.specs.Lists.{any, those}
 use Rattle.engine_value.specs.declared.Point.{Point}
 use Rattle.journey.specs.Journey.{JourneyValue}

@@ -1,8 +1,8 @@
 // What the rows 10 to 12 look at in a journey: names, indices, NID_TPs, End of Journey; and 12 over the points as they are placed.
 #![tactic(auto)]
 
-ghost use Rattle.std.specs.Prelude.{◌≡◌, not, ◌&&◌, ◌||◌, map, ◌+◌, ◌≤◌, min, length, take, eqb, ltb};
-ghost use Rattle.wire.specs.Numbers.{flag, if◌then◌else◌};
+ghost use Rattle.std.specs.Prelude.{◌≡◌, not, ◌&&◌, ◌||◌, map, ◌+◌, ◌≤◌, min, length, take, eqb, ltb, if◌then◌else◌};
+ghost use Rattle.wire.specs.Numbers.{flag};
 ghost use Rattle.wire.specs.Lists.{All, twice, falls, strictly_rises};
 ghost use Rattle.engine_value.specs.Engine.{max_segments, max_points};
 ghost use Rattle.journey.specs.View.{names_view, value_view};

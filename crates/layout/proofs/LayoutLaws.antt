@@ -13,7 +13,7 @@ use borrow.Author.Tests.{eqb-true, leb-true, ltb-true}
 use Rattle.wire.specs.Numbers.{number, bytes_of, magnitude, Bytes}
 use Rattle.wire.proofs.NumberLaws.{length-bytes_of, number-bytes_of, number_bound, reread}
 use Rattle.wire.proofs.ListLaws.{and_left, and_right}
-use Rattle.layout.specs.Layout.{Part, Content, Field, Layout, Numbers, Value, Values, listed, weighed, packed, below, numbers_of, unpacked, bytes, size, values_at, parts_fit, content_fits, fits}
+use Rattle.layout.specs.Layout.{Part, Content, Layout, Numbers, Value, Values, listed, weighed, packed, below, numbers_of, unpacked, bytes, size, values_at, parts_fit, content_fits, fits}
 use Rattle.layout.specs.Layout.Content.{free, up_to, between, signed, weighted}
 
 -- ---- size
@@ -122,7 +122,7 @@ sum-taken most before [] n a = add-zero n
 sum-taken most before (p ∷ ps) n a =
     let w = p.weight in
     let rest = apart_rest most before p ps a in
-    let again : below ps n + sum_of ps (numbers_of ps n) ≡ n = sum-taken _ w ps n rest in
+    let again : below ps n + sum_of ps (numbers_of ps n) ≡ n = sum-taken (most + w * p.high) w ps n rest in
     let one : n % w + w * (below ps n / w) ≡ below ps n = ap (λ (k : ℕ). k + w * (below ps n / w)) (sym (below_mod _ w ps n rest)) ∙ mod-add-div (below ps n) w in
     sym (add_assoc (n % w) (w * (below ps n / w)) (sum_of ps (numbers_of ps n))) ∙ ap (λ (k : ℕ). k + sum_of ps (numbers_of ps n)) one ∙ again
 
@@ -131,7 +131,7 @@ sum_multiple : (most before : ℕ) (ps : List Part) (v : Numbers ps) → apart m
 sum_multiple most before [] v a = dvd-zero before
 sum_multiple most before (p ∷ ps) v a =
     let m = multiple most before p ps a in
-    dvd-add before (dvd-mul_right_of_dvd before m v.0) (dvd_trans before m (sum_multiple _ p.weight ps v.1 (apart_rest most before p ps a)))
+    dvd-add before (dvd-mul_right_of_dvd before m v.0) (dvd_trans before m (sum_multiple (most + p.weight * p.high) p.weight ps v.1 (apart_rest most before p ps a)))
 
 -- numbers in their ranges are what their sum is taken apart to
 taken-sum : (most before : ℕ) (ps : List Part) (v : Numbers ps) (n : ℕ) → apart most before ps ≡ true → n ≤ most → parts_fit ps v ≡ true

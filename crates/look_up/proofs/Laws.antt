@@ -1,4 +1,5 @@
 -- What holds of all that is looked up: the index of a stop, and what an event that is no position report leaves.
+use Rattle.std.specs.Prelude.{if◌then◌else◌}
 use Prim.Native.Nat.{ℕ, zero, suc, ◌+◌, ◌≤◌}
 use mathlib.Core.Path.{◌≡◌, refl}
 use mathlib.Core.List.{List}
@@ -6,7 +7,6 @@ use mathlib.Core.Bool.{Bool, true, false, ◌&&◌}
 use lib.ListN.{get_or}
 use lib.Dec.{eqb}
 use native.Mathlib.Omega.{arith}
-use Rattle.wire.specs.Numbers.{if◌then◌else◌}
 use Rattle.engine_value.specs.Engine.{route_in, max_points, blank_point}
 use Rattle.engine_value.specs.declared.Point.{Point}
 use Rattle.engine_value.specs.declared.Position.{Position}

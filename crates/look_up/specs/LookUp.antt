@@ -1,5 +1,5 @@
 -- What an event looks up in the journey in force and the driver skips.
-use Rattle.wire.specs.Numbers.{if◌then◌else◌}
+use Rattle.std.specs.Prelude.{if◌then◌else◌}
 use Rattle.engine_value.specs.Engine.{route_in}
 use Rattle.engine_value.specs.declared.Position.{Position}
 use Rattle.engine_value.specs.declared.Engine.{Engine}

@@ -1,4 +1,5 @@
 -- Bytes cut into packets: the first piece and the rest; and packets that were joined are cut again.
+use Rattle.std.specs.Prelude.{if◌then◌else◌}
 use Prim.Native.Nat.{ℕ, zero, suc, ◌+◌, ◌≤◌, min}
 use mathlib.Core.Path.{◌≡◌, refl, ap, ◌∙◌}
 use mathlib.Core.List.{List, [], ◌∷◌, ◌++◌, map}
@@ -8,7 +9,6 @@ use lib.Seq.{take-append_seam, drop-append_seam}
 use lib.Dec.{eqb}
 use native.Mathlib.Omega.{arith}
 use borrow.Author.Tests.{eqb-false, ne_eqb}
-use Rattle.wire.specs.Numbers.{if◌then◌else◌}
 use Rattle.packets.specs.Packets.{value_bytes, packet_bytes, joined, size_of, size_at, size_for, front_size, cut, cut_packets}
 use Rattle.packets.proofs.PacketLaws.{length-packet_bytes}
 use Rattle.packets.proofs.RoundTrips.{known}

@@ -8,7 +8,7 @@ use lib.Dec.{eqb, leb, leb-suc-zero, eqb-suc-zero}
 use borrow.Author.Tests.{lt-ltb, le-ltb}
 use native.Mathlib.Omega.{arith}
 use Rattle.wire.specs.Judged.Judged.{refuse, accept}
-use Rattle.layout.specs.Layout.{Values, bytes, fits}
+use Rattle.layout.specs.Layout.{bytes, fits}
 use Rattle.layout.proofs.LayoutLaws.{length-bytes, tests, tests_fit}
 use Rattle.packets.specs.Layouts.{header_layout, kind_size}
 use Rattle.packets.specs.View.{PacketValues, packet_view}

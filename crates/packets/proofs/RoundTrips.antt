@@ -1,5 +1,6 @@
 -- Writing and reading undo each other, in both orders; so no packet has two byte forms and no bytes have two readings.
-use Prim.Native.Nat.{ℕ, zero, suc, ◌+◌, ◌≤◌}
+use Rattle.std.specs.Prelude.{if◌then◌else◌}
+use Prim.Native.Nat.{ℕ, zero, suc, ◌≤◌}
 use mathlib.Core.Path.{◌≡◌, refl, sym, ap, ◌∙◌, subst}
 use mathlib.Core.List.{List, [], ◌∷◌, ◌++◌, append-nil}
 use mathlib.Core.Bool.{Bool, true, false, not, ◌&&◌}
@@ -8,12 +9,12 @@ use lib.ListN.{length, get_or, take, drop, drop_of_length-le, take-append-drop}
 use lib.Seq.{drop-cons, drop_at, take_at, length-take-le}
 use lib.Dec.{eqb, ltb, lit<, eqb-suc-zero}
 use borrow.Author.Tests.{eqb-true, eq-eqb, ltb-false}
-use Rattle.wire.specs.Numbers.{Bytes, if◌then◌else◌}
+use Rattle.wire.specs.Numbers.{Bytes}
 use Rattle.wire.specs.Lists.{All}
 use Rattle.wire.specs.Judged.{Judged, then_judge, row}
-use Rattle.wire.specs.Judged.Judged.{refuse, accept}
+use Rattle.wire.specs.Judged.Judged.{accept}
 use Rattle.wire.proofs.ListLaws.{and_left, and_right}
-use Rattle.layout.specs.Layout.{Values, bytes, size, values_at, fits}
+use Rattle.layout.specs.Layout.{Values, bytes, values_at, fits}
 use Rattle.layout.proofs.LayoutLaws.{length-bytes, sound, Typed, read-written as values-back, written_read as bytes_back, read_typed as values-typed}
 use Rattle.packets.specs.Layouts.{PacketKind, header_layout, content_at, kind_size, kinds}
 use Rattle.packets.specs.View.{PacketValues, packet_view}

@@ -8,7 +8,6 @@ use Rattle.packets.specs.declared.TimingPoint.{TimingPoint}
 use Rattle.packets.specs.declared.JpReceived.{JpReceived}
 use Rattle.packets.specs.declared.AtoStatus.{AtoStatus}
 use Rattle.packets.specs.declared.Requested.{Requested}
-use Rattle.packets.specs.declared.TractionBrake.{TractionBrake}
 use Rattle.packets.specs.declared.Packet.{Packet}
 
 abbrev pub header_view : Header → Values header_layout

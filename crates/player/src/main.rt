@@ -1,5 +1,5 @@
 // The player: reads events from standard input, hands each to the engine, and writes the lines of its answer. Where reading or writing fails
-// it says so on standard error and ends; the language has no exit status to give.
+// it says so on standard error and ends.
 #![tactic(auto)]
 
 ghost use Rattle.std.specs.Prelude.{◌+◌, ◌-◌, ◌≤◌, ◌≡◌, length, take, drop};
@@ -11,6 +11,8 @@ use engine_value::Engine;
 use player_text::calls::CallRead;
 use player_text::parts::Part;
 use player_text::{calls, lines, parts};
+use std::io;
+use std::io::Read;
 
 // An event with its profiles has 196,611 bytes at most (`call-there` of player_text/proofs/Room.antt), so that there is always room to read on.
 const INPUT: usize = 262144;
@@ -47,19 +49,21 @@ struct Turn {
 
 // The text so far is written out, and it answers whether that went well. After a write that failed nothing more is written: no line stands
 // behind one that is missing.
-fn flush(text: &[u8], t: Text) -> bool {
+fn flush<R: Print + Eprint>(rt: &R, text: &[u8], t: Text) -> bool {
     if !t.open {
         return false;
     }
-    let open = io::write_all(libc::STDOUT_FILENO, parts::front(text, t.used));
-    if !open {
-        os::fail(b"player: standard output");
+    match rt.write_all(parts::front(text, t.used)) {
+        Ok(()) => true,
+        Err(e) => {
+            let _ = eprintln!(rt; "player: standard output: {e}");
+            false
+        }
     }
-    open
 }
 
 // The lines of an event fit behind the text, or else it is written out first.
-fn with_room(text: &[u8], t: Text) -> Text
+fn with_room<R: Print + Eprint>(rt: &R, text: &[u8], t: Text) -> Text
     ensures { most_lines ≤ length text.now → result.used + most_lines ≤ length text.now }
 {
     if t.used < text.len() {
@@ -67,7 +71,7 @@ fn with_room(text: &[u8], t: Text) -> Text
             return t;
         }
     }
-    let open = flush(text, t);
+    let open = flush(rt, text, t);
     Text {
         used: 0,
         open: open,
@@ -75,7 +79,13 @@ fn with_room(text: &[u8], t: Text) -> Text
 }
 
 // Plays each event in s that is not cut short: the engine after them, and the position behind them.
-fn play_whole(e: Engine, s: &[u8], memory: &mut [u8], text: &mut [u8]) -> After
+fn play_whole<R: Print + Eprint>(
+    rt: &R,
+    e: Engine,
+    s: &[u8],
+    memory: &mut [u8],
+    text: &mut [u8],
+) -> After
     ensures { left result.engine memory.new (drop result.at s.now) ≡ Played·run (length s.now) e memory.old s.now }
 {
     let mut after = e;
@@ -86,14 +96,14 @@ fn play_whole(e: Engine, s: &[u8], memory: &mut [u8], text: &mut [u8]) -> After
     };
     loop {
         let CallRead::Whole(c) = calls::call_at(s, at) else {
-            let open = flush(text, t);
+            let open = flush(rt, text, t);
             return After {
                 engine: after,
                 at: at,
                 open: open,
             };
         };
-        let room = with_room(text, t);
+        let room = with_room(rt, text, t);
         let p = player_step::play(after, s, c, memory, text, room.used);
         after = p.engine;
         t = Text {
@@ -104,28 +114,36 @@ fn play_whole(e: Engine, s: &[u8], memory: &mut [u8], text: &mut [u8]) -> After
     }
 }
 
-fn tell_failed_read(got: isize) {
-    if got < 0 {
-        os::fail(b"player: standard input");
+fn tell_failed_read<R: Eprint>(rt: &R, got: &io::Result<usize>) {
+    if let Err(e) = got {
+        let _ = eprintln!(rt; "player: standard input: {e}");
     }
 }
 
 // Reads on behind the bytes that are kept, and answers how many there are then. A read that fails ends the input.
-fn read_more(input: &mut [u8], kept: usize) -> usize
+fn read_more<R: Eprint, I: Read>(rt: &R, from: &mut I, input: &mut [u8], kept: usize) -> usize
     ensures { take kept input.new ≡ take kept input.old }
 {
     if input.len() < kept {
         return kept;
     }
     let rest = &mut input[kept..];
-    let got = libc::read(libc::STDIN_FILENO, rest);
-    tell_failed_read(got);
-    kept + io::count(got, rest)
+    let got = from.read(rest);
+    tell_failed_read(rt, &got);
+    kept + got.unwrap_or(0)
 }
 
 // Reads on, plays each event that is whole then, and keeps what is behind them.
-fn one_turn(e: Engine, kept: usize, input: &mut [u8], memory: &mut [u8], text: &mut [u8]) -> Turn {
-    let end = read_more(input, kept);
+fn one_turn<R: Print + Eprint, I: Read>(
+    rt: &R,
+    from: &mut I,
+    e: Engine,
+    kept: usize,
+    input: &mut [u8],
+    memory: &mut [u8],
+    text: &mut [u8],
+) -> Turn {
+    let end = read_more(rt, from, input, kept);
     if end <= kept {
         return Turn {
             engine: e,
@@ -133,7 +151,7 @@ fn one_turn(e: Engine, kept: usize, input: &mut [u8], memory: &mut [u8], text: &
             more: false,
         };
     }
-    let p = play_whole(e, parts::front(input, end), memory, text);
+    let p = play_whole(rt, e, parts::front(input, end), memory, text);
     let after = p.engine;
     let rest = Part {
         start: p.at,
@@ -158,21 +176,28 @@ fn turns_left(turns: u64, more: bool) -> u64
 }
 
 // Nothing proves that the input ends, so the turns are counted down from a number that no run uses up.
-fn run(input: &mut [u8], memory: &mut [u8], text: &mut [u8]) {
+fn run<R: Print + Eprint, I: Read>(
+    rt: &R,
+    from: &mut I,
+    input: &mut [u8],
+    memory: &mut [u8],
+    text: &mut [u8],
+) {
     let mut e = engine_value::fresh();
     let mut kept = 0;
     let mut turns = u64::MAX;
     while turns > 0 {
-        let t = one_turn(e, kept, input, memory, text);
+        let t = one_turn(rt, from, e, kept, input, memory, text);
         e = t.engine;
         kept = t.kept;
         turns = turns_left(turns, t.more);
     }
 }
 
-fn main() {
+fn main(rt: HostRuntime) {
     let mut input = [0u8; INPUT];
     let mut memory = [0u8; MEMORY];
     let mut text = [0u8; TEXT];
-    run(&mut input, &mut memory, &mut text);
+    let mut from = rt.stdin();
+    run(&rt, &mut from, &mut input, &mut memory, &mut text);
 }

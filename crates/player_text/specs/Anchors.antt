@@ -1,7 +1,6 @@
 -- Values worked out by hand from document 01, "Player and trials"; text is in ASCII.
 use Rattle.std.specs.Prelude.{ℕ, ◌≡◌, true, false, List, [], ◌∷◌, map}
 use Rattle.wire.specs.Judged.Judged.{refuse, accept}
-use Rattle.fields.specs.Parse.{Parse}
 use Rattle.fields.specs.Parse.Parse.{bad, good}
 use Rattle.player_text.specs.Calls.{Given, call}
 use Rattle.player_text.specs.Lines.{hex, decimal, most_digits, hex_lines, lines, output_bytes}

@@ -1,7 +1,7 @@
 -- "The player reads standard input: two-byte length, event; after kind 11 also two-byte length and journey, two-byte length and book."
-use Rattle.std.specs.Prelude.{ℕ, List, [], Bool, true, false, length, take, drop, eqb, leb}
-use Rattle.wire.specs.Numbers.{number, if◌then◌else◌}
-use Rattle.fields.specs.Parse.{Parse, Reader, field, give, ◌>>=◌, ◌>>◌}
+use Rattle.std.specs.Prelude.{ℕ, List, [], Bool, true, false, length, take, drop, eqb, leb, if◌then◌else◌}
+use Rattle.wire.specs.Numbers.{number}
+use Rattle.fields.specs.Parse.{Reader, field, give, ◌>>=◌}
 use Rattle.fields.specs.Parse.Parse.{bad, good}
 use Rattle.engine_value.specs.Engine.{max2}
 use Rattle.event.specs.Kinds.{kind_of}

@@ -1,6 +1,6 @@
 -- "Each event gives a line: R and the number, or A, state, request, bytes (decimal), then a line of uppercase hexadecimal a packet."
-use Rattle.std.specs.Prelude.{ℕ, zero, suc, ◌+◌, ◌-◌, ◌/◌, ◌%◌, List, [], ◌∷◌, ◌++◌, Bool, take, ltb}
-use Rattle.wire.specs.Numbers.{flag, if◌then◌else◌}
+use Rattle.std.specs.Prelude.{ℕ, zero, suc, ◌+◌, ◌-◌, ◌/◌, ◌%◌, List, [], ◌∷◌, ◌++◌, Bool, take, ltb, if◌then◌else◌}
+use Rattle.wire.specs.Numbers.{flag}
 use Rattle.wire.specs.Judged.{Judged}
 use Rattle.wire.specs.Judged.Judged.{refuse, accept}
 use Rattle.packets.specs.Packets.{cut_packets}

@@ -1,4 +1,5 @@
 -- The definitions of specs/, one step at a time, as the loops take them.
+use Rattle.std.specs.Prelude.{if◌then◌else◌}
 use Prim.Native.Nat.{ℕ, zero, suc, ◌+◌, ◌-◌, ◌<◌, ◌≤◌, min}
 use mathlib.Core.Path.{◌≡◌, refl, sym, ap, ◌∙◌}
 use mathlib.Core.List.{List, [], ◌∷◌, ◌++◌}
@@ -11,7 +12,6 @@ use native.Mathlib.Nat.{zero-min, min-zero, suc-min-suc}
 use native.Mathlib.Numerals.{add-one}
 use lib.Seq.{take-suc}
 use Rattle.wire.specs.Lists.{any, those}
-use Rattle.wire.specs.Numbers.{if◌then◌else◌}
 use Rattle.wire.proofs.ListLaws as lists
 use Rattle.engine_value.specs.Engine.{Route, undefined, blank_point, progress, max_segments}
 use Rattle.engine_value.specs.declared.Zone.{Zone}

@@ -1,7 +1,6 @@
 -- The journey's segments and points, and the known position.
-use Rattle.std.specs.Prelude.{ℕ, ◌+◌, min, List, [], ◌∷◌, Bool, true, false, not, ◌&&◌, get_or, take, eqb, leb}
+use Rattle.std.specs.Prelude.{ℕ, ◌+◌, min, List, [], ◌∷◌, Bool, true, false, not, ◌&&◌, get_or, take, eqb, leb, if◌then◌else◌}
 use Rattle.wire.specs.Lists.{those, any}
-use Rattle.wire.specs.Numbers.{if◌then◌else◌}
 use Rattle.engine_value.specs.Engine.{Route, blank_point, undefined, max_points}
 use Rattle.engine_value.specs.declared.Zone.{Zone}
 use Rattle.engine_value.specs.declared.Load.{Load}

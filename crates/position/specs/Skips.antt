@@ -1,6 +1,5 @@
 -- Driver skips: "14 no stop of that name".
-use Rattle.std.specs.Prelude.{ℕ, zero, suc, ◌+◌, List, Bool, false, ◌&&◌, get_or, eqb}
-use Rattle.wire.specs.Numbers.{if◌then◌else◌}
+use Rattle.std.specs.Prelude.{ℕ, zero, suc, ◌+◌, List, Bool, false, ◌&&◌, get_or, eqb, if◌then◌else◌}
 use Rattle.engine_value.specs.Engine.{Route, route_in, blank_point}
 use Rattle.engine_value.specs.declared.Point.{Point}
 use Rattle.engine_value.specs.declared.Engine.{Engine}

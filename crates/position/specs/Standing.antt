@@ -1,6 +1,5 @@
 -- Where a point stands. Targeted, reached, passed, not used are document 01's terms (000 §7.2.1).
-use Rattle.std.specs.Prelude.{ℕ, Bool, true, false, ◌||◌, eqb, ltb}
-use Rattle.wire.specs.Numbers.{if◌then◌else◌}
+use Rattle.std.specs.Prelude.{ℕ, Bool, true, false, ◌||◌, eqb, ltb, if◌then◌else◌}
 use Rattle.engine_value.specs.declared.Progress.{Progress}
 use Rattle.position.specs.declared.Standing.{Standing}
 use Rattle.position.specs.declared.Standing.TheVariants.{Unused, Targeted, Reached, Passed}

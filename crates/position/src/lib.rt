@@ -1,10 +1,9 @@
 // Where the train's front is, and where each timing point stands.
 #![tactic(auto)]
 
-ghost use Rattle.std.specs.Prelude.{◌≡◌, ◌<◌, ◌^◌, min, [], ◌∷◌};
+ghost use Rattle.std.specs.Prelude.{◌≡◌, ◌<◌, ◌^◌, min, [], ◌∷◌, if◌then◌else◌};
 ghost use Rattle.engine_value.specs.Engine.{route_in, max_points};
 ghost use Rattle.wire.specs.Lists.{any, those};
-ghost use Rattle.wire.specs.Numbers.{if◌then◌else◌};
 ghost use Rattle.position.specs.Position.{points_loaded, in_zone, zones_of, bears, named, nothing_named, first, segment_named, front};
 ghost use Rattle.position.specs.Standing.{standing, standing_code};
 ghost use Rattle.position.specs.Skips.{stop_in, no_stop};

@@ -1,4 +1,5 @@
 -- Laws of placing, a step of a loop each.
+use Rattle.std.specs.Prelude.{if◌then◌else◌}
 use Prim.Native.Nat.{ℕ, zero, suc, ◌+◌, ◌*◌, ◌^◌, ◌≤◌, ◌<◌, min}
 use mathlib.Core.Path.{◌≡◌, refl, sym, ap, ◌∙◌}
 use mathlib.Core.List.{List, [], ◌∷◌, ◌++◌, map, append_assoc, append-nil}
@@ -10,8 +11,7 @@ use lib.ListN.{length, get_or, take, drop, set, replicate, length-take, get_or-m
 use lib.Seq.{take-suc, length-take-le, get_or-take}
 use lib.Dec.{leb, ltb}
 use borrow.Author.Tests.{leb-false, ltb-true, ltb-false}
-use Rattle.wire.specs.Numbers.{if◌then◌else◌}
-use Rattle.wire.specs.Lists.{All, any, every, tabulate, sum}
+use Rattle.wire.specs.Lists.{All, any, every, tabulate}
 use Rattle.wire.proofs.ListLaws.{one_more, any_false, any_same, map_same, map-append, every_append, sum-append, tabulate_more}
 use Rattle.engine_value.specs.Engine.{blank_segment, blank_point, filled}
 use Rattle.engine_value.specs.declared.Segment.{Segment}

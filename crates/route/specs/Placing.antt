@@ -1,7 +1,6 @@
 -- Document 01, "Book and journey": the journey's segments and points placed by the book.
-use Rattle.std.specs.Prelude.{ℕ, suc, ◌+◌, List, [], map, Bool, length, get_or, take}
+use Rattle.std.specs.Prelude.{ℕ, suc, ◌+◌, List, [], map, Bool, length, get_or, take, if◌then◌else◌}
 use Rattle.std.proofs.Math.Option.{Option, none, some}
-use Rattle.wire.specs.Numbers.{if◌then◌else◌}
 use Rattle.wire.specs.Lists.{every, tabulate, sum}
 use Rattle.engine_value.specs.Engine.{max_zones, blank_zone, filled}
 use Rattle.engine_value.specs.declared.Zone.{Zone}

@@ -1,6 +1,6 @@
 -- What a load takes from a journey and a book.
 use Rattle.std.specs.Prelude.{ℕ, List, true, length}
-use Rattle.wire.specs.Judged.{Judged, then_judge, ◌>>=◌}
+use Rattle.wire.specs.Judged.{Judged, ◌>>=◌}
 use Rattle.wire.specs.Judged.Judged.{accept}
 use Rattle.engine_value.specs.Engine.{max_segments, max_points, Route, blank_segment, blank_point, filled}
 use Rattle.engine_value.specs.declared.Load.{Load}

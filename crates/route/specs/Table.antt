@@ -1,7 +1,7 @@
 -- Document 01, the place "journey" of the table of numbers, against a book.
 use Rattle.std.specs.Prelude.{ℕ, List, Bool, not, ◌&&◌, ◌||◌, eqb}
 use Rattle.wire.specs.Lists.{any, twice, falls, strictly_rises}
-use Rattle.wire.specs.Judged.{Judged, then_judge, row, ◌>>=◌, ◌>>◌}
+use Rattle.wire.specs.Judged.{Judged, row, ◌>>=◌, ◌>>◌}
 use Rattle.wire.specs.Judged.Judged.{accept}
 use Rattle.segment_record.specs.Record.{BookSegment}
 use Rattle.book.specs.Book.{is_some}

@@ -1,9 +1,8 @@
 // Journeys against a book (10 to 12), and what a load takes from both.
 #![tactic(auto)]
 
-ghost use Rattle.std.specs.Prelude.{◌≡◌, List, false, not, ◌&&◌, ◌||◌, ℕ, ◌+◌, ◌^◌, ◌<◌, length};
+ghost use Rattle.std.specs.Prelude.{◌≡◌, List, false, not, ◌&&◌, ◌||◌, ℕ, ◌+◌, ◌^◌, ◌<◌, length, if◌then◌else◌};
 ghost use Rattle.std.proofs.Math.Option.{none, some};
-ghost use Rattle.wire.specs.Numbers.{if◌then◌else◌};
 ghost use Rattle.engine_value.specs.Engine.{max_segments};
 ghost use Rattle.wire.specs.Lists.{twice};
 ghost use Rattle.segment_record.specs.Record.{BookSegment};

@@ -1,8 +1,8 @@
 -- Document 01, "Book and journey": a segment record, and the look-up of a point in it.
-use Rattle.std.specs.Prelude.{ℕ, List, [], ◌∷◌, eqb}
+use Rattle.std.specs.Prelude.{ℕ, List, [], ◌∷◌, eqb, if◌then◌else◌}
 use Rattle.std.proofs.Math.Option.{Option, none, some}
-use Rattle.wire.specs.Numbers.{bit, if◌then◌else◌}
-use Rattle.fields.specs.Parse.{Reader, and_then, field, free, bit_map, give, listed, ◌>>=◌}
+use Rattle.wire.specs.Numbers.{bit}
+use Rattle.fields.specs.Parse.{Reader, field, free, bit_map, give, listed, ◌>>=◌}
 use Rattle.engine_value.specs.Engine.{max_nidc, max_nidtp, max_zones}
 use Rattle.engine_value.specs.declared.Zone.{Zone}
 

@@ -1,6 +1,6 @@
 -- The rows of the states, the press, the AD request.
-use Rattle.std.specs.Prelude.{Bool, true, false, not, ◌&&◌, ◌||◌, ℕ}
-use Rattle.wire.specs.Numbers.{bit, if◌then◌else◌}
+use Rattle.std.specs.Prelude.{Bool, true, false, not, ◌&&◌, ◌||◌, ℕ, if◌then◌else◌}
+use Rattle.wire.specs.Numbers.{bit}
 use Rattle.event.specs.declared.Event.{Event}
 use Rattle.event.specs.declared.Row.{Row}
 use Rattle.event.specs.declared.Row.TheVariants.{SwitchOn, Configure, SwitchOff, Fail, EngagePress, ByState}

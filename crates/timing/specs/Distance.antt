@@ -1,7 +1,6 @@
 -- d and margin, at a position report.
-use Rattle.std.specs.Prelude.{ℕ, ◌/◌, Bool, false, not, ◌&&◌, get_or, ℤ, pos, neg_ℤ, ◌-ℤ◌, eqb, ltb}
+use Rattle.std.specs.Prelude.{ℕ, ◌/◌, Bool, false, not, ◌&&◌, get_or, ℤ, pos, neg_ℤ, ◌-ℤ◌, eqb, ltb, if◌then◌else◌}
 use Rattle.std.specs.Int.Signed.{lt_z, le_z}
-use Rattle.wire.specs.Numbers.{if◌then◌else◌}
 use Rattle.engine_value.specs.Engine.{Route}
 use Rattle.engine_value.specs.declared.Point.{Point}
 use Rattle.engine_value.specs.declared.Position.{Position}

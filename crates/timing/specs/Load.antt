@@ -1,6 +1,5 @@
 -- "Load, judged on the new journey and book with no driver skip"
-use Rattle.std.specs.Prelude.{ℕ, zero, suc, ◌+◌, Bool, false, ◌&&◌}
-use Rattle.wire.specs.Numbers.{if◌then◌else◌}
+use Rattle.std.specs.Prelude.{ℕ, zero, suc, ◌+◌, Bool, false, ◌&&◌, if◌then◌else◌}
 use Rattle.engine_value.specs.Engine.{Route}
 use Rattle.engine_value.specs.declared.Position.{Position}
 use Rattle.position.specs.Position.{point_count, placed, known}

@@ -1,6 +1,5 @@
 -- "Position report": steps (a) and (b).
-use Rattle.std.specs.Prelude.{ℕ, zero, suc, ◌+◌, ◌-◌, min, List, [], ◌∷◌, Bool, false, not, ◌&&◌}
-use Rattle.wire.specs.Numbers.{if◌then◌else◌}
+use Rattle.std.specs.Prelude.{ℕ, zero, suc, ◌+◌, ◌-◌, min, List, [], ◌∷◌, Bool, false, not, ◌&&◌, if◌then◌else◌}
 use Rattle.engine_value.specs.Engine.{Route, progress, max_points}
 use Rattle.engine_value.specs.declared.Progress.{Progress}
 use Rattle.position.specs.Position.{point_count, placed, known}

@@ -1,7 +1,6 @@
 -- The history rule as a function: what came of each point, through the reports from the passing moment of the point before.
 -- It is proved to say the same as the rule with numbered moments.
-use Rattle.std.specs.Prelude.{List, [], ◌∷◌, ℕ, zero, suc, ltb}
-use Rattle.wire.specs.Numbers.{if◌then◌else◌}
+use Rattle.std.specs.Prelude.{List, [], ◌∷◌, ℕ, zero, suc, ltb, if◌then◌else◌}
 use Rattle.engine_value.specs.Engine.{Route}
 use Rattle.timing.specs.Distance.{Report, beyond, moving}
 use Rattle.timing.specs.History.{settles}

@@ -1,8 +1,7 @@
 // Timing points: d and margin, the load's target, the steps of a position report.
 #![tactic(auto)]
 
-ghost use Rattle.std.specs.Prelude.{◌≡◌, true, false, not, ◌&&◌, ◌-◌, ◌≤◌, ◌<◌, ◌^◌, ltb};
-ghost use Rattle.wire.specs.Numbers.{if◌then◌else◌};
+ghost use Rattle.std.specs.Prelude.{◌≡◌, true, false, not, ◌&&◌, ◌-◌, ◌≤◌, ◌<◌, ◌^◌, ltb, if◌then◌else◌};
 ghost use Rattle.engine_value.specs.Engine.{route_in, progress, max_points};
 ghost use Rattle.position.specs.Position.{point_count, placed, segment_named, is_known, front_at};
 ghost use Rattle.position.specs.View.{FrontBelow};

@@ -1,6 +1,5 @@
 -- TOLD ONCE, IN ORDER: a corollary over every list of calls, refused ones included, on one fresh engine. It assumes nothing.
-use Rattle.std.specs.Prelude.{◌≡◌, ◌↔◌, Bool, false, ◌&&◌, List, [], ◌∷◌, ◌++◌, map, ℕ, ◌+◌, ◌<◌, length, eqb, ltb, leb}
-use Rattle.wire.specs.Numbers.{if◌then◌else◌}
+use Rattle.std.specs.Prelude.{◌≡◌, ◌↔◌, Bool, false, ◌&&◌, List, [], ◌∷◌, ◌++◌, map, ℕ, ◌+◌, ◌<◌, length, eqb, ltb, leb, if◌then◌else◌}
 use Rattle.wire.specs.Lists.{any, those, tabulate}
 use Rattle.engine_value.specs.Engine.{Route}
 use Rattle.position.specs.Position.{point, point_count}

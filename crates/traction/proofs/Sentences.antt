@@ -1,4 +1,5 @@
 -- The range is that of the sentence: over every list of ranges, and for the sizes that some range of the table holds.
+use Rattle.std.specs.Prelude.{if◌then◌else◌}
 use mathlib.Core.Path.{◌≡◌, refl}
 use mathlib.Core.Bool.{Bool, true, false}
 use mathlib.Core.List.{List, [], ◌∷◌}
@@ -8,7 +9,6 @@ use native.Mathlib.Omega.{arith}
 use lib.Dec.{ltb}
 use lib.ListN.{length}
 use borrow.Author.Tests.{ltb-true}
-use Rattle.wire.specs.Numbers.{if◌then◌else◌}
 use Rattle.wire.specs.Lists.{every, tabulate}
 use Rattle.wire.proofs.ListLaws.{and_left, and_right}
 use Rattle.traction.specs.Ranges.{Range, ranges, holds, holds_at, lowest}

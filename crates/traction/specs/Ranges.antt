@@ -1,7 +1,6 @@
 -- Document 02, Q-1: the range of a traction request.
-use Rattle.std.specs.Prelude.{ℕ, zero, suc, Bool, false, ◌&&◌, List, [], ◌∷◌, leb}
+use Rattle.std.specs.Prelude.{ℕ, zero, suc, Bool, false, ◌&&◌, List, [], ◌∷◌, leb, if◌then◌else◌}
 use Rattle.std.proofs.Math.Option.{Option, none, some}
-use Rattle.wire.specs.Numbers.{if◌then◌else◌}
 
 -- the least and the greatest size that a range holds
 pub record Range : Type 0 where

@@ -1,7 +1,7 @@
 -- Document 02, Q-1: what is remembered of the traction requests, and when packet 61 is written.
-use Rattle.std.specs.Prelude.{ℕ, Bool, true, false, not, ◌&&◌, ◌||◌, eqb}
+use Rattle.std.specs.Prelude.{ℕ, Bool, true, false, not, ◌&&◌, ◌||◌, eqb, if◌then◌else◌}
 use Rattle.std.proofs.Math.Option.{Option, none, some}
-use Rattle.wire.specs.Numbers.{if◌then◌else◌, magnitude}
+use Rattle.wire.specs.Numbers.{magnitude}
 use Rattle.event.specs.Kinds.{is_off, role_of, carried}
 use Rattle.event.specs.declared.TractionRequest.{TractionRequest}
 use Rattle.event.specs.declared.Event.{Event}

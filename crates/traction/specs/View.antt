@@ -1,7 +1,6 @@
 -- What the engine's group and the code's answers stand for.
-use Rattle.std.specs.Prelude.{true}
+use Rattle.std.specs.Prelude.{true, if◌then◌else◌}
 use Rattle.std.proofs.Math.Option.{Option, none, some}
-use Rattle.wire.specs.Numbers.{if◌then◌else◌}
 use Rattle.engine_value.specs.Engine.{no_traction}
 use Rattle.engine_value.specs.declared.Traction.{Traction}
 use Rattle.packets.specs.declared.Requested.{Requested}

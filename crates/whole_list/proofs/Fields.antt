@@ -1,4 +1,5 @@
 -- The whole engine as a function of the history, and that it shows what the rules show.
+use Rattle.std.specs.Prelude.{if◌then◌else◌}
 use mathlib.Core.Path.{◌≡◌, refl, sym, ◌∙◌, ap}
 use mathlib.Core.Bool.{Bool, true, false, not, ◌&&◌, ◌||◌}
 use mathlib.Core.List.{List, [], ◌∷◌, map}
@@ -8,7 +9,7 @@ use lib.Dec.{eqb, leb}
 use lib.ListN.{length, get_or, set, replicate, length-set}
 use lib.Seq.{get_or-set_same, get_or-set_other}
 use borrow.Author.Tests.{eqb-true, eqb-false}
-use Rattle.wire.specs.Numbers.{flag, if◌then◌else◌}
+use Rattle.wire.specs.Numbers.{flag}
 use Rattle.status_word.specs.Word.{conditions_of}
 use Rattle.engine_value.specs.Engine.{train_of, inputs_of, Route, no_skips, progress, blank_point}
 use Rattle.engine_value.specs.declared.Point.{Point}

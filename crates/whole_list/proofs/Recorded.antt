@@ -1,4 +1,5 @@
 -- What an event writes is read again in memory, packet by packet; which packet 68 is the last one; and what it tells.
+use Rattle.std.specs.Prelude.{if◌then◌else◌}
 use mathlib.Core.Path.{◌≡◌, refl, ◌∙◌, ap}
 use mathlib.Core.Bool.{Bool, true, false}
 use mathlib.Core.List.{List, [], ◌∷◌, ◌++◌, map}
@@ -8,7 +9,6 @@ use native.Mathlib.Omega.{arith}
 use lib.ListN.{length, take, drop}
 use lib.Seq.{take-append_seam}
 use borrow.Author.Tests.{le-leb}
-use Rattle.wire.specs.Numbers.{if◌then◌else◌}
 use Rattle.engine_value.specs.Engine.{Route, max2, max4, undefined}
 use Rattle.engine_value.specs.declared.Position.{Position}
 use Rattle.journey.specs.declared.Head.{Head}
@@ -40,7 +40,7 @@ bytes-append (p ∷ ps) qs = ap (λ l. packet_bytes p ∷ l) (bytes-append ps qs
 pub newest-append : (o : Option (List ℕ)) (a b : List (List ℕ)) → newest o (a ++ b) ≡ newest (newest o a) b
 unfolding newest
 newest-append o [] b = refl
-newest-append o (p ∷ a) b = newest-append _ a b
+newest-append o (p ∷ a) b = newest-append (newest o (p ∷ [])) a b
 
 newest_split : (o : Option (List ℕ)) (ps qs : List Packet) → newest o (bytes_of_each (ps ++ qs)) ≡ newest (newest o (bytes_of_each ps)) (bytes_of_each qs)
 newest_split o ps qs = ap (newest o) (bytes-append ps qs) ∙ newest-append o (bytes_of_each ps) (bytes_of_each qs)

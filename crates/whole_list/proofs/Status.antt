@@ -1,4 +1,5 @@
 -- The last packet 68 names the state and the conditions of the history: it does so after each accepted call, by what that call wrote.
+use Rattle.std.specs.Prelude.{if◌then◌else◌}
 use mathlib.Core.Path.{◌≡◌, refl, sym, ◌∙◌, ap}
 use mathlib.Core.Logic.{◌≢◌}
 use mathlib.Core.Bool.{Bool, true, false, false≢true}
@@ -7,7 +8,6 @@ use mathlib.Core.Option.{Option, some}
 use Prim.Native.Nat.{ℕ}
 use lib.Dec.{eqb}
 use borrow.Author.Tests.{eqb-true, ne_eqb}
-use Rattle.wire.specs.Numbers.{if◌then◌else◌}
 use Rattle.status_word.specs.View.{same_conditions}
 use Rattle.packets.specs.Packets.{packet_bytes}
 use Rattle.status_word.proofs.ConditionLaws.{conditions_equal}

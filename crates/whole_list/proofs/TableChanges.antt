@@ -1,4 +1,5 @@
 -- The points that a report changes, by where they stand before and after it, are those that its steps change.
+use Rattle.std.specs.Prelude.{if◌then◌else◌}
 use mathlib.Core.Path.{◌≡◌, refl, sym, ◌∙◌, ap}
 use mathlib.Core.Logic.{◌⊎◌, inl, inr}
 use mathlib.Core.Bool.{Bool, true, false, not, ◌&&◌}
@@ -8,7 +9,6 @@ use native.Mathlib.Omega.{arith}
 use native.Mathlib.Nat.{eq-or-lt_of_le}
 use lib.Dec.{leb}
 use borrow.Author.Tests.{le-ltb, eq-eqb, leb-true, leb-false}
-use Rattle.wire.specs.Numbers.{if◌then◌else◌}
 use Rattle.wire.proofs.ListLaws.{and_right}
 use Rattle.engine_value.specs.Engine.{Route, progress}
 use Rattle.engine_value.specs.declared.Load.{Load}

@@ -1,7 +1,6 @@
 -- What stands recorded: the packets at the front of a call's memory, as that call left it.
-use Rattle.std.specs.Prelude.{List, [], ◌∷◌, ◌⊎◌, ◌≡◌, ℕ, take, get_or, eqb}
+use Rattle.std.specs.Prelude.{List, [], ◌∷◌, ◌⊎◌, ◌≡◌, ℕ, take, get_or, eqb, if◌then◌else◌}
 use Rattle.std.proofs.Math.Option.{Option, some}
-use Rattle.wire.specs.Numbers.{if◌then◌else◌}
 use Rattle.wire.specs.Judged.{Judged}
 use Rattle.wire.specs.Judged.Judged.{refuse, accept}
 use Rattle.packets.specs.Packets.{cut_packets}

@@ -1,7 +1,6 @@
 -- Document 02, Q-1: the range of the traction requests "as a fact of the events since EG", by the accepted calls alone. Nothing here is of crate `call`.
-use Rattle.std.specs.Prelude.{List, [], ◌∷◌, ◌++◌}
+use Rattle.std.specs.Prelude.{List, [], ◌∷◌, ◌++◌, if◌then◌else◌}
 use Rattle.std.proofs.Math.Option.{Option, none, some}
-use Rattle.wire.specs.Numbers.{if◌then◌else◌}
 use Rattle.event.specs.declared.TractionRequest.{TractionRequest}
 use Rattle.traction.specs.Requests.{Remembered, requested, made, forgets}
 use Rattle.whole_list.specs.Values.{History, event_of_call}

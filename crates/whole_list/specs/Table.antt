@@ -1,7 +1,6 @@
 -- The packets of an accepted call and the table of numbers, by the rules: functions of the history and the call. Nothing here is of crate `call`.
-use Rattle.std.specs.Prelude.{Bool, true, false, ◌||◌, List, [], ◌∷◌, ◌++◌, ℕ, zero, suc, ◌+◌, length, ltb, leb}
+use Rattle.std.specs.Prelude.{Bool, true, false, ◌||◌, List, [], ◌∷◌, ◌++◌, ℕ, zero, suc, ◌+◌, length, ltb, leb, if◌then◌else◌}
 use Rattle.std.proofs.Math.Option.{Option, none, some}
-use Rattle.wire.specs.Numbers.{if◌then◌else◌}
 use Rattle.wire.specs.Judged.{Judged, then_judge, row, ◌>>=◌, ◌>>◌}
 use Rattle.wire.specs.Judged.Judged.{refuse, accept}
 use Rattle.engine_value.specs.declared.Load.{Load}

@@ -1,8 +1,7 @@
 -- The values that the rules read. A history is the list of the accepted calls, the latest first; only their event, journey and book are looked at,
 -- decoded by the layouts' own definitions. Nothing here is of crate `call`, the engine's meaning of a call.
-use Rattle.std.specs.Prelude.{Bool, false, List, [], ◌∷◌, ◌++◌, ℕ, eqb}
+use Rattle.std.specs.Prelude.{Bool, false, List, [], ◌∷◌, ◌++◌, ℕ, eqb, if◌then◌else◌}
 use Rattle.std.proofs.Math.Option.{Option, none, some}
-use Rattle.wire.specs.Numbers.{if◌then◌else◌}
 use Rattle.wire.specs.Judged.Judged.{refuse, accept}
 use Rattle.engine_value.specs.Engine.{Value, mode, lever, reports, train_length, Route, no_route, fresh_position}
 use Rattle.engine_value.specs.declared.Position.{Position}

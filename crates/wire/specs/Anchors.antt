@@ -1,6 +1,6 @@
 -- Values worked out by hand from document 01, which the definitions must give.
-use Rattle.std.specs.Prelude.{ℕ, ◌+◌, ◌≡◌, Bool, true, false, List, [], ◌∷◌, map, eqb, ltb}
-use Rattle.wire.specs.Numbers.{number, bytes_of, bit, flag, if◌then◌else◌, magnitude, Bytes}
+use Rattle.std.specs.Prelude.{ℕ, ◌+◌, ◌≡◌, Bool, true, false, List, [], ◌∷◌, map, eqb, ltb, if◌then◌else◌}
+use Rattle.wire.specs.Numbers.{number, bytes_of, bit, flag, magnitude, Bytes}
 use Rattle.wire.specs.Lists.{All, any, every, those, same_numbers, tabulate, sum, twice, falls, strictly_rises}
 use Rattle.wire.specs.Judged.{Judged, then_judge, row, ◌>>=◌, ◌>>◌}
 use Rattle.wire.specs.Judged.Judged.{refuse, accept}

@@ -7,52 +7,44 @@ use Rattle.book.proofs.Whole.{book_bad, book_refused, book_many, book_fit, book_
 use Rattle.book.proofs.Entries.{few_points}
 use Rattle.book.proofs.read_book.Goals as goal
 
--- the records of a book that is read to its end
-all_read : (c : goal.After-known-told) → CountedIn c.args.s.now c.read-records.result.first (Counted.Whole c.counted.given.0.0)
-all_read c =
-    let r = c in
-    subst (CountedIn r.args.s.now r.read-records.result.first) c.counted.given.1 r.read-records.ensures
-
 pub returns-in_default : goal.returns-in_default
 returns-in_default c =
-    let r = c in
-    let s = r.args.s.now in
-    rw c.refused.ensures (book_refused s 7 (book_bad s (subst (CountedIn s r.read_records-all.result.first) c.in_default.is r.read_records-all.ensures)))
+    let s = c.args.s.now in
+    rw c.refused.ensures (book_refused s 7 (book_bad s (subst (CountedIn s c.read_records-all.result.first) c.in_default.is c.read_records-all.ensures)))
 
 pub returns-then-n-gt-MAX_SEGMENTS : goal.returns-then-n-gt-MAX_SEGMENTS
 returns-then-n-gt-MAX_SEGMENTS c =
-    let k = c in
-    let s = k.args.s.now in
-    let g = all_read k in
+    let all_read : CountedIn c.args.s.now c.read_records-all.result.first (Counted.Whole c.in-Whole.n) = subst (CountedIn c.args.s.now c.read_records-all.result.first) c.in-Whole.is c.read_records-all.ensures in
+    let s = c.args.s.now in
+    let g = all_read in
     rw c.refused-then-n-gt-MAX_SEGMENTS.ensures (book_refused s 8 (book_many s _ g.0 g.1 g.2.count c.if-n-gt-MAX_SEGMENTS.true))
 
 pub returns-then-segment_twice : goal.returns-then-segment_twice
 returns-then-segment_twice c =
-    let k = c in
-    let s = k.args.s.now in
-    let g = all_read k in
+    let all_read : CountedIn c.args.s.now c.read_records-all.result.first (Counted.Whole c.in-Whole.n) = subst (CountedIn c.args.s.now c.read_records-all.result.first) c.in-Whole.is c.read_records-all.ensures in
+    let s = c.args.s.now in
+    let g = all_read in
     let t = sym (c.segment_twice.ensures s) ∙ c.if-segment_twice.true in
     rw c.refused-then-segment_twice.ensures (book_refused s 8 (book_segment s _ _ g.0 g.1 g.2 c.if-n-gt-MAX_SEGMENTS.false t))
 
 pub point_twice-requires : goal.point_twice-requires
-point_twice-requires c κs =
-    let k = c in
-    let r = k in
-    let g = all_read k in
-    few_points r.args.s.now (take (min k.in-Whole.n 40) r.read_records-all.result.first) (book_fit _ _ _ g.0 g.1 g.2 c.if-n-gt-MAX_SEGMENTS.false)
+point_twice-requires c =
+    let all_read : CountedIn c.args.s.now c.read_records-all.result.first (Counted.Whole c.in-Whole.n) = subst (CountedIn c.args.s.now c.read_records-all.result.first) c.in-Whole.is c.read_records-all.ensures in
+    let g = all_read in
+    few_points c.args.s.now (take (min c.in-Whole.n 40) c.read_records-all.result.first) (book_fit _ _ _ g.0 g.1 g.2 c.if-n-gt-MAX_SEGMENTS.false)
 
 pub returns-then-point_twice : goal.returns-then-point_twice
 returns-then-point_twice c =
-    let k = c in
-    let s = k.args.s.now in
-    let g = all_read k in
+    let all_read : CountedIn c.args.s.now c.read_records-all.result.first (Counted.Whole c.in-Whole.n) = subst (CountedIn c.args.s.now c.read_records-all.result.first) c.in-Whole.is c.read_records-all.ensures in
+    let s = c.args.s.now in
+    let g = all_read in
     let t = sym (c.segment_twice.ensures s) ∙ c.if-segment_twice.false in
     rw c.refused-then-point_twice.ensures (book_refused s 8 (book_point_lem s _ _ g.0 g.1 g.2 c.if-n-gt-MAX_SEGMENTS.false t (sym c.point_twice.ensures ∙ c.if-point_twice.true)))
 
 pub returns : goal.returns
 returns c =
-    let k = c in
-    let s = k.args.s.now in
-    let g = all_read k in
+    let all_read : CountedIn c.args.s.now c.read_records-all.result.first (Counted.Whole c.in-Whole.n) = subst (CountedIn c.args.s.now c.read_records-all.result.first) c.in-Whole.is c.read_records-all.ensures in
+    let s = c.args.s.now in
+    let g = all_read in
     let t = sym (c.segment_twice.ensures s) ∙ c.if-segment_twice.false in
     book_good s _ _ g.0 g.1 g.2 c.if-n-gt-MAX_SEGMENTS.false t (sym c.point_twice.ensures ∙ c.if-point_twice.false)

@@ -1,11 +1,8 @@
 use mathlib.Core.Path.{sym, ap, ◌∙◌}
-use borrow.Author.Tests.{not-false, not-true}
+use borrow.Author.Tests.{not-false}
 use Rattle.position.specs.Position.{points_loaded}
 use Rattle.conditions.proofs.Laws.{none_left, one_left}
 use Rattle.conditions.proofs.profiles_there.Goals as goal
-
-pub returns-then-not-l : goal.returns-then-not-l
-returns-then-not-l c j l f = rw (sym (ap (λ l. l.valid) l) ∙ not-true _ c.if-not-l.true)
 
 pub returns-then-points_loaded-p : goal.returns-then-points_loaded-p
 returns-then-points_loaded-p c j l f = let s = c in

@@ -4,4 +4,4 @@ use Rattle.event.proofs.Otherwise.{no_report_lem}
 use Rattle.event.proofs.position_after.Goals as goal
 
 pub returns : goal.returns
-returns c = let e = c.args.e in sym (position_kept e _ (no_report_lem e c.in_default.keys2))
+returns c = let e = c.args.e in sym (position_kept e _ (no_report_lem e c.in_default.not-PositionReport))

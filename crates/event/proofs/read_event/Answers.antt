@@ -71,7 +71,7 @@ returns-in-14 c = c.read_traction.ensures ∙ of_kind _ c.if-s-eq0.false (Event.
 -- another number: 0, or one above those of all kinds
 pub returns-in-0 : goal.returns-in-0
 unfolding event_of_kind content_among
-returns-in-0 c = sym (of_number _ c.if-s-eq0.false 0 c.in-0.keys15)
+returns-in-0 c = sym (of_number _ c.if-s-eq0.false 0 c.in-0.in-0-own.keys15)
 
 pub returns-in-0-2 : goal.returns-in-0-2
-returns-in-0-2 c = unknown _ c.if-s-eq0.false c.in-0.rest.0
+returns-in-0-2 c = unknown _ c.if-s-eq0.false c.in-0.in-0-own.rest.0

@@ -10,26 +10,24 @@ use Rattle.event.proofs.read_traction.Goals as goal
 pub returns : goal.returns
 unfolding values_at
 returns c =
-    let m = c in
-    let b = m in
-    let e1 = b.be8-request.ensures in
-    let e2 = b.be8.ensures in
-    let e3 = b.be8-2.ensures in
-    let e4 = b.be8-3.ensures in
-    let e5 = b.be16.ensures in
+    let e1 = c.be8-request.ensures in
+    let e2 = c.be8.ensures in
+    let e3 = c.be8-2.ensures in
+    let e4 = c.be8-3.ensures in
+    let e5 = c.be16.ensures in
     c.event_rows.ensures ∙
     rw (
       ← of-tests traction_content,
-      m.magnitude.ensures,
+      c.magnitude.ensures,
       ← e1,
       ← e2,
       ← e3,
       ← e4,
       ← e5,
-      le-leb b.be8.result 255 (omega arith),
-      le-leb b.be8-2.result 255 (omega arith),
-      le-leb b.be8-3.result 255 (omega arith),
-      le-leb b.be16.result 65535 (omega arith),
+      le-leb c.be8.result 255 (omega arith),
+      le-leb c.be8-2.result 255 (omega arith),
+      le-leb c.be8-3.result 255 (omega arith),
+      le-leb c.be16.result 65535 (omega arith),
       and-true,
       and-true,
       and-true,

@@ -1,4 +1,4 @@
-use Prim.Native.Nat.{◌-◌, ◌<◌, min}
+use Prim.Native.Nat.{◌<◌, min}
 use mathlib.Core.Path.{◌≡◌, refl, ◌∙◌}
 use lib.ListN.{length, get_or, length-set, length-take}
 use lib.Seq.{get_or-take}

@@ -1,4 +1,4 @@
-use Prim.Native.Nat.{◌-◌, min}
+use Prim.Native.Nat.{min}
 use mathlib.Core.Path.{◌≡◌, refl, sym, ◌∙◌}
 use lib.ListN.{length, take}
 use native.Mathlib.Omega.{arith}
@@ -14,26 +14,26 @@ pub returns-then-n-i : goal.returns-then-n-i
 returns-then-n-i c =
     let w = c.loop-i in
     let a = c.args in
-    let z : length a.t1 ≡ 64 = c.well-formed.0.1.0.1 in
-    sym (w.invariant ∙ rw (left_none blank_point (min a.n 64) w.i a.t1 (omega arith))) ∙ places_fall (take (min a.n 64) a.t1)
+    let z : length a.points ≡ 64 = c.well_formed.0.1.0.1 in
+    sym (w.invariant ∙ rw (left_none blank_point (min a.n 64) w.i a.points (omega arith))) ∙ places_fall (take (min a.n 64) a.points)
 
 pub returns-then-falls : goal.returns-then-falls
 returns-then-falls c =
     let w = c.loop-i in
     let a = c.args in
-    let z : length a.t1 ≡ 64 = c.well-formed.0.1.0.1 in
-    sym (w.invariant ∙ rw (left_more blank_point (min a.n 64) w.i a.t1 (omega arith) (omega arith), sym c.falls.ensures ∙ c.if-falls.true)) ∙ places_fall (take (min a.n 64) a.t1)
+    let z : length a.points ≡ 64 = c.well_formed.0.1.0.1 in
+    sym (w.invariant ∙ rw (left_more blank_point (min a.n 64) w.i a.points (omega arith) (omega arith), sym c.falls.ensures ∙ c.if-falls.true)) ∙ places_fall (take (min a.n 64) a.points)
 
 pub loop-i-preserved : goal.loop-i-preserved
 loop-i-preserved c =
     let w = c.loop-i in
     let a = c.args in
-    let z : length a.t1 ≡ 64 = c.well-formed.0.1.0.1 in
-    w.invariant ∙ rw (left_more blank_point (min a.n 64) w.i a.t1 (omega arith) (omega arith), sym c.falls.ensures ∙ c.if-falls.false, c.least_after-least.ensures)
+    let z : length a.points ≡ 64 = c.well_formed.0.1.0.1 in
+    w.invariant ∙ rw (left_more blank_point (min a.n 64) w.i a.points (omega arith) (omega arith), sym c.falls.ensures ∙ c.if-falls.false, c.least_after-least.ensures)
 
 pub returns : goal.returns
 returns c =
     let w = c.loop-i in
     let a = c.args in
-    let z : length a.t1 ≡ 64 = c.well-formed.0.1.0.1 in
-    sym (w.invariant ∙ rw (left_none blank_point (min a.n 64) w.i a.t1 (omega arith))) ∙ places_fall (take (min a.n 64) a.t1)
+    let z : length a.points ≡ 64 = c.well_formed.0.1.0.1 in
+    sym (w.invariant ∙ rw (left_none blank_point (min a.n 64) w.i a.points (omega arith))) ∙ places_fall (take (min a.n 64) a.points)

@@ -8,8 +8,7 @@ use Rattle.packet_fields.proofs.ato_status_fields.Goals as goal
 
 pub returns : goal.returns
 returns c =
-    let s = c in
-    let p = s.args.p in
-    let most = number-most p.conditions (fits_zeros p s.requires) in
+    let p = c.args.p in
+    let most = number-most p.conditions (fits_zeros p c.requires) in
     let number : conditions_number p.conditions % 65536 ≡ conditions_number p.conditions = omega arith in
     rw (c.number_of-number.ensures, c.begun-fields.ensures, number)

@@ -3,7 +3,7 @@ use Rattle.packets.specs.Packets.{packet_fits}
 use Rattle.packet_fields.proofs.packet_fields.Goals as goal
 
 pub ato_status_fields-requires : goal.ato_status_fields-requires
-ato_status_fields-requires c κs = ap packet_fits (sym c.in-AtoStatus.is) ∙ c.requires
+ato_status_fields-requires c = ap packet_fits (sym c.in-AtoStatus.is) ∙ c.requires
 
 pub returns-in-TimingPoint : goal.returns-in-TimingPoint
 returns-in-TimingPoint c = rw c.in-TimingPoint.is c.timing_point_fields.ensures

@@ -30,5 +30,5 @@ returns-in-61 c = rw (ne_eqb _ _ c.if-n-eq0.false, c.in-61.is, ← c.get_tractio
 pub returns-in_default : goal.returns-in_default
 unfolding packet_of
 returns-in_default c =
-    let r = c.in_default.rest in
+    let r = c.in_default.in_default-own.rest in
     rw (ne_eqb _ _ c.if-n-eq0.false, ne_eqb _ _ r.0.0.0.1, ne_eqb _ _ r.0.0.1, ne_eqb _ _ r.0.1, ne_eqb _ _ r.1)

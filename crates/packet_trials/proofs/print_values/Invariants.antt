@@ -4,7 +4,7 @@ use lib.ListN.{length}
 use Rattle.packet_trials.proofs.print_values.Given as goal
 
 abbrev pub invariant-loop-i : goal.invariant-loop-i
-invariant-loop-i l = l.i-end ≡ length l.row
+invariant-loop-i g l = l.i-end ≡ length l.row
 
 abbrev pub decreases-loop-i : goal.decreases-loop-i
-decreases-loop-i l = l.i-end - l.i
+decreases-loop-i g l = l.i-end - l.i

@@ -11,14 +11,13 @@ use Rattle.packet_writer.proofs.append_packet.Goals as goal
 
 pub returns-then-size-room : goal.returns-then-size-room
 returns-then-size-room c =
-    let d = c in
-    let s = d.args in
+    let s = c.args in
     let l = s.out.now in
     let fits : packet_fits s.p ≡ true = cc in
     let n = length-drop s.at l in
     let room : size_of s.p ≤ length (drop s.at l) = omega arith in
     let w = written_all s.p (drop s.at l) fits room in
-    (ap accept d.packet_size-size.ensures ∙ sym w.0, c.put_packet.ensures ∙ appended s.p s.at l room w.1)
+    (ap accept c.packet_size-size.ensures ∙ sym w.0, c.put_packet.ensures ∙ appended s.p s.at l room w.1)
 
 pub returns-else-size-room : goal.returns-else-size-room
 returns-else-size-room c =

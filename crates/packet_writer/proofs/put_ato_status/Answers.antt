@@ -15,12 +15,9 @@ use Rattle.packet_writer.proofs.put_ato_status.Goals as goal
 pub returns : goal.returns
 unfolding value_bytes bytes
 returns c =
-    let b = c in
-    let w = b in
-    let z = w in
-    let a = z.args in
+    let a = c.args in
     let word = status_word a.p.state (conditions_view a.p.conditions) in
     let h = header_view a.p.header in
-    rw (b.put16.ensures, w.word_of-word.ensures, bytes_of_mod 2 word, z.put_header.ensures)
+    rw (c.put16.ensures, c.word_of-word.ensures, bytes_of_mod 2 word, c.put_header.ensures)
     (behind-header a.out.now 68 h (bytes_of 2 word)
     ∙ ap (λ (content : List ℕ). sets a.out.now 0 (68 ∷ bytes header_layout h ++ content)) (sym (append-nil (bytes_of 2 word))))

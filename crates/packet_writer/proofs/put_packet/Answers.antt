@@ -9,12 +9,10 @@ use Rattle.packet_writer.proofs.put_packet.Goals as goal
 
 pub returns : goal.returns
 returns c =
-    let b = c in
-    let d = b in
-    let s = d.args in
+    let s = c.args in
     let l = s.out.now in
-    let e = d.within-start.ensures in
-    let same = tail_lent l s.at d.within-start.result e in
-    tail_back l s.at d.within-start.result _ e
-    ∙ ap (λ (x : List ℕ). take s.at l ++ x) (b.put_front.ensures ∙ ap (λ (x : List ℕ). sets x 0 (packet_bytes s.p)) same)
+    let e = c.within-start.ensures in
+    let same = tail_lent l s.at c.within-start.result e in
+    tail_back l s.at c.within-start.result _ e
+    ∙ ap (λ (x : List ℕ). take s.at l ++ x) (c.put_front.ensures ∙ ap (λ (x : List ℕ). sets x 0 (packet_bytes s.p)) same)
     ∙ sets-part s.at l (packet_bytes s.p)

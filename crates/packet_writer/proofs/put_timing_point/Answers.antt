@@ -9,12 +9,6 @@ use Rattle.packet_writer.proofs.put_timing_point.Goals as goal
 pub returns : goal.returns
 unfolding value_bytes bytes bytes_of
 returns c =
-    let e = c in
-    let d = e in
-    let b = d in
-    let a = b in
-    let z = a in
-    let s = z in
-    let p = s.args.p in
-    let byte : p.stopping % 256 ≡ p.stopping = omega (arith, s.well-formed) in
-    rw (e.put8-2.ensures, d.put8.ensures, d.info_byte.ensures, b.put32.ensures, a.put16.ensures, z.put_header.ensures, byte)
+    let p = c.args.p in
+    let byte : p.stopping % 256 ≡ p.stopping = omega (arith, c.well_formed) in
+    rw (c.put8-2.ensures, c.put8.ensures, c.info_byte.ensures, c.put32.ensures, c.put16.ensures, c.put_header.ensures, byte)

@@ -6,5 +6,4 @@ use Rattle.packets.proofs.ato_status_fits.Goals as goal
 
 pub returns : goal.returns
 returns c =
-    let b = c in
-    rw b.header_fits.ensures (tests_alone (packet_view (Packet.AtoStatus b.args.p)) refl)
+    rw c.header_fits.ensures (tests_alone (packet_view (Packet.AtoStatus c.args.p)) refl)

@@ -6,6 +6,5 @@ use Rattle.packets.proofs.jp_received_fits.Goals as goal
 
 pub returns : goal.returns
 returns c =
-    let b = c in
-    let p = b.args.p in
-    rw (b.header_fits.ensures, ← zero-only p.status) (tests_alone (packet_view (Packet.JpReceived p)) refl)
+    let p = c.args.p in
+    rw (c.header_fits.ensures, ← zero-only p.status) (tests_alone (packet_view (Packet.JpReceived p)) refl)

@@ -5,5 +5,4 @@ use Rattle.packets.proofs.timing_point_fits.Goals as goal
 
 pub returns : goal.returns
 returns c =
-    let b = c in
-    rw b.header_fits.ensures (tests_values (packet_view (Packet.TimingPoint b.args.p)))
+    rw c.header_fits.ensures (tests_values (packet_view (Packet.TimingPoint c.args.p)))

@@ -1,6 +1,5 @@
 use mathlib.Core.Path.{◌∙◌, sym}
 use native.Mathlib.Omega.{arith}
-use borrow.Author.Tests.{not-true, not-false}
 use Rattle.wire.specs.Numbers.{bit}
 use Rattle.fields.proofs.Answers.{field_told, field_read}
 use Rattle.fields.specs.Parse.{bit_map}
@@ -23,14 +22,14 @@ unfolding segment_record bit_map segment_at
 returns-then-not-segment_map c =
     let s = c.args.s.now in
     let e1 = field_told s _ _ _ _ _ _ c.read_field.ensures c.in-Value.is in
-    rw (e1, sym c.segment_map.ensures ∙ not-true _ c.if-not-segment_map.true)
+    rw (e1, sym c.segment_map.ensures ∙ c.if-not-segment_map.true)
 
 pub returns-in_default-read_field : goal.returns-in_default-read_field
 unfolding segment_record bit_map segment_at
 returns-in_default-read_field c =
     let s = c.args.s.now in
     let e1 = field_told s _ _ _ _ _ _ c.read_field.ensures c.in-Value.is in
-    let e2 = sym c.segment_map.ensures ∙ not-false _ c.if-not-segment_map.false in
+    let e2 = sym c.segment_map.ensures ∙ c.if-not-segment_map.false in
     let e3 = field_told s _ _ _ _ _ _ c.read_field-2.ensures c.in_default-read_field.is in
     rw (e1, e2, e3)
 
@@ -39,7 +38,7 @@ unfolding segment_record bit_map segment_at
 returns-in_default-read_field-2 c =
     let s = c.args.s.now in
     let e1 = field_told s _ _ _ _ _ _ c.read_field.ensures c.in-Value.is in
-    let e2 = sym c.segment_map.ensures ∙ not-false _ c.if-not-segment_map.false in
+    let e2 = sym c.segment_map.ensures ∙ c.if-not-segment_map.false in
     let e3 = field_told s _ _ _ _ _ _ c.read_field-2.ensures c.in-Value-read_field.is in
     let e4 = field_told s _ _ _ _ _ _ c.read_field-3.ensures c.in_default-read_field-2.is in
     rw (e1, e2, e3, e4)
@@ -49,7 +48,7 @@ unfolding segment_record bit_map segment_at
 returns-in_default-read_field-3 c =
     let s = c.args.s.now in
     let e1 = field_told s _ _ _ _ _ _ c.read_field.ensures c.in-Value.is in
-    let e2 = sym c.segment_map.ensures ∙ not-false _ c.if-not-segment_map.false in
+    let e2 = sym c.segment_map.ensures ∙ c.if-not-segment_map.false in
     let e3 = field_told s _ _ _ _ _ _ c.read_field-2.ensures c.in-Value-read_field.is in
     let e4 = field_told s _ _ _ _ _ _ c.read_field-3.ensures c.in-Value-read_field-2.is in
     let e5 = field_told s _ _ _ _ _ _ c.read_field-4.ensures c.in_default-read_field-3.is in
@@ -62,7 +61,7 @@ returns-in_default-read_items c =
     let m = c.in-Value.map in
     let len = c.in-Value-read_field-3.length in
     let e1 = field_told s _ _ _ _ _ _ c.read_field.ensures c.in-Value.is in
-    let e2 = sym c.segment_map.ensures ∙ not-false _ c.if-not-segment_map.false in
+    let e2 = sym c.segment_map.ensures ∙ c.if-not-segment_map.false in
     let e3 = field_told s _ _ _ _ _ _ c.read_field-2.ensures c.in-Value-read_field.is in
     let e4 = field_told s _ _ _ _ _ _ c.read_field-3.ensures c.in-Value-read_field-2.is in
     let e5 = field_told s _ _ _ _ _ _ c.read_field-4.ensures c.in-Value-read_field-3.is in
@@ -76,7 +75,7 @@ returns-in_default-read_items-2 c =
     let m = c.in-Value.map in
     let len = c.in-Value-read_field-3.length in
     let e1 = field_told s _ _ _ _ _ _ c.read_field.ensures c.in-Value.is in
-    let e2 = sym c.segment_map.ensures ∙ not-false _ c.if-not-segment_map.false in
+    let e2 = sym c.segment_map.ensures ∙ c.if-not-segment_map.false in
     let e3 = field_told s _ _ _ _ _ _ c.read_field-2.ensures c.in-Value-read_field.is in
     let e4 = field_told s _ _ _ _ _ _ c.read_field-3.ensures c.in-Value-read_field-2.is in
     let e5 = field_told s _ _ _ _ _ _ c.read_field-4.ensures c.in-Value-read_field-3.is in
@@ -97,7 +96,7 @@ returns c =
     let m = c.in-Value.map in
     let len = c.in-Value-read_field-3.length in
     let e1 = field_read s _ _ _ _ _ _ _ c.read_field.ensures c.in-Value.is in
-    let e2 = sym c.segment_map.ensures ∙ not-false _ c.if-not-segment_map.false in
+    let e2 = sym c.segment_map.ensures ∙ c.if-not-segment_map.false in
     let e3 = field_read s _ _ _ _ _ _ _ c.read_field-2.ensures c.in-Value-read_field.is in
     let e4 = field_read s _ _ _ _ _ _ _ c.read_field-3.ensures c.in-Value-read_field-2.is in
     let e5 = field_read s _ _ _ _ _ _ _ c.read_field-4.ensures c.in-Value-read_field-3.is in

@@ -4,7 +4,7 @@ use Rattle.player_text.proofs.lines.put_answer.Goals as goal
 
 pub returns-in-Refused : goal.returns-in-Refused
 unfolding lines
-returns-in-Refused c = rw c.in-Refused.is c.Put-refused.ensures
+returns-in-Refused c = rw c.in-Refused.is c.put_refused.ensures
 
 pub returns-in-Accepted : goal.returns-in-Accepted
 unfolding lines

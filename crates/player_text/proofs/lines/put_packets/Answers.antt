@@ -1,6 +1,6 @@
 -- What is written and the lines that are left make up the whole.
-use Prim.Native.Nat.{ℕ, ◌+◌, ◌-◌, ◌≤◌}
-use mathlib.Core.Path.{◌≡◌, refl, ap, ◌∙◌}
+use Prim.Native.Nat.{ℕ, ◌≤◌}
+use mathlib.Core.Path.{refl, ap, ◌∙◌}
 use mathlib.Core.List.{List, [], ◌++◌, append_assoc, append-nil}
 use lib.ListN.{length, take, drop, length-drop}
 use native.Mathlib.Omega.{arith}
@@ -13,33 +13,32 @@ use Rattle.player_text.proofs.lines.put_packets.Goals as goal
 pub loop-from-init : goal.loop-from-init
 loop-from-init c = ([], put_none _ _, refl)
 
--- the piece at a position
-size_is : (c : goal.After-slice-known2) → c.front-size.result ≡ front_size (drop c.loop.from c.args.s.now)
-size_is c = c.front-size.ensures ∙ ap front_size c.rest.ensures
-
 pub overflow_add-from : goal.overflow_add-from
 overflow_add-from c =
     let s = c.args.s.now in
     let i = c.loop-from.from in
-    omega (arith, size_is c, front-most (drop i s), length-drop i s)
+    let size = c.front_size-n.ensures ∙ ap front_size c.rest-left.ensures in
+    omega (arith, size, front-most (drop i s), length-drop i s)
 
 pub loop-from-smaller : goal.loop-from-smaller
 loop-from-smaller c =
     let s = c.args.s.now in
     let i = c.loop-from.from in
+    let size = c.front_size-n.ensures ∙ ap front_size c.rest-left.ensures in
     let h : 1 ≤ length (drop i s) = rw length-drop (omega arith) in
-    omega (arith, size_is c, front-some (drop i s) h)
+    omega (arith, size, front-some (drop i s) h)
 
 pub loop-from-preserved : goal.loop-from-preserved
 loop-from-preserved c =
     let s = c.args.s.now in
     let i = c.loop-from.from in
     let n = c.front_size-n.result in
+    let size = c.front_size-n.ensures ∙ ap front_size c.rest-left.ensures in
     let (done, p, e) = c.loop-from.invariant in
     let packet = c.front.ensures ∙ ap (take n) c.rest-left.ensures in (
       done ++ hex_line (take n (drop i s)),
       put_then _ _ p (rw packet at c.put_line-next.ensures),
-      append_assoc done _ _ ∙ ap (λ (l : List ℕ). done ++ l) (packets_more s i n (size_is c) (omega arith)) ∙ e,
+      append_assoc done _ _ ∙ ap (λ (l : List ℕ). done ++ l) (packets_more s i n size (omega arith)) ∙ e,
     )
 
 pub shape_of-text : goal.shape_of-text
