@@ -1,0 +1,141 @@
+--  A small host in Ada: powers on, drives the journey of document 01's trials, and prints each answer and each packet
+--  as it is read.
+with Ada.Command_Line;
+with Ada.Text_IO; use Ada.Text_IO;
+with Hollwern; use Hollwern;
+with Interfaces; use Interfaces;
+with Interfaces.C; use Interfaces.C;
+
+procedure Example is
+   --  Segment 17/500, 100,000 long; stop 7001 at 40,000 with R 150; 7002 at 90,000, End of Journey.
+   Journey : constant Byte_Array :=
+     (16#1A#, 0, 0, 0, 0, 0, 0, 0, 1, 0, 17, 0, 0, 16#01#, 16#F4#, 2,
+      16#13#, 0, 0, 16#1B#, 16#59#, 0, 16#43#, 0, 0, 16#1B#, 16#5A#, 0);
+   Book : constant Byte_Array :=
+     (16#0F#, 0, 17, 0, 0, 16#01#, 16#F4#, 0, 16#01#, 16#86#, 16#A0#, 2,
+      0, 0, 16#1B#, 16#59#, 0, 0, 16#9C#, 16#40#, 0, 150, 0, 0, 16#1B#, 16#5A#, 0, 16#01#, 16#5F#, 16#90#, 0, 0);
+   E : Engine;
+   Output : Byte_Array (0 .. Bytes_Most - 1) := (others => 0);
+
+   function "&" (Text : String; N : size_t) return String is (Text & N'Image (2 .. N'Image'Last));
+   function "&" (Text : String; N : Unsigned_32) return String is (Text & size_t (N));
+   function "&" (Text : String; N : Unsigned_16) return String is (Text & size_t (N));
+   function "&" (Text : String; N : Unsigned_8) return String is (Text & size_t (N));
+   --  An INT16 that is handed over as its unsigned 16 bits.
+   function Signed (N : Unsigned_16) return String is (if N < 2**15 then "" & N else "-" & (-N));
+   Symbols : constant String := "0123456789ABCDEF";
+   function Hex (N : Unsigned_32; Width : Natural) return String is
+     (if Width = 0 then "" else Hex (N / 16, Width - 1) & Symbols (Natural (N mod 16) + 1));
+
+   procedure Show_Packet (Packet : Byte_Array) is
+      P : constant Packet_Fields := Read (Packet);
+      H : Header renames P.Header;
+   begin
+      if not P.Accepted then
+         Put_Line ("R " & P.Number);
+         return;
+      end if;
+      Put ("" & P.Kind & " at " & H.Nidc & "/" & H.Nidsp & " " & H.Offset & " speed " & H.Speed
+           & " operational " & Hex (H.Operational, 8));
+      case P.Kind is
+         when Packet_Timing_Point =>
+            Put_Line (": point " & P.Nidc & "/" & P.Nidtp & " qeoj " & P.Q_Eoj_Reached & " alignment " & P.Alignment
+                      & " status " & P.Status & " stopping " & P.Stopping);
+         when Packet_Jp_Received =>
+            Put_Line (": nidc " & P.Nidc & " atots " & P.Atots & " date " & P.Date & " seconds " & P.Seconds
+                      & " counter " & P.Counter & " status " & P.Status);
+         when Packet_Traction_Brake =>
+            Put_Line (": trabrrq " & P.M_Ato_Trabrrq & " locobrrq " & P.M_Ato_Locobrrq & " suptb " & P.Q_Ato_Suptb
+                      & " rtbrq " & Signed (P.M_Ato_Rtbrq));
+         when others =>
+            Put_Line (": state " & P.State & " conditions " & Hex (Unsigned_32 (P.Conditions), 3));
+      end case;
+   end Show_Packet;
+
+   procedure Call (Event : Byte_Array) is
+      A : constant Answer := Step (E, Event, Journey, Book, Output);
+      First, Next : size_t := 0;
+   begin
+      if not A.Accepted then
+         Put_Line ("R " & A.Number);
+         return;
+      end if;
+      Put_Line ("A " & A.State & " " & Unsigned_8 (C_bool'Pos (A.Request)) & " " & A.Bytes);
+      while First < A.Bytes loop
+         Next := First + Front_Size (Output (First .. A.Bytes - 1));
+         for Byte of Output (First .. Next - 1) loop
+            Put (Hex (Unsigned_32 (Byte), 2));
+         end loop;
+         New_Line;
+         Show_Packet (Output (First .. Next - 1));
+         First := Next;
+      end loop;
+   end Call;
+
+   procedure Position (Offset : Unsigned_32; Speed : Unsigned_8) is
+      function Byte (N : Unsigned_32) return Unsigned_8 is (Unsigned_8 (N mod 256));
+   begin
+      Call ((Kind_Position_Report, 0, 17, 0, 0, 16#01#, 16#F4#, 0, Byte (Offset / 65_536), Byte (Offset / 256),
+             Byte (Offset), 0, Speed));
+   end Position;
+
+   --  A request from -100 to 100, in two's complement; with it M_ATO_TraBrRq 20, M_ATO_LocoBrRq 0, Q_ATO_SupTB 1 and
+   --  M_ATO_RTBRq -2.
+   procedure Traction (Request : Integer_8) is
+      Byte : constant Unsigned_8 := Unsigned_8'Mod (Request);
+   begin
+      Call ((Kind_Traction, Byte, 20, 0, 1, 16#FF#, 16#FE#));
+   end Traction;
+
+   procedure Show is
+      S : constant Shown := Show (E);
+   begin
+      Put ("state " & S.State & " request " & Unsigned_8 (C_bool'Pos (S.Request))
+           & " conditions " & Hex (Unsigned_32 (S.Conditions), 3) & " points");
+      for K in 0 .. Natural (S.Point_Count) - 1 loop
+         Put (" " & S.Standings (K));
+      end loop;
+      New_Line;
+   end Show;
+
+   --  A packet 68 whose other bytes are 0, then what the reader refuses, and how each is cut.
+   procedure Show_Damaged_Packets is
+      Packet : Byte_Array := (0 => Packet_Ato_Status, 1 .. 19 => 0);
+   begin
+      Show_Packet (Packet (0 .. 18));
+      Show_Packet (Packet (0 .. 17));     --  a byte short: 17
+      Put_Line ("front " & Front_Size (Packet) & " " & Front_Size (Packet (0 .. 18))
+                & " " & Front_Size (Packet (0 .. 17)) & " " & Front_Size (Packet (1 .. 0)));
+      Packet (18) := 8;
+      Show_Packet (Packet (0 .. 18));     --  state 8: 19
+      Packet (0) := 63;
+      Show_Packet (Packet (0 .. 18));     --  another number: 18
+      Put_Line ("front " & Front_Size (Packet));
+   end Show_Damaged_Packets;
+begin
+   if Linked_Version /= Version then
+      Put_Line (Standard_Error, "example: hollwern.ads and libhollwern.a are of different versions");
+      Ada.Command_Line.Set_Exit_Status (Ada.Command_Line.Failure);
+      return;
+   end if;
+   Fresh (E);
+   Call ((1 => Kind_Power_On));
+   Call ((1 => Kind_Power_On));           --  once more: refused
+   Call ((1 => Kind_Load));
+   Position (20_000, 0);
+   Call ((Kind_Reports, 31));
+   Call ((1 => Kind_Configured));         --  P8
+   Show;
+   Call ((1 => Kind_Press));
+   Call ((Kind_Mode, Mode_AD));           --  engaged
+   Traction (20);                         --  the first request: packet 61, range 1
+   Traction (-27);                        --  still range 1: no packet
+   Traction (-28);                        --  range 2: packet 61
+   Call ((Kind_Mode, Mode_Other));
+   Position (39_900, 0);                  --  P7: the stop is reached
+   Show;
+   Position (39_900, 50);                 --  departed
+   Position (90_001, 50);                 --  P6: 7002 is passed
+   Show;
+   Show_Damaged_Packets;
+end Example;

@@ -1,0 +1,115 @@
+/* A small host in C99, which is C++ as well: powers on, drives the journey of document 01's trials, and prints each
+ * answer and each packet as it is read. */
+#include "hollwern.h"
+#include <stdio.h>
+
+/* Segment 17/500, 100,000 long; stop 7001 at 40,000 with R 150; 7002 at 90,000, End of Journey. */
+static const uint8_t journey[] = {0x1A, 0, 0, 0, 0, 0, 0, 0, 1, 0, 17, 0, 0, 0x01, 0xF4, 2,
+                                  0x13, 0, 0, 0x1B, 0x59, 0, 0x43, 0, 0, 0x1B, 0x5A, 0};
+static const uint8_t book[] = {0x0F, 0, 17, 0, 0, 0x01, 0xF4, 0, 0x01, 0x86, 0xA0, 2,
+                               0, 0, 0x1B, 0x59, 0, 0, 0x9C, 0x40, 0, 150, 0, 0, 0x1B, 0x5A, 0, 0x01, 0x5F, 0x90, 0, 0};
+static hollwern_engine engine;
+static uint8_t out[HOLLWERN_BYTES_MOST];
+
+static void show_packet(const uint8_t *bytes, size_t n) {
+    hollwern_packet_fields p = hollwern_read(bytes, n);
+    if (!p.accepted) {
+        printf("R %u\n", p.number);
+        return;
+    }
+    hollwern_header h = p.header;
+    printf("%u at %u/%u %u speed %u operational %08X:", p.kind, h.nidc, h.nidsp, h.offset, h.speed, h.operational);
+    if (p.kind == HOLLWERN_PACKET_TIMING_POINT)
+        printf(" point %u/%u qeoj %u alignment %u status %u stopping %u\n", p.nidc, p.nidtp, p.q_eoj_reached,
+               p.alignment, p.status, p.stopping);
+    else if (p.kind == HOLLWERN_PACKET_JP_RECEIVED)
+        printf(" nidc %u atots %u date %u seconds %u counter %u status %u\n", p.nidc, p.atots, p.date, p.seconds,
+               p.counter, p.status);
+    else if (p.kind == HOLLWERN_PACKET_TRACTION_BRAKE)
+        printf(" trabrrq %u locobrrq %u suptb %u rtbrq %d\n", p.m_ato_trabrrq, p.m_ato_locobrrq, p.q_ato_suptb,
+               (int16_t)p.m_ato_rtbrq);
+    else
+        printf(" state %u conditions %03X\n", p.state, p.conditions);
+}
+
+static void call(const uint8_t *event, size_t n) {
+    hollwern_answer a = hollwern_step(&engine, event, n, journey, sizeof journey, book, sizeof book, out, sizeof out);
+    if (!a.accepted) {
+        printf("R %u\n", a.number);
+        return;
+    }
+    printf("A %u %u %zu\n", a.state, a.request, a.bytes);
+    for (size_t at = 0, size; at < a.bytes; at += size) {
+        size = hollwern_front_size(out + at, a.bytes - at);
+        for (size_t k = 0; k < size; k++) printf("%02X", out[at + k]);
+        printf("\n");
+        show_packet(out + at, size);
+    }
+}
+
+static void call_kind(uint8_t kind) { call(&kind, 1); }
+
+static void position(uint32_t offset, uint8_t speed) {
+    const uint8_t event[] = {HOLLWERN_KIND_POSITION_REPORT, 0, 17, 0, 0, 0x01, 0xF4, 0, (uint8_t)(offset >> 16),
+                             (uint8_t)(offset >> 8), (uint8_t)offset, 0, speed};
+    call(event, sizeof event);
+}
+
+/* A request from -100 to 100, in two's complement; with it M_ATO_TraBrRq 20, M_ATO_LocoBrRq 0, Q_ATO_SupTB 1 and
+ * M_ATO_RTBRq -2. */
+static void traction(int8_t request) {
+    const uint8_t event[] = {HOLLWERN_KIND_TRACTION, (uint8_t)request, 20, 0, 1, 0xFF, 0xFE};
+    call(event, sizeof event);
+}
+
+static void show(void) {
+    hollwern_shown s = hollwern_show(&engine);
+    printf("state %u request %u conditions %03X points", s.state, s.request, s.conditions);
+    for (uint8_t k = 0; k < s.point_count; k++) printf(" %u", s.standings[k]);
+    printf("\n");
+}
+
+/* A packet 68 whose other bytes are 0, then what the reader refuses, and how each is cut. */
+static void damaged_packets(void) {
+    uint8_t packet[20] = {HOLLWERN_PACKET_ATO_STATUS};
+    show_packet(packet, 19);
+    show_packet(packet, 18); /* a byte short: 17 */
+    printf("front %zu %zu %zu %zu\n", hollwern_front_size(packet, 20), hollwern_front_size(packet, 19),
+           hollwern_front_size(packet, 18), hollwern_front_size(packet, 0));
+    packet[18] = 8;
+    show_packet(packet, 19); /* state 8: 19 */
+    packet[0] = 63;
+    show_packet(packet, 19); /* another number: 18 */
+    printf("front %zu\n", hollwern_front_size(packet, 20));
+}
+
+int main(void) {
+    const uint8_t all_reports[] = {HOLLWERN_KIND_REPORTS, 31};
+    const uint8_t mode_ad[] = {HOLLWERN_KIND_MODE, HOLLWERN_MODE_AD};
+    const uint8_t mode_other[] = {HOLLWERN_KIND_MODE, HOLLWERN_MODE_OTHER};
+    if (hollwern_version() != HOLLWERN_VERSION) {
+        fprintf(stderr, "example: header and libhollwern.a are of different versions\n");
+        return 1;
+    }
+    hollwern_fresh(&engine);
+    call_kind(HOLLWERN_KIND_POWER_ON);
+    call_kind(HOLLWERN_KIND_POWER_ON); /* once more: refused */
+    call_kind(HOLLWERN_KIND_LOAD);
+    position(20000, 0);
+    call(all_reports, sizeof all_reports);
+    call_kind(HOLLWERN_KIND_CONFIGURED); /* P8 */
+    show();
+    call_kind(HOLLWERN_KIND_PRESS);
+    call(mode_ad, sizeof mode_ad); /* engaged */
+    traction(20);                  /* the first request: packet 61, range 1 */
+    traction(-27);                 /* still range 1: no packet */
+    traction(-28);                 /* range 2: packet 61 */
+    call(mode_other, sizeof mode_other);
+    position(39900, 0); /* P7: the stop is reached */
+    show();
+    position(39900, 50); /* departed */
+    position(90001, 50); /* P6: 7002 is passed */
+    show();
+    damaged_packets();
+    return 0;
+}

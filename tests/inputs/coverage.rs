@@ -1,0 +1,128 @@
+//! Counts what the lists of calls bring up.
+
+use model::calls::Call;
+use model::engine::{Answer, Engine, Traction, DE, EG, NP};
+use model::events::{LOAD, POSITION_REPORT, TRACTION, UNDEFINED};
+use model::packets::{split_packets, Content, Packet};
+use model::route::Segment;
+use model::words::STATES;
+use std::collections::BTreeMap;
+
+#[derive(Default)]
+pub struct Coverage {
+    pub lists: usize,
+    pub calls: usize,
+    kinds: BTreeMap<u8, usize>,
+    states: BTreeMap<u8, usize>,
+    numbers: BTreeMap<u8, usize>,
+    packets: BTreeMap<String, usize>,
+    moves: BTreeMap<(u8, u8), usize>,
+    /// Traction requests, also refused ones, by the state that they come in.
+    requests: BTreeMap<u8, usize>,
+    /// From the range that was remembered, if one was, to that of the request.
+    jumps: BTreeMap<(Option<u8>, u8), usize>,
+    situations: BTreeMap<&'static str, usize>,
+}
+
+impl Coverage {
+    pub fn count(&mut self, call: &Call, before: &Engine, after: &Engine, answer: Result<Answer, u8>, out: &[u8]) {
+        self.calls += 1;
+        if call.event.first() == Some(&TRACTION) {
+            *self.requests.entry(before.now.state).or_default() += 1;
+        }
+        match answer {
+            Err(number) => *self.numbers.entry(number).or_default() += 1,
+            Ok(Answer { state, bytes, .. }) => {
+                *self.kinds.entry(call.event[0]).or_default() += 1;
+                *self.states.entry(state).or_default() += 1;
+                *self.moves.entry((before.now.state, state)).or_default() += 1;
+                split_packets(&out[..bytes]).iter().for_each(|packet| self.count_packet(packet));
+                self.count_situations(call.event[0], before, after);
+                self.count_traction(call.event[0], before, after, bytes);
+            }
+        }
+    }
+
+    /// Situations that document 01's edges lie in.
+    fn count_situations(&mut self, kind: u8, before: &Engine, after: &Engine) {
+        let (was, now) = (&before.now, &after.now);
+        let (load, report) = (kind == LOAD, kind == POSITION_REPORT);
+        let points = after.route.points().len() as u8;
+        let segment = now.segment.map(|k| after.route.segments()[usize::from(k)]);
+        let beyond = |s: &Segment| s.booked && now.position.offset > s.length;
+        let mut note = |name, holds: bool| *self.situations.entry(name).or_default() += usize::from(holds);
+        note("load at a reached stop", load && was.reached);
+        note("load in EG", load && was.state == EG);
+        note("load puts points behind", load && now.first > 0);
+        note("load leaves none", load && now.first == points);
+        note(
+            "held offset beyond the new length",
+            load && segment.is_some_and(|s| beyond(&s) && now.position.offset != UNDEFINED),
+        );
+        note("several points passed in a report", report && now.first >= was.first + 2);
+        note("departed and passed more", report && was.reached && now.first >= was.first + 2);
+        note("stop reached in EG", report && was.state == EG && now.reached && !was.reached);
+        note("End of Journey not the last point", load && after.route.end + 1 < points);
+        note("End of Journey reached as a stop", report && now.reached && now.first == after.route.end && !was.reached);
+        note("target not placed", now.loaded && now.first < points && now.first >= after.route.placed_points);
+        note("offset undefined, journey loaded", now.loaded && now.position.offset == UNDEFINED);
+        note("on a journey segment not booked", segment.is_some_and(|s| !s.booked));
+        note(
+            "booked segment not placed",
+            now.segment.is_some_and(|k| k >= after.route.placed_segments && segment.is_some_and(|s| s.booked)),
+        );
+        note("within a zone", now.conditions & 0x80 == 0);
+        note("driver skip in force", now.skips != 0);
+        note("reached stop held in EG", now.reached && now.state == EG);
+    }
+
+    /// What is remembered of traction requests, and whether packet 61 is written: a request writes no other.
+    fn count_traction(&mut self, kind: u8, before: &Engine, after: &Engine, bytes: usize) {
+        let (was, now) = (&before.now, &after.now);
+        let (request, written) = (kind == TRACTION, bytes > 0);
+        let range = |traction: Option<Traction>| traction.map(|traction| traction.range);
+        let counted = matches!(was.state, EG | DE);
+        if let (true, true, Some(to)) = (request, counted, range(now.traction)) {
+            *self.jumps.entry((range(was.traction), to)).or_default() += 1;
+        }
+        let mut note = |name, holds: bool| *self.situations.entry(name).or_default() += usize::from(holds);
+        note("request written in EG", request && was.state == EG && written);
+        note("request written in DE", request && was.state == DE && written);
+        note("request in EG as remembered", request && was.state == EG && !written);
+        note("request in DE as remembered", request && was.state == DE && !written);
+        note("request elsewhere, one remembered", request && !counted && was.traction.is_some());
+        note("request with another SupTB alone", request && written && range(was.traction) == range(now.traction));
+        note("first request in DE", request && was.state == DE && was.traction.is_none());
+        note("request remembered from EG to DE", was.state == EG && now.state == DE && was.traction.is_some());
+        note("request forgotten at EG", was.state != EG && now.state == EG && was.traction.is_some());
+        note("request forgotten at power off", now.state == NP && was.traction.is_some());
+    }
+
+    fn count_packet(&mut self, bytes: &[u8]) {
+        let name = match Packet::read(bytes).map(|packet| packet.content) {
+            Ok(Content::Point { status, .. }) => format!("62/{status}"),
+            _ => bytes[0].to_string(),
+        };
+        *self.packets.entry(name).or_default() += 1;
+    }
+
+    pub fn print(&self) {
+        let list = |counts: Vec<String>| counts.join("  ");
+        let state = |(&state, count): (&u8, &usize)| format!("{} {count}", STATES[usize::from(state)]);
+        println!("accepted by kind:   {}", list(self.kinds.iter().map(|(k, n)| format!("{k}: {n}")).collect()));
+        println!("accepted, state:    {}", list(self.states.iter().map(state).collect()));
+        println!("refused by number:  {}", list(self.numbers.iter().map(|(k, n)| format!("{k}: {n}")).collect()));
+        println!("packets (/status):  {}", list(self.packets.iter().map(|(k, n)| format!("{k}: {n}")).collect()));
+        let name = |state: u8| STATES[usize::from(state)];
+        let moved = self.moves.iter().filter(|((from, to), _)| from != to);
+        println!(
+            "state changes:      {}",
+            list(moved.map(|(&(a, b), n)| format!("{}>{} {n}", name(a), name(b))).collect())
+        );
+        println!("traction requests:  {}", list(self.requests.iter().map(state).collect()));
+        let from = |range: Option<u8>| range.map_or("none".into(), |range| range.to_string());
+        let jump = |(&(was, now), count): (&(Option<u8>, u8), &usize)| format!("{}>{now} {count}", from(was));
+        println!("ranges:             {}", list(self.jumps.iter().map(jump).collect()));
+        println!("situations:         {}", list(self.situations.iter().map(|(k, n)| format!("{k}: {n};")).collect()));
+    }
+}

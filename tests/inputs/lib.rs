@@ -1,0 +1,14 @@
+//! What the engine is called with: fixed lists of calls and guided random ones, and a count of what they bring up.
+
+pub mod coverage;
+pub mod edges;
+mod faults;
+mod journeys;
+pub mod lists;
+pub mod packet_trials;
+pub mod profiles;
+mod random;
+pub mod rows;
+mod script;
+pub mod sizes;
+pub mod trials;

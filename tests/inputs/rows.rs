@@ -1,0 +1,97 @@
+//! Calls to be measured: each kind of event, costly reports and loads, small loads, refusals.
+
+use crate::profiles::Profiles;
+use crate::sizes::{largest, point_name, profiles, reversed, segment};
+use model::calls::Call;
+use model::packets::TractionBrake;
+
+pub struct Row {
+    pub name: &'static str,
+    /// The calls that lead to it.
+    pub before: Vec<Call>,
+    /// The call that is measured.
+    pub call: Call,
+    /// How many times the engine's size it may copy. A load has no bound.
+    pub most: Option<usize>,
+}
+
+/// At an offset of the k-th segment.
+pub fn at(k: usize, offset: u32, speed: u16) -> Call {
+    let (nidc, nidsp) = segment(k);
+    Call::position(nidc, nidsp, offset, speed)
+}
+
+pub fn on() -> Vec<Call> {
+    vec![Call::power_on(), Call::length(20)]
+}
+
+/// Ready, standing at the beginning of the k-th segment.
+pub fn ready(profiles: &Profiles, k: usize) -> Vec<Call> {
+    let calls = [Call::reports(31), profiles.load(), at(k, 500, 0), Call::configured()];
+    [on(), calls.to_vec()].concat()
+}
+
+/// Engaged there.
+pub fn engaged(profiles: &Profiles, k: usize) -> Vec<Call> {
+    [ready(profiles, k), vec![Call::press(), Call::mode(1)]].concat()
+}
+
+/// A traction request, which writes packet 61 where it is the first since EG was entered.
+pub fn traction() -> Call {
+    Call::traction(50, TractionBrake::default())
+}
+
+fn bounded(name: &'static str, before: &[Call], call: Call, most: usize) -> Row {
+    Row { name, before: before.to_vec(), call, most: Some(most) }
+}
+
+fn load(name: &'static str, before: &[Call], profiles: &Profiles) -> Row {
+    Row { name, before: before.to_vec(), call: profiles.load(), most: None }
+}
+
+pub fn rows() -> Vec<Row> {
+    let largest = largest();
+    let (first, last) = (ready(&largest, 0), ready(&largest, 39));
+    let mut rows = vec![
+        bounded("report without change, segment 1", &first, at(0, 500, 0), 6),
+        bounded("report without change, segment 40", &last, at(39, 500, 0), 6),
+        bounded("power on", &[], Call::power_on(), 6),
+        bounded("configured", &first[..5], Call::configured(), 6),
+        bounded("fault", &first, Call::fault(), 6),
+        bounded("reports", &first, Call::reports(30), 6),
+        bounded("mode", &first, Call::mode(1), 6),
+        bounded("lever", &first, Call::lever(2), 6),
+        bounded("press", &first, Call::press(), 6),
+        bounded("train length", &first, Call::length(30), 6),
+        bounded("traction request", &engaged(&largest, 0), traction(), 6),
+        bounded("report that passes 64 points", &first, at(39, 9_000, 100), 7),
+        bounded("power off", &first, Call::power_off(), 8),
+    ];
+    rows.extend(skips(&first));
+    rows.extend(loads(&first, largest));
+    rows
+}
+
+fn skips(ready: &[Call]) -> Vec<Row> {
+    let point_63 = point_name(39, 0);
+    let skipped = [ready, &[Call::skip(point_63)]].concat();
+    vec![
+        bounded("driver skip of point 63", ready, Call::skip(point_63), 7),
+        bounded("its revocation", &skipped, Call::revoke(point_63), 7),
+        bounded("refused: skip of an unknown name", ready, Call::skip(99_999_999), 7),
+        bounded("refused: unknown kind", ready, Call::of(vec![255]), 5),
+    ]
+}
+
+fn loads(ready: &[Call], largest: Profiles) -> Vec<Row> {
+    let cut = Profiles { book_cut: 1, ..largest.clone() };
+    let small = |segments| profiles(segments, 16, segments);
+    vec![
+        load("refused: largest book cut by a byte", ready, &cut),
+        load("largest load, journey order", &on(), &largest),
+        load("largest load, reverse order", &on(), &reversed(largest)),
+        load("load of 1 segment, 16 points", &on(), &small(1)),
+        load("load of 2 segments, 16 points", &on(), &small(2)),
+        load("load of 4 segments, 16 points", &on(), &small(4)),
+    ]
+}

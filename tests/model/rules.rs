@@ -1,0 +1,424 @@
+//! The history rule and the engagement rule of document 01 and the range of document 02, read literally over the
+//! accepted events, and the States rows run over the conditions that follow from them. Nothing here looks at an engine,
+//! but for the comparison at the end.
+
+use crate::calls::Call;
+use crate::engine::{Engine, Standing, AV, CO, DE, EG, FA, NA, NP, RE};
+use crate::events::{read_event, Event, Position, UNDEFINED};
+use crate::values::{read_book, Journey, JourneyPoint, Record};
+use std::rc::Rc;
+
+/// The journey and the book of an accepted load.
+#[derive(Debug)]
+struct Load {
+    journey: Journey,
+    book: Vec<Record>,
+}
+
+impl Load {
+    fn record(&self, segment: usize) -> Option<&Record> {
+        self.book.iter().find(|record| record.segment() == self.journey.segments[segment])
+    }
+
+    /// It and all before it in the journey are in the book.
+    fn placed(&self, segment: usize) -> bool {
+        (0..=segment).all(|k| self.record(k).is_some())
+    }
+
+    /// The sum of the lengths before it.
+    fn start(&self, segment: usize) -> i64 {
+        (0..segment).map(|k| i64::from(self.record(k).unwrap().length)).sum()
+    }
+
+    fn segment_of(&self, position: Position) -> Option<usize> {
+        self.journey.segments.iter().position(|&segment| segment == (position.nidc, position.nidsp))
+    }
+
+    /// Known: offset defined, its segment placed, the offset within its length.
+    fn front(&self, position: Position) -> Option<i64> {
+        let segment = self.segment_of(position)?;
+        if position.offset == UNDEFINED || !self.placed(segment) {
+            return None;
+        }
+        let within = position.offset <= self.record(segment)?.length;
+        within.then(|| self.start(segment) + i64::from(position.offset))
+    }
+
+    /// Place from the journey's start and R, of a placed point.
+    fn place(&self, point: &JourneyPoint) -> Option<(i64, i64)> {
+        let segment = usize::from(point.segment);
+        if !self.placed(segment) {
+            return None;
+        }
+        let found = self.record(segment)?.points.iter().find(|other| other.nidtp == point.nidtp)?;
+        Some((self.start(segment) + i64::from(found.place), i64::from(found.reach)))
+    }
+}
+
+/// What the latest accepted events since power off that carry them say, else fresh.
+#[derive(Clone, Debug)]
+struct Values {
+    mode: u8,
+    lever: u8,
+    reports: u8,
+    position: Position,
+    speed: u16,
+    length: u32,
+    load: Option<Rc<Load>>,
+    skips: Vec<u32>,
+}
+
+impl Values {
+    fn fresh() -> Values {
+        let position = Position { nidc: 0, nidsp: 0, offset: UNDEFINED };
+        Values { mode: 0, lever: 0, reports: 0, position, speed: 0, length: 0, load: None, skips: Vec::new() }
+    }
+
+    fn after(mut self, event: Event, call: &Call) -> Values {
+        match event {
+            Event::Mode(mode) => self.mode = mode,
+            Event::Lever(lever) => self.lever = lever,
+            Event::Reports(reports) => self.reports = reports,
+            Event::Report(position, speed) => (self.position, self.speed) = (position, speed),
+            Event::Length(length) => self.length = length,
+            Event::Skip(nidtp) => self.skips.push(nidtp),
+            Event::Revoke(nidtp) => self.skips.retain(|&other| other != nidtp),
+            Event::Load => {
+                let (journey, book) = (Journey::read(&call.journey), read_book(&call.book));
+                self.load = Some(Rc::new(Load { journey: journey.unwrap(), book: book.unwrap() }));
+                self.skips.clear();
+            }
+            _ => {}
+        }
+        self
+    }
+
+    fn unskipped_stop(&self, point: &JourneyPoint) -> bool {
+        point.stop && !point.skipped && !self.skips.contains(&point.nidtp)
+    }
+
+    /// d and R; `None` unless the position is known and the point placed.
+    fn distance(&self, point: &JourneyPoint) -> Option<(i64, i64)> {
+        let load = self.load.as_ref()?;
+        let front = load.front(self.position)?;
+        let (place, reach) = load.place(point)?;
+        let length = i64::from(self.length);
+        let shift = [0, length / 2, length][usize::from(point.alignment.unwrap_or(0))];
+        Some((front - shift - place, reach))
+    }
+
+    fn margin(&self, point: &JourneyPoint, reach: i64) -> i64 {
+        if self.unskipped_stop(point) {
+            reach
+        } else {
+            0
+        }
+    }
+
+    /// d > margin; false unless the position is known and the point placed.
+    fn beyond(&self, point: &JourneyPoint) -> bool {
+        self.distance(point).is_some_and(|(d, reach)| d > self.margin(point, reach))
+    }
+
+    /// An unskipped stop, speed 0 and d ≥ −R.
+    fn halts_at(&self, point: &JourneyPoint) -> bool {
+        let near = self.distance(point).is_some_and(|(d, reach)| d >= -reach);
+        self.unskipped_stop(point) && self.speed == 0 && near
+    }
+
+    /// How many points the load just accepted puts behind.
+    fn put_behind(&self, load: &Load) -> usize {
+        load.journey.points.iter().take_while(|point| self.beyond(point)).count()
+    }
+}
+
+/// An accepted event with what stood right after it.
+#[derive(Debug)]
+struct Moment {
+    event: Event,
+    values: Values,
+    standings: Vec<Standing>,
+    became_reached: bool,
+    conditions: u16,
+    state: u8,
+}
+
+impl Moment {
+    fn is_report(&self) -> bool {
+        matches!(self.event, Event::Report(..))
+    }
+
+    fn o(&self) -> bool {
+        self.conditions == 0x1FF
+    }
+
+    fn t(&self) -> bool {
+        self.values.reports & 16 != 0
+    }
+
+    fn n(&self) -> bool {
+        self.values.lever == 0
+    }
+
+    fn ad(&self) -> bool {
+        self.values.mode == 1
+    }
+
+    fn otn(&self) -> bool {
+        self.o() && self.t() && self.n()
+    }
+}
+
+/// The first report from `from` on that settles the point, and whether it passes there (else it is reached there).
+fn settled(moments: &[Moment], from: usize, point: &JourneyPoint) -> Option<(usize, bool)> {
+    let reports = (from..moments.len()).filter(|&k| moments[k].is_report());
+    reports.map(|k| (k, &moments[k].values)).find_map(|(k, values)| {
+        let passes = values.beyond(point);
+        (passes || values.halts_at(point)).then_some((k, passes))
+    })
+}
+
+/// The passing moment of a point that the load did not put behind, and whether it was reached before.
+fn passing(moments: &[Moment], from: usize, point: &JourneyPoint) -> (Option<usize>, bool) {
+    match settled(moments, from, point) {
+        None => (None, false),
+        Some((k, true)) => (Some(k), false),
+        Some((k, false)) => {
+            let departs = |&later: &usize| moments[later].is_report() && moments[later].values.speed > 0;
+            ((k + 1..moments.len()).find(departs), true)
+        }
+    }
+}
+
+/// The history rule: the standing of each point after the last of these moments.
+fn history(moments: &[Moment]) -> Vec<Standing> {
+    let Some(at) = moments.iter().rposition(|moment| moment.event == Event::Load) else { return Vec::new() };
+    let load = moments[at].values.load.clone().unwrap();
+    let behind = moments[at].values.put_behind(&load);
+    let mut standings = vec![Standing::Passed; behind];
+    let mut before = Some(at);
+    for point in &load.journey.points[behind..] {
+        let Some(from) = before else {
+            standings.push(Standing::NotUsed);
+            continue;
+        };
+        let (moment, reached) = passing(moments, from, point);
+        standings.push(match moment {
+            Some(_) => Standing::Passed,
+            None if reached => Standing::Reached,
+            None => Standing::Targeted,
+        });
+        before = moment;
+    }
+    standings
+}
+
+fn nine_conditions(values: &Values, standings: &[Standing]) -> u16 {
+    let report = |bit: u8| values.reports >> bit & 1 == 1;
+    let [mut c2, mut c3, mut c4, mut c6, mut c7] = [false, false, false, false, true];
+    if let Some(load) = &values.load {
+        let points = &load.journey.points;
+        let end = points.iter().position(|point| point.end).unwrap();
+        c2 = !matches!(standings[end], Standing::Passed | Standing::Reached);
+        c3 = *standings.last().unwrap() != Standing::Passed;
+        let first = standings.iter().position(|&standing| standing != Standing::Passed);
+        c4 = first.is_none_or(|k| load.placed(usize::from(points[k].segment)));
+        (c6, c7) = where_conditions(values.position, load);
+    }
+    let nine = [report(0), report(1), c2, c3, c4, report(2), c6, c7, report(3)];
+    (0..9).map(|k| u16::from(nine[k]) << k).sum()
+}
+
+/// Conditions 6 and 7. An offset beyond its segment's length counts as undefined.
+fn where_conditions(position: Position, load: &Load) -> (bool, bool) {
+    let offset = position.offset;
+    let Some(segment) = load.segment_of(position) else { return (false, true) };
+    let record = load.record(segment);
+    if offset == UNDEFINED || record.is_some_and(|record| offset > record.length) {
+        return (false, true);
+    }
+    let inside = |&(start, end): &(u32, u32)| (start..=end).contains(&offset);
+    (true, !record.is_some_and(|record| record.zones.iter().any(inside)))
+}
+
+/// Whether the range holds a request of this size without sign.
+fn range_holds(range: u8, size: i32) -> bool {
+    match range {
+        0 => size == 0,
+        1 => (1..=27).contains(&size),
+        2 => (23..=77).contains(&size),
+        3 => (73..=95).contains(&size),
+        _ => (91..=100).contains(&size),
+    }
+}
+
+/// "It stays in the range it had while that range holds it, else takes the lowest that does."
+fn range_after(had: Option<u8>, request: i8) -> u8 {
+    let size = i32::from(request).abs();
+    let lowest = || [0, 1, 2, 3, 4].into_iter().find(|&range| range_holds(range, size)).unwrap();
+    had.filter(|&range| range_holds(range, size)).unwrap_or_else(lowest)
+}
+
+/// The accepted events since power off.
+#[derive(Debug)]
+pub struct Rules {
+    moments: Vec<Moment>,
+    state: u8,
+    press: bool,
+    request: bool,
+}
+
+impl Rules {
+    pub fn new() -> Rules {
+        Rules { moments: Vec::new(), state: NP, press: false, request: false }
+    }
+
+    /// Takes one more accepted event.
+    pub fn accept(&mut self, call: &Call) {
+        let event = read_event(&call.event).unwrap();
+        if event == Event::PowerOff {
+            *self = Rules::new();
+            return;
+        }
+        let before = self.moments.last();
+        let values = before.map_or(Values::fresh(), |moment| moment.values.clone()).after(event, call);
+        let reached_before = before.map_or(Vec::new(), |moment| moment.standings.clone());
+        let standings = Vec::new();
+        self.moments.push(Moment { event, values, standings, became_reached: false, conditions: 0, state: NP });
+        let standings = history(&self.moments);
+        let moment = self.moments.last_mut().unwrap();
+        let reached_now = |k: usize| standings[k] == Standing::Reached && reached_before[k] != Standing::Reached;
+        moment.became_reached = moment.is_report() && (0..standings.len()).any(reached_now);
+        moment.conditions = nine_conditions(&moment.values, &standings);
+        moment.standings = standings;
+        self.run_rows();
+        self.moments.last_mut().unwrap().state = self.state;
+    }
+
+    /// The rows of "States" and the AD request, for the last moment.
+    fn run_rows(&mut self) {
+        let last = self.moments.last().unwrap();
+        let u = if !last.o() {
+            NA
+        } else if last.otn() && !last.ad() {
+            RE
+        } else {
+            AV
+        };
+        let leaves = last.values.lever == 2 || !last.ad();
+        let pressed = self.press || last.event == Event::Press;
+        self.state = match (self.state, last.event) {
+            (_, Event::PowerOn) => CO,
+            (_, Event::Fault) => FA,
+            (CO, Event::Configured) => u,
+            (CO, _) => CO,
+            (RE, _) if pressed && last.otn() && last.ad() => EG,
+            (NA | AV | RE, _) => u,
+            (EG, _) if leaves || last.became_reached => u,
+            (EG, _) if last.o() && last.t() => EG,
+            (EG, _) => DE,
+            (DE, _) if leaves => u,
+            (state, _) => state,
+        };
+        self.press = pressed && self.state == RE;
+        let wanted = matches!(self.state, RE | EG | DE) || (self.state == AV && last.ad() && last.n());
+        self.request = wanted && (self.request || !last.ad());
+    }
+
+    /// The engagement rule: there are a press i and a later AD report j.
+    fn engaged(&self) -> bool {
+        let moments = &self.moments;
+        let no_fault = moments.iter().all(|moment| moment.event != Event::Fault);
+        let reports_ad = |&j: &usize| moments[j].event == Event::Mode(1);
+        no_fault && (0..moments.len()).filter(reports_ad).any(|j| self.engaged_at(j))
+    }
+
+    fn engaged_at(&self, j: usize) -> bool {
+        let moments = &self.moments;
+        let holds = |moment: &Moment| moment.o() && moment.t() && moment.ad() && moment.values.lever != 2;
+        if !moments[j].otn() || !moments[j..].iter().all(holds) {
+            return false;
+        }
+        let none_reached = moments[j + 1..].iter().all(|moment| !moment.became_reached);
+        none_reached && (1..j).any(|i| self.pressed_at(i, j))
+    }
+
+    fn pressed_at(&self, i: usize, j: usize) -> bool {
+        let moments = &self.moments;
+        moments[i].event == Event::Press
+            && moments[..i].iter().any(|moment| moment.event == Event::Configured)
+            && moments[i - 1..j].iter().all(|moment| moment.otn() && !moment.ad())
+    }
+
+    /// Whether the moment's event was made in EG or DE.
+    fn made_in_eg_or_de(&self, k: usize) -> bool {
+        k > 0 && matches!(self.moments[k - 1].state, EG | DE)
+    }
+
+    fn enters_eg(&self, k: usize) -> bool {
+        self.moments[k].state == EG && (k == 0 || self.moments[k - 1].state != EG)
+    }
+
+    /// Range and Q_ATO_SupTB, the content's third byte, after so many moments: by the requests made in EG or DE since EG
+    /// was last entered.
+    fn traction(&self, count: usize) -> Option<(u8, u8)> {
+        let entered = (0..count).rfind(|&k| self.enters_eg(k))?;
+        let made = (entered + 1..count).filter(|&k| self.made_in_eg_or_de(k));
+        made.fold(None, |had: Option<(u8, u8)>, k| match self.moments[k].event {
+            Event::Traction(request, content) => {
+                Some((range_after(had.map(|(range, _)| range), request), content.bytes()[2]))
+            }
+            _ => had,
+        })
+    }
+
+    /// Packet 61 is due for a request made in EG or DE where nothing was remembered before it, or another range or
+    /// Q_ATO_SupTB is after it.
+    fn traction_due(&self) -> bool {
+        let Some(last) = self.moments.len().checked_sub(1) else { return false };
+        let request = matches!(self.moments[last].event, Event::Traction(..)) && self.made_in_eg_or_de(last);
+        let (before, after) = (self.traction(last), self.traction(last + 1));
+        request && (before.is_none() || after != before)
+    }
+
+    /// Of the packets of the last accepted call: 61 stands among them just where it is due, with the event's bytes.
+    pub fn check_packets(&self, call: &Call, packets: &[&[u8]]) -> Result<(), String> {
+        let due = if self.traction_due() { vec![&call.event[2..]] } else { vec![] };
+        let written: Vec<&[u8]> = packets.iter().filter(|packet| packet[0] == 61).map(|packet| &packet[17..]).collect();
+        if due == written {
+            Ok(())
+        } else {
+            Err(format!("packet 61: by the rules with {due:02X?}, written with {written:02X?}"))
+        }
+    }
+
+    /// The first thing in which an engine differs from the rules.
+    pub fn check(&self, engine: &Engine) -> Result<(), String> {
+        let now = &engine.now;
+        let fresh = (Vec::new(), 0x080);
+        let (standings, conditions) =
+            self.moments.last().map_or(fresh, |moment| (moment.standings.clone(), moment.conditions));
+        let differs = |what: &str, rules: &dyn std::fmt::Debug, is: &dyn std::fmt::Debug| {
+            Err(format!("{what}: by the rules {rules:?}, in the engine {is:?}"))
+        };
+        let held: Vec<Standing> = engine.standings().collect();
+        if standings != held {
+            return differs("standings", &standings, &held);
+        }
+        if conditions != now.conditions {
+            return differs("conditions", &conditions, &now.conditions);
+        }
+        if (self.state, self.press, self.request) != (now.state, now.press, now.request) {
+            let rows = (self.state, self.press, self.request);
+            return differs("state, press, request", &rows, &(now.state, now.press, now.request));
+        }
+        let (by_rules, held) = (self.traction(self.moments.len()), now.traction.map(|held| (held.range, held.suptb)));
+        if by_rules != held {
+            return differs("range and Q_ATO_SupTB", &by_rules, &held);
+        }
+        if self.engaged() != (now.state == EG) {
+            return differs("engaged", &self.engaged(), &now.state);
+        }
+        Ok(())
+    }
+}

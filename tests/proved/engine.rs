@@ -1,0 +1,49 @@
+//! The proved engine, called and answering as the model is and does.
+
+use crate::hollwern::{self, Shown};
+use model::calls::Call;
+use model::engine::{Answer, Engine};
+
+/// An engine that only the calls of the C interface look into.
+#[derive(Clone)]
+pub struct Proved(hollwern::Engine);
+
+impl Proved {
+    pub fn fresh() -> Proved {
+        Proved(hollwern::Engine::fresh())
+    }
+
+    /// Fresh again, in its place.
+    pub fn make_fresh(&mut self) {
+        self.0.make_fresh();
+    }
+
+    /// Every byte that it takes.
+    pub fn bytes(&self) -> &[u8; hollwern::ENGINE_SIZE] {
+        unsafe { &*(&raw const self.0).cast() }
+    }
+
+    /// One call, answered as the model answers it.
+    pub fn call(&mut self, call: &Call, out: &mut [u8]) -> Result<Answer, u8> {
+        let answer = self.0.step(&call.event, &call.journey, &call.book, out);
+        let hollwern::Answer { accepted, number, state, request, bytes } = answer;
+        if accepted {
+            Ok(Answer { state, request, bytes })
+        } else {
+            Err(number)
+        }
+    }
+
+    /// State, request, conditions and the standing of every point are the model's.
+    pub fn shows(&self, model: &Engine) -> bool {
+        let now = &model.now;
+        let mut standings = [0; 64];
+        let mut point_count = 0;
+        for (code, standing) in standings.iter_mut().zip(model.standings()) {
+            *code = standing as u8;
+            point_count += 1;
+        }
+        let (state, request, conditions) = (now.state, now.request, now.conditions);
+        self.0.show() == Shown { state, request, conditions, point_count, standings }
+    }
+}

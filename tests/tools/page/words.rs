@@ -1,0 +1,169 @@
+//! What the page lists: states, conditions, reports, standings, numbers, application conditions.
+
+use crate::engines::play;
+use crate::text::{number_of, same, wrong, Checked, Page};
+use model::calls::Call;
+use model::values::{write_book, Journey, JourneyPoint, Record, RecordPoint};
+use model::words::{DRIVER, STATES, STATE_NAMES};
+use proved::hollwern::read;
+use proved::pair::Pair;
+use std::collections::BTreeSet;
+
+/// The most characters of a line.
+const LINE: usize = 120;
+const STANDINGS: [&str; 4] = ["not used", "targeted", "reached", "passed"];
+/// With no journey.
+const NO_CONDITION: u16 = 0x080;
+
+fn check_states(page: &Page) -> Checked<()> {
+    let rows = page.table("State codes", "Code")?;
+    same(rows[0].line, "states", rows.len(), STATES.len())?;
+    for (k, row) in rows.iter().enumerate() {
+        same(row.line, "code", row.number("Code")?, k as i64)?;
+        same(row.line, "state", row.text("State")?, STATES[k])?;
+        same(row.line, "name", row.text("Name")?, STATE_NAMES[k])?;
+        same(row.line, "the driver may", row.text("The driver may")?, DRIVER[k][1])?;
+    }
+    Ok(())
+}
+
+/// Each report alone gives just the condition that the page names.
+fn check_reports(page: &Page) -> Checked<()> {
+    let conditions = page.table("The nine conditions", "Condition")?;
+    for (k, row) in conditions.iter().enumerate() {
+        same(row.line, "condition", row.number("Condition")?, k as i64)?;
+        same(row.line, "bit", row.number("Bit of the word")?, 4 + k as i64)?;
+    }
+    same(conditions[0].line, "conditions", conditions.len(), 9)?;
+    for (bit, row) in page.table("Bits of the reports", "Bit")?.iter().enumerate() {
+        same(row.line, "bit", row.number("Bit")?, bit as i64)?;
+        let mut pair = Pair::fresh();
+        play(&mut pair, &[Call::power_on(), Call::reports(1 << bit)], row.line)?;
+        let alone = pair.model.now.conditions & !NO_CONDITION;
+        let counts = if alone == 0 { "T".into() } else { format!("condition {}", alone.trailing_zeros()) };
+        same(row.line, "counts as", row.text("Counts as")?, &counts)?;
+        if alone != 0 {
+            let condition = &conditions[alone.trailing_zeros() as usize];
+            same(condition.line, "it is 1 when", condition.text("It is 1 when")?, &format!("report bit {bit}"))?;
+        }
+    }
+    Ok(())
+}
+
+/// A stop 7001 at 40,000 with R 150 and a passing point 7002 at 90,000.
+fn two_points() -> Call {
+    let stop = JourneyPoint { nidtp: 7001, stop: true, ..JourneyPoint::default() };
+    let passing = JourneyPoint { nidtp: 7002, end: true, ..JourneyPoint::default() };
+    let journey = Journey { segments: vec![(17, 500)], points: vec![stop, passing], ..Journey::default() };
+    let places = [(7001, 40_000, 150), (7002, 90_000, 0)];
+    let points = places.map(|(nidtp, place, reach)| RecordPoint { nidtp, place, reach }).to_vec();
+    let record = Record { nidc: 17, nidsp: 500, length: 100_000, points, ..Record::default() };
+    Call::load(journey.write(), write_book(&[record]))
+}
+
+/// Where the two stand after one report at speed 0.
+fn check_standings(page: &Page) -> Checked<()> {
+    for row in page.table("7. Timing points", "Front at")? {
+        let report = Call::position(17, 500, row.number("Front at")? as u32, 0);
+        let mut pair = Pair::fresh();
+        play(&mut pair, &[Call::power_on(), two_points(), report], row.line)?;
+        for (column, standing) in ["The stop", "The passing point"].into_iter().zip(pair.model.standings()) {
+            same(row.line, column, row.text(column)?, STANDINGS[standing as usize])?;
+        }
+    }
+    Ok(())
+}
+
+/// The statuses of packet 62, each as an event writes it.
+fn check_statuses(page: &Page) -> Checked<()> {
+    let report = |offset, speed| Call::position(17, 500, offset, speed);
+    let told = [
+        ("driver skip", Call::skip(7001)),
+        ("skip revoked", Call::revoke(7001)),
+        ("stopped", report(40_000, 0)),
+        ("departed", report(40_000, 1)),
+        ("passed", report(90_001, 1)),
+    ];
+    let rows = page.table("Packet 62", "Status")?;
+    same(rows[0].line, "statuses", rows.len(), told.len())?;
+    let mut pair = Pair::fresh();
+    play(&mut pair, &[Call::power_on(), two_points()], rows[0].line)?;
+    for (meaning, call) in told {
+        let Some(row) = rows.iter().find(|row| row.text("Meaning").is_ok_and(|text| text == meaning)) else {
+            return wrong(rows[0].line, format!("no status '{meaning}'"));
+        };
+        let (_, packets) = play(&mut pair, &[call], row.line)?;
+        same(row.line, meaning, row.number("Status")?, read(&packets[0]).status.into())?;
+    }
+    Ok(())
+}
+
+/// The numbers of the places, put together, and the numbers that are explained, count up from 1.
+fn check_numbers(page: &Page) -> Checked<()> {
+    let mut last = 0;
+    for row in page.table("10. Numbers", "Place")? {
+        for number in row.text("Numbers")?.split(' ') {
+            last += 1;
+            same(row.line, "number", number, &last.to_string())?;
+        }
+    }
+    same(1, "numbers", count_items(page, "## 10. Numbers", "- **")?, last)
+}
+
+/// Items that begin so count up from 1 without a gap; how many there are.
+fn count_items(page: &Page, heading: &str, begin: &str) -> Checked<usize> {
+    let mut count = 0;
+    let items = page.lines().skip_while(|(_, text)| *text != heading).skip(1);
+    for (line, text) in items.take_while(|(_, text)| !text.starts_with("## ")) {
+        let Some((number, _)) = text.strip_prefix(begin).and_then(|rest| rest.split_once("**")) else { continue };
+        count += 1;
+        same(line, "item", number, &count.to_string())?;
+    }
+    Ok(count)
+}
+
+fn check_lines(page: &Page) -> Checked<()> {
+    match page.lines().find(|(_, text)| text.chars().count() > LINE) {
+        Some((line, _)) => wrong(line, format!("more than {LINE} characters")),
+        None => Ok(()),
+    }
+}
+
+fn names(text: &str) -> impl Iterator<Item = &str> {
+    let names = text.split(|c: char| !c.is_ascii_alphanumeric() && c != '_');
+    names.filter(|name| name.to_lowercase().starts_with("hollwern_"))
+}
+
+/// Names of the header that the page uses are there; a figure in brackets behind one is its value.
+fn check_names(page: &Page, header: &str) -> Checked<()> {
+    let known: BTreeSet<&str> = names(header).collect();
+    for (line, text) in page.lines() {
+        for name in names(text) {
+            if !known.contains(name) {
+                return wrong(line, format!("the header has no {name}"));
+            }
+            let figure = text.split_once(&format!("`{name}` (")).and_then(|(_, rest)| rest.split_once(')'));
+            if let Some(value) = figure.and_then(|(figure, _)| number_of(figure))
+                && !header.contains(&format!("#define {name} {value}\n"))
+            {
+                return wrong(line, format!("the header does not define {name} as {value}"));
+            }
+        }
+    }
+    Ok(())
+}
+
+/// How many application conditions there are.
+pub fn check(page: &Page, header: &str) -> Checked<usize> {
+    check_states(page)?;
+    check_reports(page)?;
+    check_standings(page)?;
+    check_statuses(page)?;
+    check_numbers(page)?;
+    check_lines(page)?;
+    check_names(page, header)?;
+    match count_items(page, "## 12. Application conditions", "- **AC-")? {
+        0 => wrong(1, "no application conditions"),
+        count => Ok(count),
+    }
+}

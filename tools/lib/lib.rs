@@ -1,0 +1,14 @@
+//! What the tools share: the scenario language, the player and its lines, a scenario told in words, where points stand,
+//! what comes of a traction request, and what is recorded over many orders of events.
+
+pub mod answers;
+pub mod language;
+mod line;
+mod named;
+pub mod outcomes;
+pub mod output;
+pub mod player;
+pub mod points;
+pub mod refusals;
+pub mod story;
+pub mod traction;
