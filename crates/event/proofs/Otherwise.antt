@@ -9,8 +9,7 @@ use mir.Val.{has_key}
 use types.Run.{OneOf, miss}
 use denote.Enum.Declared.{tag_of}
 use Rattle.wire.specs.Lists.{those}
-use Rattle.engine_value.specs.Engine.{fresh_position}
-use Rattle.event.specs.Kinds.{Role, off, load, report, other, skip, is_report, skip_name, no_request, kinds, role_of, carried}
+use Rattle.event.specs.Kinds.{Role, off, load, report, other, skip, is_report, skip_name, kinds, role_of, carried}
 use Rattle.engine_value.specs.declared.Position.{Position}
 use Rattle.event.specs.declared.TractionRequest.{TractionRequest}
 use Rattle.event.specs.declared.Event.{Event}

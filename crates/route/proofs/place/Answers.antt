@@ -5,7 +5,7 @@ use lib.Dec.{eqb}
 use Rattle.wire.specs.Lists.{falls, strictly_rises}
 use Rattle.journey_rows.specs.Rows.{indices, places}
 use Rattle.journey_rows.specs.declared.Seen.{Seen}
-use Prim.Native.Nat.{ℕ, ◌≤◌, min}
+use Prim.Native.Nat.{ℕ, min}
 use lib.ListN.{length, take, length-take}
 use native.Mathlib.Omega.{arith}
 use Rattle.book.specs.View.{segments_view}

@@ -1,5 +1,5 @@
 use Prim.Native.Nat.{◌<◌, ◌≤◌}
-use mathlib.Core.Path.{◌≡◌, refl, ap, ◌∙◌}
+use mathlib.Core.Path.{refl, ap, ◌∙◌}
 use mathlib.Core.Bool.{Bool, ◌||◌}
 use lib.ListN.{length, get_or, length-take}
 use native.Mathlib.Omega.{arith}
