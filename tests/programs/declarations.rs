@@ -9,11 +9,14 @@ use std::collections::{BTreeMap, BTreeSet};
 use std::fmt::Debug;
 
 /// Constants of the header by the beginning of their names, the crate that has them, and how they begin there.
-const CONSTANTS: [(&str, &str, &str); 13] = [
+const CONSTANTS: [(&str, &str, &str); 16] = [
     ("VERSION_", "host", ""),
     ("KIND_", "event", ""),
     ("STATUS_", "event_packets", ""),
     ("PACKET_", "packets", ""),
+    ("REFUSED_", "wire", ""),
+    ("STATE_", "state_codes", ""),
+    ("STANDING_", "position", ""),
     ("OFFSET_", "engine_value", ""),
     ("NO_OPERATIONAL", "engine_value", "NO_OPERATIONAL"),
     ("NO_ATOTS", "journey", "NO_ATOTS"),

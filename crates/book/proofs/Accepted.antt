@@ -3,7 +3,7 @@ use Prim.Native.Nat.{ℕ, zero, suc, ◌≤◌}
 use mathlib.Core.Path.{◌≡◌, refl, subst}
 use mathlib.Core.List.{List, [], ◌∷◌}
 use mathlib.Core.Bool.{Bool, true, false, cond, ◌&&◌, ◌||◌}
-use mathlib.Core.Option.{some}
+use Rattle.std.specs.Prelude.{Some}
 use lib.ListN.{length}
 use lib.Dec.{eqb, ltb}
 use native.Mathlib.Omega.{arith}
@@ -16,7 +16,7 @@ use Rattle.fields.specs.Parse.{Parse, and_then, read}
 use Rattle.fields.specs.Parse.Parse.{bad, good}
 use Rattle.fields.proofs.Sure.{Sure}
 use Rattle.segment_record.specs.Record.{BookSegment, segment_record}
-use Rattle.segment_record.proofs.Accepted.{SegmentFits, segment_fits}
+use Rattle.segment_record.proofs.Accepted.{SegmentFits, segment_fits, all_found}
 use Rattle.book.specs.Book.{records, lookup}
 use Rattle.book.specs.Table.{same_segment, nidtp_twice, book_of}
 
@@ -74,10 +74,5 @@ book-numbers s k = go (records (suc (length s)) s)
     go (good gs r) e = kept gs (eight gs) e
 
 -- what holds of all holds of the one that is looked up
-pub all_lookup : (P : BookSegment → Type 0) (book : List BookSegment) → All P book → (c sp : ℕ) (g : BookSegment) → lookup c sp book ≡ some g → P g
-all_lookup P [] h c sp g e = let z : ◌≡◌ {A = ℕ} 0 1 = cc in absurd (omega arith)
-all_lookup P (x ∷ xs) h c sp g e = go (eqb x.nidc c && eqb x.nidsp sp) e (λ q. all_lookup P xs h.1 c sp g q)
-  where
-    go : (b : Bool) → cond b (some x) (lookup c sp xs) ≡ some g → (lookup c sp xs ≡ some g → P g) → P g
-    go true q ih = let w : x ≡ g = cc in subst P w h.0
-    go false q ih = ih q
+pub all_lookup : (P : BookSegment → Type 0) (book : List BookSegment) → All P book → (c sp : ℕ) (g : BookSegment) → lookup c sp book ≡ Some g → P g
+all_lookup P book h c sp g e = all_found P (λ s. eqb s.nidc c && eqb s.nidsp sp) book h g e

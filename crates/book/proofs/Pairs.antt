@@ -9,7 +9,7 @@ use lib.Dec.{eqb, ltb, leb}
 use borrow.Author.Tests.{eqb-true, eq-eqb, ltb-true, lt-ltb, leb-true, le-leb}
 use Rattle.wire.specs.Lists.{any, every, those, twice, falls, strictly_rises}
 use Rattle.wire.proofs.ListLaws.{and_left, and_right}
-use Rattle.book.specs.Sentences.{Some, Two}
+use Rattle.book.specs.Sentences.{One, Two}
 
 -- ---- tests and what they say
 
@@ -66,23 +66,23 @@ fails false P h = (λ e p. false≢true (h.1 p), λ n. refl)
 -- ---- one of them, and each
 
 module _ {A : Type 0} (blank : A) (f : A → Bool) (P : A → Type 0) (agree : (a : A) → (f a ≡ true) ↔ P a) where
-  one_there : (l : List A) → any f l ≡ true → Some blank P l
+  one_there : (l : List A) → any f l ≡ true → One blank P l
   one_there [] e = absurd (false≢true e)
   one_there (x ∷ xs) e = go (f x) refl e (λ q. one_there xs q)
     where
-      next : Some blank P xs → Some blank P (x ∷ xs)
+      next : One blank P xs → One blank P (x ∷ xs)
       next (i, h, p) = (suc i, omega arith, p)
 
-      go : (b : Bool) → f x ≡ b → (b || any f xs) ≡ true → (any f xs ≡ true → Some blank P xs) → Some blank P (x ∷ xs)
+      go : (b : Bool) → f x ≡ b → (b || any f xs) ≡ true → (any f xs ≡ true → One blank P xs) → One blank P (x ∷ xs)
       go true q e ih = (0, omega arith, (agree x).0 q)
       go false q e ih = next (ih e)
 
-  one_back : (l : List A) → Some blank P l → any f l ≡ true
+  one_back : (l : List A) → One blank P l → any f l ≡ true
   one_back [] (i, h, p) = absurd (omega arith)
   one_back (x ∷ xs) (zero, h, p) = rw ((agree x).1 p)
   one_back (x ∷ xs) (suc i, h, p) = (or_either (f x) (any f xs)).1 (inr (one_back xs (i, omega arith, p)))
 
-  pub some_at : (l : List A) → (any f l ≡ true) ↔ Some blank P l
+  pub some_at : (l : List A) → (any f l ≡ true) ↔ One blank P l
   some_at l = (one_there l, one_back l)
 
 -- ---- two of them
@@ -96,7 +96,7 @@ module _ {A : Type 0} (blank : A) (r : A → A → Bool) (P : A → A → Type 0
   two_there [] e = absurd (false≢true e)
   two_there (x ∷ xs) e = go ((or_either (any (r x) xs) (later r xs)).0 e) (λ q. two_there xs q)
     where
-      first : Some blank (P x) xs → Two blank P (x ∷ xs)
+      first : One blank (P x) xs → Two blank P (x ∷ xs)
       first (k, h, p) = (0, suc k, omega arith, omega arith, p)
 
       next : Two blank P xs → Two blank P (x ∷ xs)

@@ -1,11 +1,11 @@
 -- The sentences of the row 8.
 use Prim.Native.Nat.{ℕ, suc, ◌<◌}
-use mathlib.Core.Path.{◌≡◌, refl, sym, ap, subst, ◌∙◌}
+use mathlib.Core.Path.{◌≡◌, refl, subst}
 use mathlib.Core.Logic.Iff
 use mathlib.Core.Logic.{◌↔◌, ◌⊎◌}
 use mathlib.Core.List.{List, [], ◌∷◌}
 use mathlib.Core.Bool.{Bool, true, false, cond, ◌&&◌, ◌||◌, false≢true}
-use mathlib.Core.Option.{Option, none, some}
+use Rattle.std.specs.Prelude.{Some, find}
 use native.Mathlib.Omega.{arith}
 use lib.ListN.{length}
 use lib.Dec.{eqb, ltb}
@@ -13,10 +13,11 @@ use Rattle.wire.specs.Lists.{any, twice}
 use Rattle.wire.specs.Judged.{row, then_judge}
 use Rattle.wire.specs.Judged.Judged.{refuse, accept}
 use Rattle.fields.specs.Parse.{read}
-use Rattle.segment_record.specs.Record.{BookPoint, BookSegment, lookup_point}
-use Rattle.book.specs.Book.{records, lookup, is_some}
+use Rattle.segment_record.specs.declared.BookPoint.{BookPoint}
+use Rattle.segment_record.specs.Record.{BookSegment}
+use Rattle.book.specs.Book.{records, is_some}
 use Rattle.book.specs.Table.{same_segment, nidtp_twice, book_of}
-use Rattle.book.specs.Sentences.{Some, blank_record, blank_record_point, SegmentTwice, PointTwice, Sentences}
+use Rattle.book.specs.Sentences.{One, blank_record, blank_record_point, SegmentTwice, PointTwice, Sentences}
 use Rattle.book.proofs.Pairs.{or_either, either, and_both, equal, equal_back, below, through, some_at, twice-at, number-twice}
 
 segments : (book : List BookSegment) → (twice same_segment book ≡ true) ↔ SegmentTwice book
@@ -25,36 +26,32 @@ segments book =
     (λ a b. and_both (eqb b.nidc a.nidc) (eqb b.nidsp a.nidsp) (a.nidc ≡ b.nidc) (a.nidsp ≡ b.nidsp) (equal_back a.nidc b.nidc) (equal_back a.nidsp b.nidsp))
     book
 
-points : (book : List BookSegment) → (any nidtp_twice book ≡ true) ↔ Some blank_record PointTwice book
+points : (book : List BookSegment) → (any nidtp_twice book ≡ true) ↔ One blank_record PointTwice book
 points book = some_at blank_record nidtp_twice PointTwice (λ s. number-twice blank_record_point (λ (p : BookPoint). p.nidtp) s.points) book
 
--- ---- look-ups: the first of which a test holds
-
-abbrev first_of : {A : Type 0} → (A → Bool) → List A → Option A
-first_of f [] = none
-first_of f (x ∷ xs) = cond (f x) (some x) (first_of f xs)
+-- ---- look-ups
 
 module _ {A : Type 0} (blank : A) (f : A → Bool) (P : A → Type 0) (agree : (a : A) → (f a ≡ true) ↔ P a) where
-  there : (l : List A) → is_some (first_of f l) ≡ any f l
+  there : (l : List A) → is_some (find f l) ≡ any f l
   there [] = refl
   there (x ∷ xs) = go (f x) (there xs)
     where
-      go : (b : Bool) → is_some (first_of f xs) ≡ any f xs → is_some (cond b (some x) (first_of f xs)) ≡ (b || any f xs)
+      go : (b : Bool) → is_some (find f xs) ≡ any f xs → is_some (cond b (Some x) (find f xs)) ≡ (b || any f xs)
       go true ih = refl
       go false ih = ih
 
-  in_list : (l : List A) → (is_some (first_of f l) ≡ true) ↔ Some blank P l
-  in_list l = through (is_some (first_of f l)) (any f l) (Some blank P l) (there l) (some_at blank f P agree l)
+  in_list : (l : List A) → (is_some (find f l) ≡ true) ↔ One blank P l
+  in_list l = through (is_some (find f l)) (any f l) (One blank P l) (there l) (some_at blank f P agree l)
 
-  one_found : (l : List A) (a : A) → first_of f l ≡ some a → P a × Some blank (λ b. b ≡ a) l
+  one_found : (l : List A) (a : A) → find f l ≡ Some a → P a × One blank (λ b. b ≡ a) l
   one_found [] a e = let z : ◌≡◌ {A = ℕ} 0 1 = cc in absurd (omega arith)
   one_found (x ∷ xs) a e = go (f x) refl e (λ q. one_found xs a q)
     where
-      next : P a × Some blank (λ b. b ≡ a) xs → P a × Some blank (λ b. b ≡ a) (x ∷ xs)
+      next : P a × One blank (λ b. b ≡ a) xs → P a × One blank (λ b. b ≡ a) (x ∷ xs)
       next (p, (i, h, q)) = (p, (suc i, omega arith, q))
 
-      go : (b : Bool) → f x ≡ b → cond b (some x) (first_of f xs) ≡ some a → (first_of f xs ≡ some a → P a × Some blank (λ b. b ≡ a) xs)
-          → P a × Some blank (λ b. b ≡ a) (x ∷ xs)
+      go : (b : Bool) → f x ≡ b → cond b (Some x) (find f xs) ≡ Some a → (find f xs ≡ Some a → P a × One blank (λ b. b ≡ a) xs)
+          → P a × One blank (λ b. b ≡ a) (x ∷ xs)
       go true t e ih = let q : x ≡ a = cc in (subst P q ((agree x).0 t), (0, omega arith, q))
       go false t e ih = next (ih e)
 
@@ -68,18 +65,6 @@ module _ (c sp : ℕ) where
   named_is : (s : BookSegment) → (named s ≡ true) ↔ Named s
   named_is s = and_both (eqb s.nidc c) (eqb s.nidsp sp) (s.nidc ≡ c) (s.nidsp ≡ sp) (equal s.nidc c) (equal s.nidsp sp)
 
-  by_name : (book : List BookSegment) → lookup c sp book ≡ first_of named book
-  by_name [] = refl
-  by_name (s ∷ ss) = ap (λ (r : Option BookSegment). cond (named s) (some s) r) (by_name ss)
-
-module _ (t : ℕ) where
-  abbrev called : BookPoint → Bool
-  called p = eqb p.nidtp t
-
-  by_nidtp : (ps : List BookPoint) → lookup_point t ps ≡ first_of called ps
-  by_nidtp [] = refl
-  by_nidtp (p ∷ ps) = ap (λ (r : Option BookPoint). cond (called p) (some p) r) (by_nidtp ps)
-
 -- ---- the row
 
 pub row-refuses : (n : ℕ) (b : Bool) {A : Type 0} (a : A) → (then_judge (row n b) (λ u. accept a) ≡ refuse n) ↔ (b ≡ true)
@@ -87,7 +72,7 @@ row-refuses n true a = (λ e. refl, λ e. refl)
 row-refuses n false a = (λ e. cc, λ e. absurd (false≢true e))
 
 eight : (l : List ℕ) (book : List BookSegment) → read 7 (records (suc (length l)) l) ≡ accept book
-    → (book_of l ≡ refuse 8) ↔ (SegmentTwice book ⊎ Some blank_record PointTwice book ⊎ (40 < length book))
+    → (book_of l ≡ refuse 8) ↔ (SegmentTwice book ⊎ One blank_record PointTwice book ⊎ (40 < length book))
 unfolding book_of
 eight l book e =
     let a = twice same_segment book in
@@ -101,8 +86,8 @@ sentences = record {
   segment_twice = segments;
   point_twice = points;
   eight = eight;
-  in_book = λ book c sp. rw (by_name c sp book) (in_list blank_record (named c sp) (Named c sp) (named_is c sp) book);
-  in_record = λ s t. rw (by_nidtp t s.points) (in_list blank_record_point (called t) (λ p. p.nidtp ≡ t) (λ p. equal p.nidtp t) s.points);
-  found = λ book c sp s e. one_found blank_record (named c sp) (Named c sp) (named_is c sp) book s (sym (by_name c sp book) ∙ e);
-  found_point = λ ps t p e. one_found blank_record_point (called t) (λ p. p.nidtp ≡ t) (λ p. equal p.nidtp t) ps p (sym (by_nidtp t ps) ∙ e);
+  in_book = λ book c sp. in_list blank_record (named c sp) (Named c sp) (named_is c sp) book;
+  in_record = λ s t. in_list blank_record_point (λ p. eqb p.nidtp t) (λ p. p.nidtp ≡ t) (λ p. equal p.nidtp t) s.points;
+  found = λ book c sp s e. one_found blank_record (named c sp) (Named c sp) (named_is c sp) book s e;
+  found_point = λ ps t p e. one_found blank_record_point (λ p. eqb p.nidtp t) (λ p. p.nidtp ≡ t) (λ p. equal p.nidtp t) ps p e;
 }

@@ -1,6 +1,6 @@
 -- Document 01, "Book and journey": books in bytes, the numbers 7 and 8, and the look-up of a segment. Values are worked out from the paper.
 use Rattle.std.specs.Prelude.{ℕ, zero, suc, ◌≡◌, List, [], ◌∷◌, ◌++◌, map, true, false, length}
-use Rattle.std.proofs.Math.Option.{none, some}
+use Rattle.std.specs.Prelude.{Some, None}
 use Rattle.wire.specs.Judged.{Judged, then_judge}
 use Rattle.wire.specs.Judged.Judged.{refuse, accept}
 use Rattle.segment_record.specs.Record.{BookSegment}
@@ -56,5 +56,5 @@ pub record Anchors : Type 0 where
   -- a segment is named by NID_C and NID_SP together
   pub look_up : map (λ (n : ℕ × ℕ). lookup n.0 n.1 (value 17 5 ∷ value 18 5 ∷ value 17 6 ∷ [])) (
       (17, 5) ∷ (18, 5) ∷ (17, 6) ∷ (18, 6) ∷ (5, 17) ∷ []
-      ) ≡ some (value 17 5) ∷ some (value 18 5) ∷ some (value 17 6) ∷ none ∷ none ∷ []
-  pub found : map is_some (some (value 17 5) ∷ none ∷ []) ≡ true ∷ false ∷ []
+      ) ≡ Some (value 17 5) ∷ Some (value 18 5) ∷ Some (value 17 6) ∷ None ∷ None ∷ []
+  pub found : map is_some (Some (value 17 5) ∷ None ∷ []) ≡ true ∷ false ∷ []

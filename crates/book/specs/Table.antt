@@ -5,7 +5,8 @@ use Rattle.wire.specs.Judged.{Judged, row, ◌>>=◌, ◌>>◌}
 use Rattle.fields.specs.Parse.{read}
 use Rattle.wire.specs.Judged.Judged.{accept}
 use Rattle.engine_value.specs.Engine.{max_segments}
-use Rattle.segment_record.specs.Record.{BookPoint, BookSegment}
+use Rattle.segment_record.specs.declared.BookPoint.{BookPoint}
+use Rattle.segment_record.specs.Record.{BookSegment}
 use Rattle.book.specs.Book.{records}
 
 -- "8 a segment .. twice": NID_C and NID_SP together

@@ -1,12 +1,9 @@
 -- Laws of what an engine shows, and of a call by the rows that it went through.
-use Prim.Native.Nat.{ℕ, ◌+◌, ◌≤◌, ◌<◌}
+use Prim.Native.Nat.{ℕ, ◌≤◌, ◌<◌}
 use mathlib.Core.Path.{◌≡◌, refl}
-use mathlib.Core.List.{List}
 use mathlib.Core.Bool.{Bool, true, false}
 use native.Mathlib.Omega.{arith}
-use native.Mathlib.Numerals.{add-one}
-use lib.ListN.{length, take, set, length-append, length-drop}
-use lib.Seq.{take-suc-set}
+use lib.ListN.{length, length-append, length-drop}
 use lib.Dec.{ltb}
 use borrow.Author.Tests.{lt-ltb, le-ltb, ltb-false}
 use Rattle.wire.specs.Judged.{Judged, then_judge, row}
@@ -17,18 +14,28 @@ use Rattle.event.specs.Events.{event_of}
 use Rattle.event.specs.Kinds.{kind_of}
 use Rattle.event.specs.declared.Event.{Event}
 use Rattle.packets.specs.Packets.{joined}
+use Rattle.status_word.specs.View.{conditions_number}
+use Rattle.status_word.proofs.ConditionLaws.{number-most}
 use Rattle.position.specs.Position.{point_count}
 use Rattle.position.specs.Standing.{standing, standing_code}
+use Rattle.conditions.specs.Conditions.{conditions}
+use Rattle.conditions.proofs.NineLaws.{conditions_zeros}
 use Rattle.state_codes.specs.Codes.{state_at}
 use Rattle.state_codes.specs.Numbers.{power_rows, state_row}
 use Rattle.states.specs.States.{machine_after}
 use Rattle.states.specs.ControlGroup.{control_after}
 use Rattle.call.specs.Effect.{Effect, power_off, effect}
 use Rattle.call_values.specs.Call.{Call}
-use Rattle.call.specs.Call.{Step, step_by, judge, judged, outcome_of, step_of}
-use Rattle.call.specs.Shown.{standing_in, standings_in}
+use Rattle.call.specs.Call.{conditions_in, Step, step_by, judge, judged, outcome_of, step_of}
+use Rattle.call.specs.Shown.{standing_in}
 
--- ---- standings
+-- ---- what an engine shows
+
+pub nine_most : (e : Engine) → conditions_number (conditions_in e) ≤ 511
+unfolding conditions_in
+nine_most e =
+    number-most (conditions (route_in e) e.inputs.reports e.train.position (standing e.progress))
+    (conditions_zeros (route_in e) e.inputs.reports e.train.position (standing e.progress))
 
 module _ (e : Engine) (k : ℕ) where
   pub standing_there : k < point_count (route_in e) → standing_code (standing e.progress k) ≡ standing_in e k
@@ -36,11 +43,6 @@ module _ (e : Engine) (k : ℕ) where
 
   pub standing_past : point_count (route_in e) ≤ k → 0 ≡ standing_in e k
   standing_past h = rw (le-ltb k (point_count (route_in e)) h)
-
-  -- the standings one by one: those of the first k points stand in l
-  pub standings_more : (l : List ℕ) (s : ℕ) → k < length l → take k l ≡ standings_in e k → s ≡ standing_in e k → take (k + 1) (set l k s) ≡ standings_in e (k + 1)
-  unfolding standings_in
-  standings_more l s h t d = rw (add-one k, take-suc-set l k s h, t, d)
 
 -- "Power off returns to fresh."
 pub off_fresh : (e : Engine) → (step_by e Event.PowerOff power_off).engine ≡ fresh
@@ -50,11 +52,11 @@ off_fresh e = refl
 -- ---- a call by the rows
 
 then_accepts : {A B : Type 0} (m : Judged A) (f : A → Judged B) (b : B) → then_judge m f ≡ accept b → (a : A) × (m ≡ accept a) × (f a ≡ accept b)
-then_accepts (refuse n) f b e = let z : ◌≡◌ {A = ℕ} 0 1 = cc in absurd (omega arith)
+then_accepts (refuse n) f b e = cc
 then_accepts (accept a) f b e = (a, refl, e)
 
 row_accepts : (n : ℕ) (b : Bool) → row n b ≡ accept tt → b ≡ false
-row_accepts n true e = let z : ◌≡◌ {A = ℕ} 0 1 = cc in absurd (omega arith)
+row_accepts n true e = cc
 row_accepts n false e = refl
 
 module _ (e : Engine) (c : Call) where

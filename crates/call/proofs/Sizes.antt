@@ -3,7 +3,7 @@ use Prim.Native.Nat.{ℕ, zero, suc, ◌+◌, ◌-◌, ◌*◌, ◌≤◌}
 use mathlib.Core.Path.{◌≡◌, refl, sym, ap, subst, ◌∙◌}
 use mathlib.Core.List.{List, [], ◌∷◌, ◌++◌, map}
 use mathlib.Core.Bool.{Bool, true, false, ◌&&◌, ◌||◌}
-use mathlib.Core.Option.{Option, none, some}
+use Rattle.std.specs.Prelude.{Option, Some, None}
 use lib.ListN.{length, length-append, length-map}
 use lib.Dec.{ltb}
 use borrow.Author.Tests.{le-ltb}
@@ -21,7 +21,6 @@ use Rattle.event.specs.Kinds.{Role, off, load, report, other, skip, Carried, rol
 use Rattle.packets.specs.Packets.{packet_bytes, joined}
 use Rattle.packets.specs.declared.Requested.{Requested}
 use Rattle.status_word.specs.declared.OperationalConditions.{OperationalConditions}
-use Rattle.packets.specs.declared.Packet.{Packet}
 use Rattle.packets.proofs.PacketLaws.{length-packet_bytes, length-joined, length-one}
 use Rattle.journey.specs.declared.Head.{Head}
 use Rattle.route.specs.Route.{LoadValue, load_of}
@@ -31,9 +30,8 @@ use Rattle.timing.specs.Distance.{report_from, beyond, moving}
 use Rattle.timing.specs.Report.{following, looked, looked_from, departs, first_looked, reported, became_reached}
 use Rattle.timing.specs.Changes.{change, passings, when, changes_of, report_changes, status_departed, status_stopped}
 use Rattle.position.specs.Standing.{standing, behind}
+use Rattle.position.specs.declared.Stop.{Stop}
 use Rattle.timing.proofs.Steps.{reported_stays, reported_departs, reported_looks}
-use Rattle.position.specs.declared.Found.{Found}
-use Rattle.position.specs.declared.Found.TheVariants.{At, Nothing}
 use Rattle.call_values.specs.Packets.{PointChange, timing_point, jp_received, ato_status, received, traction_brake, traction_brakes, status_due, packets_of}
 use Rattle.state_codes.specs.Codes.{state_at}
 use Rattle.traction.specs.Requests.{written_content}
@@ -43,7 +41,7 @@ use Rattle.call.specs.Packets.{change_in, own_packets}
 use Rattle.look_up.specs.LookUp.{position_after, look_up}
 use Rattle.look_up.specs.declared.LookedUp.{LookedUp}
 use Rattle.call_values.specs.Rows.{offset_beyond, same_bool}
-use Rattle.call.specs.Effect.{Effect, effect_as, effect, train_with, values_only, position_effect, reported_in, load_effect, skip_at, skip_effect, skipped_in, loaded_in}
+use Rattle.call.specs.Effect.{Effect, effect_as, effect, train_with, values_only, position_effect, reported_in, load_effect, skip_effect, skipped_in, loaded_in}
 use Rattle.call.specs.Call.{status_in, step_by}
 
 -- ---- the points that a report changes
@@ -89,8 +87,8 @@ module _ (j : Route) (r : distance.Report) (p : Progress) where
 -- ---- what an effect writes, but for packet 68
 
 abbrev load_bytes : Option Head → ℕ
-load_bytes none = 0
-load_bytes (some h) = 29
+load_bytes None = 0
+load_bytes (Some h) = 29
 
 abbrev Small : Judged Effect → Type 0
 Small (refuse n) = Unit {0}
@@ -100,9 +98,10 @@ small_row : (n : ℕ) (b : Bool) (f : Effect) → Small (accept f) → Small (th
 small_row n true f h = tt
 small_row n false f h = h
 
-small-skip : (e : Engine) (c : Carried) (on skipped : Bool) (f : Found) → Small (skip_at e c on skipped f)
-small-skip e c on skipped Nothing = tt
-small-skip e c on skipped (At k) = small_row 15 (behind (standing e.progress k) || same_bool skipped on) (skipped_in e c k on) (omega arith)
+small-skip : (e : Engine) (c : Carried) (on : Bool) (f : Option Stop) → Small (skip_effect e c on f)
+unfolding skip_effect
+small-skip e c on None = tt
+small-skip e c on (Some s) = small_row 15 (behind (standing e.progress s.at) || same_bool s.skipped on) (skipped_in e c s.at on) (omega arith)
 
 small-load : (e : Engine) (c : Carried) (x : Judged LoadValue) → Small (then_judge x (λ l. accept (loaded_in e c l)))
 small-load e c (refuse n) = tt
@@ -113,7 +112,7 @@ unfolding position_effect
 small-report e c l h = small_row 13 (offset_beyond l.segment (train_with e c).position) (reported_in e c l.report) (omega arith)
 
 small : (e : Engine) (journey book : List ℕ) (event : Event) → Small (effect e journey book event)
-unfolding effect load_effect skip_effect report_changes
+unfolding effect load_effect report_changes
 small e journey book event = go (role_of event) refl
   where
     c : Carried
@@ -124,7 +123,7 @@ small e journey book event = go (role_of event) refl
     go load q = small-load e c (load_of journey book)
     go report q = small-report e c (look_up e event) (rw q (changes_most (route_in e) (report_from e (position_after e event)) e.progress))
     go other q = omega arith
-    go (skip t on) q = small-skip e c on (look_up e event).stop.skipped (look_up e event).stop.at
+    go (skip t on) q = small-skip e c on (look_up e event).stop
 
 -- a traction request changes no point and loads nothing
 request-small : (e : Engine) (journey book : List ℕ) (x : TractionRequest) (f : Effect) → effect e journey book (Event.Traction x) ≡ accept f → load_bytes f.loaded + 25 * length f.changes ≡ 0
@@ -143,8 +142,8 @@ module _ (j : Route) (x : Position) where
 
   size_65 : (h : Option Head) → length (joined (received j x h)) ≡ load_bytes h
   unfolding jp_received
-  size_65 none = refl
-  size_65 (some h) = length-one (jp_received j x h) 29 refl
+  size_65 None = refl
+  size_65 (Some h) = length-one (jp_received j x h) 29 refl
 
   size_68 : (b : Bool) (s : ℕ) (n : OperationalConditions) → length (joined (when b (ato_status j x s n))) ≤ 19
   unfolding ato_status
@@ -153,11 +152,11 @@ module _ (j : Route) (x : Position) where
 
   size_61 : (o : Option Requested) → length (joined (traction_brakes j x o)) ≤ 22
   unfolding traction_brake
-  size_61 none = omega arith
-  size_61 (some r) = omega (arith, length-one (traction_brake j x r) 22 refl)
+  size_61 None = omega arith
+  size_61 (Some r) = omega (arith, length-one (traction_brake j x r) 22 refl)
 
 -- only a request writes a packet of its own
-own_none : (e : Engine) (event : Event) (m : Engine) → (carried event).traction ≡ none → length (joined (own_packets e event m)) ≡ 0
+own_none : (e : Engine) (event : Event) (m : Engine) → (carried event).traction ≡ None → length (joined (own_packets e event m)) ≡ 0
 own_none e event m q =
     ap (λ (o : Option Requested). length (joined (traction_brakes (route_in m) m.train.position o)))
     (not_written (state_at e.control.state) event (remembered_in e.traction) (remembered_in m.traction) q)
@@ -168,10 +167,10 @@ with_own : (e : Engine) (journey book : List ℕ) (event : Event) (f : Effect) (
 with_own e journey book event f m q = go (carried event).traction refl (traction-of event)
   where
     go : (o : Option TractionRequest) → (carried event).traction ≡ o → OfTraction o event → load_bytes f.loaded + 25 * length f.changes + length (joined (own_packets e event m)) ≤ 1650
-    go none p k =
+    go None p k =
         let h : load_bytes f.loaded + 25 * length f.changes ≤ 1650 = subst Small q (small e journey book event) in
         omega (arith, h, own_none e event m p)
-    go (some x) p k =
+    go (Some x) p k =
         let z = request-small e journey book x f (subst (λ (v : Event). effect e journey book v ≡ accept f) k q) in
         omega (arith, z, size_61 (route_in m) m.train.position (written_content (state_at e.control.state) event (remembered_in e.traction) (remembered_in m.traction)))
 

@@ -1,9 +1,10 @@
 -- Values from documents 01 and 02 that the definitions must give. What Trials and Further show from the bytes of calls is not shown again.
-use Rattle.std.specs.Prelude.{ℕ, ◌≡◌, List, [], ◌∷◌, map, Bool, true, false, replicate}
-use Rattle.std.proofs.Math.Option.{none, some}
+use Rattle.std.specs.Prelude.{ℕ, ◌≡◌, List, [], ◌∷◌, map, Bool, true, false, replicate, Some, None, Ok, Err}
 use Rattle.wire.specs.Numbers.{bytes_of}
 use Rattle.wire.specs.Judged.{Judged, ◌>>=◌}
 use Rattle.wire.specs.Judged.Judged.{refuse, accept}
+use Rattle.wire.specs.View.{judged as view}
+use Rattle.wire.specs.declared.Refusal.{Refusal}
 use Rattle.engine_value.specs.Engine.{Route, no_route, blank_segment, progress, fresh, no_skips, no_traction}
 use Rattle.engine_value.specs.declared.Segment.{Segment}
 use Rattle.engine_value.specs.declared.Point.{Point}
@@ -27,13 +28,13 @@ use Rattle.route.specs.Route.{LoadValue}
 use Rattle.timing.specs.Changes.{change}
 use Rattle.timing.specs.declared.Reported.{Reported}
 use Rattle.call_values.specs.Call.{Call}
+use Rattle.call_values.specs.declared.Accepted.{Accepted}
 use Rattle.call_values.specs.Packets.{point_change}
 use Rattle.call.specs.Packets.{change_in}
 use Rattle.call.specs.Effect.{kept, cleared, replaced, skip_set, Effect, reported_in, loaded_in, effect, route_after, skips_after, stored}
 use Rattle.call.specs.Call.{conditions_in, status_in, step_by, judge, judged}
 use Rattle.call.specs.Shown.{standing_in}
-use Rattle.call.specs.View.{answer_view, shown_view}
-use Rattle.call.specs.declared.Answer.{Answer}
+use Rattle.call.specs.View.{shown_view}
 
 -- ---- a journey in segment 17/500 of 1,000 m: 7001, a stop; 7002, a stop that trackside skips; 7003, the End of Journey, no stop; 7004, a stop
 -- that the driver skips; 7005, a stop. A train of 4 m at 150 m
@@ -160,7 +161,7 @@ refusal (accept a) = 0
 
 abbrev pub reporting : Progress → ℕ → Bool → Bool → Reported
 reporting p from departed reached =
-    record { progress = p; from = from; departed = departed; reached = reached; placed_before = true; placed_after = true }
+    record { progress = p; from = from; departed = departed; reached = reached }
 
 -- an event with profiles that no load takes
 abbrev pub does : Engine → Event → Judged Effect
@@ -187,10 +188,13 @@ beyond_end = 9 ∷ 0 ∷ 17 ∷ 0 ∷ 0 ∷ 1 ∷ 244 ∷ 0 ∷ 1 ∷ 134 ∷ 16
 abbrev pub skip : ℕ → List ℕ
 skip t = 12 ∷ bytes_of 4 t
 
+abbrev pub accepted : ℕ → Bool → ℕ → Accepted
+accepted s r n = record { state = s; request = r; bytes = n }
+
 -- what an event does that only brings values: the points are not judged
 abbrev pub values : Train → Inputs → Effect
 values x i =
-    record { journey = kept; train = x; progress = progress 1 false; inputs = i; control = control 3 false true; loaded = none; changes = []; reached = false }
+    record { journey = kept; train = x; progress = progress 1 false; inputs = i; control = control 3 false true; loaded = None; changes = []; reached = false }
 
 abbrev pub skipping : ℕ → Bool → ℕ → Effect
 skipping k on status = record {
@@ -199,7 +203,7 @@ skipping k on status = record {
   progress = progress 1 false;
   inputs = inputs 1 2 20;
   control = control 3 false true;
-  loaded = none;
+  loaded = None;
   changes = change k status (progress 1 false) ∷ [];
   reached = false;
 }
@@ -231,7 +235,7 @@ pub record Anchors : Type 0 where
         progress = progress 3 true;
         inputs = inputs 1 2 20;
         control = control 3 false true;
-        loaded = none;
+        loaded = None;
         changes = change 1 2 (progress 2 false) ∷ change 2 0 (progress 3 false) ∷ change 3 1 (progress 3 true) ∷ [];
         reached = true;
       }
@@ -249,7 +253,7 @@ pub record Anchors : Type 0 where
         progress = progress 3 false;
         inputs = inputs 1 2 20;
         control = control 3 false true;
-        loaded = some head;
+        loaded = Some head;
         changes = [];
         reached = false;
       }
@@ -279,7 +283,7 @@ pub record Anchors : Type 0 where
     progress = progress 4 true;
     inputs = inputs 0 1 31;
     control = control 4 true false;
-    loaded = some head;
+    loaded = Some head;
     changes = [];
     reached = false;
   })
@@ -338,5 +342,5 @@ pub record Anchors : Type 0 where
   pub shows : shown_view held ≡ record { state = 3; request = true; conditions = 252; point_count = 5; standings = 3 ∷ 1 ∷ replicate 62 0 }
   pub shows_fresh : shown_view fresh ≡ record { state = 0; request = false; conditions = 128; point_count = 0; standings = replicate 64 0 }
   -- "An accepted event returns state, request and bytes written"; "Every refusal returns the number only"
-  pub answers : map answer_view (Answer.Accepted 4 true 19 ∷ Answer.Accepted 3 false 44 ∷ Answer.Refused 13 ∷ [])
-      ≡ accept (record { state = 4; request = true; bytes = 19 }) ∷ accept (record { state = 3; request = false; bytes = 44 }) ∷ refuse 13 ∷ []
+  pub answers : map view (Ok (accepted 4 true 19) ∷ Ok (accepted 3 false 44) ∷ Err Refusal.Beyond ∷ [])
+      ≡ accept (accepted 4 true 19) ∷ accept (accepted 3 false 44) ∷ refuse 13 ∷ []

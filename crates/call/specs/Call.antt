@@ -1,6 +1,6 @@
 -- The meaning of a call: the table of numbers from top to bottom, else the new engine, its answer and the output memory.
-use Rattle.std.specs.Prelude.{ℕ, List, ◌++◌, map, Bool, true, false, cond, length, drop, ltb}
-use Rattle.wire.specs.Judged.{Judged, then_judge, row, ◌>>=◌, ◌>>◌}
+use Rattle.std.specs.Prelude.{ℕ, List, ◌++◌, map, length, drop, ltb}
+use Rattle.wire.specs.Judged.{Judged, row, ◌>>=◌, ◌>>◌}
 use Rattle.wire.specs.Judged.Judged.{refuse, accept}
 use Rattle.engine_value.specs.Engine.{route_in, with_control}
 use Rattle.engine_value.specs.declared.Control.{Control}
@@ -18,7 +18,8 @@ use Rattle.state_codes.specs.Numbers.{power_rows, state_row}
 use Rattle.states.specs.ControlGroup.{control_after}
 use Rattle.traction.specs.Requests.{remembered_after}
 use Rattle.traction.specs.View.{remembered_in, traction_of}
-use Rattle.call_values.specs.Call.{Call, Accepted}
+use Rattle.call_values.specs.Call.{Call}
+use Rattle.call_values.specs.declared.Accepted.{Accepted}
 use Rattle.call_values.specs.Packets.{Status, packets_of}
 use Rattle.call.specs.Packets.{change_in, own_packets}
 use Rattle.call.specs.Effect.{Effect, effect, stored}

@@ -1,7 +1,6 @@
 -- What an event does, and the places "book" to "skip" of the table of numbers.
-use Rattle.std.specs.Prelude.{ℕ, List, [], ◌∷◌, Bool, false, ◌||◌, set, if◌then◌else◌}
-use Rattle.std.proofs.Math.Option.{Option, none, some}
-use Rattle.wire.specs.Judged.{Judged, then_judge, row, ◌>>=◌, ◌>>◌}
+use Rattle.std.specs.Prelude.{ℕ, List, [], ◌∷◌, Bool, false, ◌||◌, set, if◌then◌else◌, Option, Some, None}
+use Rattle.wire.specs.Judged.{Judged, row, ◌>>=◌, ◌>>◌}
 use Rattle.wire.specs.Judged.Judged.{refuse, accept}
 use Rattle.engine_value.specs.Engine.{Route, Value, route_in, no_route, no_skips, number_in, train_of, inputs_of, progress, fresh_train, fresh_inputs, fresh_control}
 use Rattle.engine_value.specs.declared.Progress.{Progress}
@@ -15,8 +14,6 @@ use Rattle.journey.specs.declared.Head.{Head}
 use Rattle.route.specs.Route.{LoadValue, load_of}
 use Rattle.position.specs.Standing.{standing, behind}
 use Rattle.position.specs.declared.Stop.{Stop}
-use Rattle.position.specs.declared.Found.{Found}
-use Rattle.position.specs.declared.Found.TheVariants.{At, Nothing}
 use Rattle.timing.specs.Load.{target}
 use Rattle.timing.specs.Changes.{Change, change, changes_of, status_skipped, status_revoked}
 use Rattle.timing.specs.declared.Reported.{Reported}
@@ -59,12 +56,12 @@ inputs_with e c = inputs_of (numbers_with e c)
 -- an event that only brings values, or nothing
 abbrev pub values_only : Engine → Carried → Effect
 values_only e c =
-    record { journey = kept; train = train_with e c; progress = e.progress; inputs = inputs_with e c; control = e.control; loaded = none; changes = []; reached = false }
+    record { journey = kept; train = train_with e c; progress = e.progress; inputs = inputs_with e c; control = e.control; loaded = None; changes = []; reached = false }
 
 -- "Power off returns to fresh."
 abbrev pub power_off : Effect
 power_off =
-    record { journey = cleared; train = fresh_train; progress = progress 0 false; inputs = fresh_inputs; control = fresh_control; loaded = none; changes = []; reached = false }
+    record { journey = cleared; train = fresh_train; progress = progress 0 false; inputs = fresh_inputs; control = fresh_control; loaded = None; changes = []; reached = false }
 
 -- what a position report tells of the points
 abbrev pub reported_in : Engine → Carried → Reported → Effect
@@ -75,7 +72,7 @@ reported_in e c r =
       progress = r.progress;
       inputs = inputs_with e c;
       control = e.control;
-      loaded = none;
+      loaded = None;
       changes = changes_of e.progress r;
       reached = r.reached;
     }
@@ -95,7 +92,7 @@ loaded_in e c l =
       progress = progress (target l.route (train_with e c).position (train_with e c).length) false;
       inputs = inputs_with e c;
       control = e.control;
-      loaded = some l.head;
+      loaded = Some l.head;
       changes = [];
       reached = false;
     }
@@ -115,21 +112,18 @@ skipped_in e c k on =
       progress = e.progress;
       inputs = inputs_with e c;
       control = e.control;
-      loaded = none;
+      loaded = None;
       changes = change k (if on then status_skipped else status_revoked) e.progress ∷ [];
       reached = false;
     }
 
 -- skip: "14 no stop of that name; 15 point reached or passed, driver skip already given, or no driver skip to revoke (a trackside skip counts
 -- for neither)"
-abbrev pub skip_at : Engine → Carried → Bool → Bool → Found → Judged Effect
-skip_at e c on skipped Nothing = refuse 14
-skip_at e c on skipped (At k) = do
-  row 15 (behind (standing e.progress k) || same_bool skipped on)
-  accept (skipped_in e c k on)
-
-unfoldable pub skip_effect : Engine → Carried → Bool → Stop → Judged Effect
-skip_effect e c on s = skip_at e c on s.skipped s.at
+unfoldable pub skip_effect : Engine → Carried → Bool → Option Stop → Judged Effect
+skip_effect e c on None = refuse 14
+skip_effect e c on (Some s) = do
+  row 15 (behind (standing e.progress s.at) || same_bool s.skipped on)
+  accept (skipped_in e c s.at on)
 
 -- what an event does, by its role. "Other kinds ignore the lent profiles."
 abbrev pub effect_as : Role → Engine → Carried → LookedUp → List ℕ → List ℕ → Judged Effect

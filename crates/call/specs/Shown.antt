@@ -1,5 +1,6 @@
 -- What the engine shows; beside these the nine conditions, `conditions_in`.
-use Rattle.std.specs.Prelude.{ℕ, suc, zero, Bool, List, [], ◌∷◌, ◌++◌, ltb, if◌then◌else◌}
+use Rattle.std.specs.Prelude.{ℕ, Bool, List, map, ltb, if◌then◌else◌}
+use Rattle.std.specs.List.{range_with_len}
 use Rattle.engine_value.specs.Engine.{route_in}
 use Rattle.engine_value.specs.declared.Engine.{Engine}
 use Rattle.position.specs.Position.{point_count}
@@ -19,5 +20,4 @@ standing_in e k = if ltb k (point_count (route_in e)) then standing_code (standi
 
 -- the same of the first n points
 unfoldable pub standings_in : Engine → ℕ → List ℕ
-standings_in e zero = []
-standings_in e (suc n) = standings_in e n ++ (standing_in e n ∷ [])
+standings_in e n = map (standing_in e) (range_with_len 0 n)

@@ -1,4 +1,4 @@
-// The meaning of a call stands in specs/; here are its answer as a type, and what an engine shows.
+// The meaning of a call stands in specs/; here is what an engine shows.
 #![tactic(auto)]
 
 ghost use Rattle.std.specs.Prelude.{◌≡◌, ◌≤◌};
@@ -9,19 +9,9 @@ ghost use Rattle.call.specs.View.{shown_view};
 
 use engine_value::{Engine, MAX_POINTS};
 
-// State, request and bytes written, or the number of the row that refuses.
-#[derive(Clone, Copy)]
-pub enum Answer {
-    Accepted {
-        state: u8,
-        request: bool,
-        bytes: usize,
-    },
-    Refused(u8),
-}
-
 // What an engine shows: the state's code, whether AD is requested, the nine conditions as a number (condition 0 the least
 // significant bit), how many points the journey has, and where each stands: 0 not used, 1 targeted, 2 reached, 3 passed.
+// Numbers and an array, for it is a struct of the C interface.
 #[repr(C)]
 #[derive(Clone, Copy)]
 pub struct Shown {
@@ -33,43 +23,33 @@ pub struct Shown {
 }
 
 // Where point k stands.
-fn standing(e: Engine, k: u8) -> u8
-    ensures { result ≡ standing_in e k }
+fn standing(e: &Engine, k: usize) -> u8
+    ensures { result ≡ standing_in e.now k }
 {
-    let n = position::points_loaded(e.load);
-    if k < n {
-        let s = position::standing_of(e.progress, k);
-        return position::standing_code(s);
+    if k < position::points_loaded(e.load) as usize {
+        u8::from(position::standing_of(e.progress, k as u8))
+    } else {
+        0
     }
-    0
 }
 
 // Where each point stands.
-fn standings(e: Engine) -> [u8; MAX_POINTS]
-    ensures { result ≡ standings_in e max_points }
+fn standings(e: &Engine) -> [u8; MAX_POINTS]
+    ensures { result ≡ standings_in e.now max_points }
 {
-    let mut codes = [0; MAX_POINTS];
-    let mut k: usize = 0;
-    while k < MAX_POINTS {
-        let code = standing(e, k as u8);
-        codes[k] = code;
-        k += 1;
-    }
-    codes
+    std::array::from_fn(|k| standing(e, k))
 }
 
-pub fn show(e: Engine) -> Shown
-    ensures { (result ≡ shown_view e) × (result.conditions ≤ all_conditions) }
+#[tactic(auto, using(crate::proofs::Rows::nine_most), unfolding(crate::specs::Call::conditions_in))]
+pub fn show(e: &Engine) -> Shown
+    ensures value { result ≡ shown_view e.now }
+    ensures nine { result.conditions ≤ all_conditions }
 {
-    let conditions = conditions::conditions(e);
-    let number = status_word::number_of(conditions);
-    let points = position::points_loaded(e.load);
-    let standings = standings(e);
     Shown {
         state: e.control.state,
         request: e.control.request,
-        conditions: (number % 65536) as u16,
-        point_count: points,
-        standings: standings,
+        conditions: conditions::conditions(e).number() as u16,
+        point_count: position::points_loaded(e.load),
+        standings: standings(e),
     }
 }

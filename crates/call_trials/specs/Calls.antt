@@ -6,7 +6,8 @@ use Rattle.wire.specs.Judged.Judged.{refuse}
 use Rattle.engine_value.specs.declared.Engine.{Engine}
 use Rattle.position.specs.Standing.{standing}
 use Rattle.position.specs.declared.Standing.{Standing}
-use Rattle.call_values.specs.Call.{Call, Accepted}
+use Rattle.call_values.specs.Call.{Call}
+use Rattle.call_values.specs.declared.Accepted.{Accepted}
 use Rattle.call.specs.Call.{step_of}
 use Rattle.call.specs.Trials.{plain, loads, configured, reports, press, mode, lever, train_length, skip, revoke}
 use Rattle.call_trials.specs.Journey.{journey, book}

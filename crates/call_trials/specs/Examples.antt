@@ -8,8 +8,7 @@ use Rattle.call_values.specs.Call.{Call}
 use Rattle.call.specs.Call.{Outcome, step_of}
 use Rattle.call.specs.Trials.{plain, loads, after_each, answered, Gives, power_on, configured, reports, press, mode, lever, train_length, skip, revoke}
 use Rattle.call_trials.specs.Journey.{journey, book, book_with_c, short_records}
-use Rattle.call_trials.specs.Calls.{power_off, fault, in_a, in_b, in_c, in_d, undefined, nowhere, report, load, requested, traction, others, lending}
-use Rattle.call_trials.specs.Calls.{Refuses, answers_to, standings, packet, plain_packet, point, received}
+use Rattle.call_trials.specs.Calls.{power_off, fault, in_a, in_b, in_c, in_d, undefined, nowhere, report, load, requested, traction, others, lending, Refuses, answers_to, standings, packet, plain_packet, point, received}
 use Rattle.call_trials.specs.Engines.{on, failed, started, ready, pressed, driving, degraded, stopped, near_b, ended}
 
 -- ---- Numbers 1 to 6: event, power, state

@@ -1,6 +1,5 @@
 -- Values from documents 01 and 02 that the definitions must give.
-use Rattle.std.specs.Prelude.{ℕ, ◌≡◌, [], ◌∷◌, map, Bool, true, false}
-use Rattle.std.proofs.Math.Option.{none, some}
+use Rattle.std.specs.Prelude.{ℕ, ◌≡◌, [], ◌∷◌, map, Bool, true, false, Some, None}
 use Rattle.engine_value.specs.Engine.{Route, no_route, blank_point, blank_segment, fresh_position}
 use Rattle.engine_value.specs.declared.Segment.{Segment}
 use Rattle.engine_value.specs.declared.Point.{Point}
@@ -74,7 +73,7 @@ pub record Anchors : Type 0 where
   pub received_at : map (λ (x : Position). jp_received route x head) (at 17 500 100000 ∷ at 17 500 100001 ∷ at 17 500 16777215 ∷ at 18 600 10 ∷ at 20 800 10 ∷ [])
       ≡ packet65 (header_at 17 500 100000) 17 ∷ packet65 (header_at 17 500 100001) 1024 ∷ packet65 (header_at 17 500 16777215) 1024
       ∷ packet65 (header_at 18 600 10) 1024 ∷ packet65 (header_at 20 800 10) 1024 ∷ []
-  pub received_none : received route (at 17 500 39900) none ≡ []
+  pub received_none : received route (at 17 500 39900) None ≡ []
   -- "Written when state or conditions changed, or speed rose from 0 while not EG afterwards"
   pub unchanged : status_due (shown 3 511 0) (shown 3 511 0) ≡ false
   pub other_state : map (λ (s : ℕ). status_due (shown 3 511 7) (shown s 511 7)) (2 ∷ 3 ∷ 5 ∷ []) ≡ true ∷ false ∷ true ∷ []
@@ -84,12 +83,12 @@ pub record Anchors : Type 0 where
   pub speed_rose : map (λ (n : ℕ). status_due (shown 3 511 n) (shown 3 511 2)) (0 ∷ 1 ∷ 2 ∷ 3 ∷ []) ≡ true ∷ false ∷ false ∷ false ∷ []
   pub speed_fell : status_due (shown 3 511 2) (shown 3 511 0) ≡ false
   -- "Order: 65, the 62s as they arise, 68." "68: state + 16 × conditions", those after the event
-  pub order : packets_of route (at 17 500 39900) (some head) (point_change 0 2 true ∷ point_change 1 0 false ∷ []) [] (shown 3 511 7) (shown 5 507 7)
+  pub order : packets_of route (at 17 500 39900) (Some head) (point_change 0 2 true ∷ point_change 1 0 false ∷ []) [] (shown 3 511 7) (shown 5 507 7)
       ≡ packet65 (header_at 17 500 39900) 17 ∷ packet62 21 7001 1 2 2 0 ∷ packet62 22 7002 0 1 0 0 ∷ packet68 5 507 ∷ []
-  pub nothing_due : packets_of route (at 17 500 39900) none (point_change 0 1 true ∷ []) [] (shown 3 511 7) (shown 3 511 0) ≡ packet62 21 7001 1 2 1 55 ∷ []
+  pub nothing_due : packets_of route (at 17 500 39900) None (point_change 0 1 true ∷ []) [] (shown 3 511 7) (shown 3 511 0) ≡ packet62 21 7001 1 2 1 55 ∷ []
   -- 61 with the header's values after the event and the event's content; "Order: 65, the 62s as they arise, 68", 61 before the 68
-  pub traction : map (traction_brakes route (at 17 500 39900)) (none ∷ some requested ∷ []) ≡ [] ∷ (packet61 ∷ []) ∷ []
-  pub traction_order : packets_of route (at 17 500 39900) none (point_change 0 2 true ∷ []) (traction_brakes route (at 17 500 39900) (some requested)) (shown 3 511 7) (shown 5 507 7)
+  pub traction : map (traction_brakes route (at 17 500 39900)) (None ∷ Some requested ∷ []) ≡ [] ∷ (packet61 ∷ []) ∷ []
+  pub traction_order : packets_of route (at 17 500 39900) None (point_change 0 2 true ∷ []) (traction_brakes route (at 17 500 39900) (Some requested)) (shown 3 511 7) (shown 5 507 7)
       ≡ packet62 21 7001 1 2 2 0 ∷ packet61 ∷ packet68 5 507 ∷ []
   -- "13 journey segment that is in the book, offset defined and beyond its length": it need not be placed
   pub row_13 : map (λ (x : Position). offset_beyond (segment_named route x) x)

@@ -1,5 +1,6 @@
--- What a call brings, and what it answers where it is accepted.
-use Rattle.std.specs.Prelude.{ℕ, List, Bool}
+-- What a call brings, and what it answers where it is accepted: "An accepted event returns state, request and bytes written."
+use Rattle.std.specs.Prelude.{ℕ, List}
+pub use Rattle.call_values.specs.declared.Accepted.{Accepted}
 
 -- "A call brings any event, profiles and output memory"
 pub record Call : Type 0 where
@@ -7,9 +8,3 @@ pub record Call : Type 0 where
   pub journey : List ℕ
   pub book : List ℕ
   pub memory : List ℕ
-
--- "An accepted event returns state, request and bytes written."
-pub record Accepted : Type 0 where
-  pub state : ℕ
-  pub request : Bool
-  pub bytes : ℕ

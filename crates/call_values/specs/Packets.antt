@@ -1,6 +1,5 @@
 -- Documents 01, "Packets", and 02, Q-1: which packets an event writes, and with what values. Header values are those after the event.
-use Rattle.std.specs.Prelude.{ℕ, List, [], ◌∷◌, ◌++◌, map, Bool, not, ◌&&◌, ◌||◌, eqb, if◌then◌else◌}
-use Rattle.std.proofs.Math.Option.{Option, none, some}
+use Rattle.std.specs.Prelude.{ℕ, List, [], ◌∷◌, ◌++◌, map, Bool, not, ◌&&◌, ◌||◌, eqb, if◌then◌else◌, Option, Some, None}
 use Rattle.wire.specs.Numbers.{flag}
 use Rattle.engine_value.specs.Engine.{Route}
 use Rattle.engine_value.specs.declared.Load.{Load}
@@ -91,8 +90,8 @@ status_due before after =
     || (eqb before.speed 0 && (not (eqb after.speed 0) && not (eqb after.state (code EG)))))
 
 abbrev pub received : Route → Position → Option Head → List Packet
-received j x none = []
-received j x (some h) = jp_received j x h ∷ []
+received j x None = []
+received j x (Some h) = jp_received j x h ∷ []
 
 -- 61, of a traction request: its content is "the five bytes of packet 61" that the event carries
 abbrev pub traction_brake_of : Header → Requested → Packet
@@ -103,8 +102,8 @@ traction_brake j x r = traction_brake_of (header j x) r
 
 -- where one is written, with that content
 abbrev pub traction_brakes : Route → Position → Option Requested → List Packet
-traction_brakes j x none = []
-traction_brakes j x (some r) = traction_brake j x r ∷ []
+traction_brakes j x None = []
+traction_brakes j x (Some r) = traction_brake j x r ∷ []
 
 -- "Order: 65, the 62s as they arise, 68." The packets that one kind of event alone writes, here 61, stand before the 68
 abbrev pub in_order : List Packet → List Packet → List Packet → List Packet → List Packet

@@ -1,14 +1,17 @@
 -- The sentences: the search for the first point not passed, and the zones, one step at a time.
+use Rattle.std.specs.Prelude.{Option, Some, None, is_some}
 use Prim.Native.Nat.{ℕ, zero, suc, ◌+◌, ◌<◌, ◌≤◌}
 use mathlib.Core.Path.{◌≡◌, refl, sym, ap, ◌∙◌}
 use mathlib.Core.Logic.{◌↔◌, ◌⊎◌, inl, inr}
-use mathlib.Core.List.{List, [], ◌∷◌}
+use mathlib.Core.List.{List}
 use mathlib.Core.Bool.{Bool, true, false, not, ◌&&◌, ◌||◌, false≢true}
 use native.Mathlib.Omega.{arith}
 use native.Mathlib.Nat.{eq-or-lt_of_le}
 use lib.ListN.{length, get_or}
 use lib.Dec.{ltb, leb}
 use borrow.Author.Tests.{ltb-false, le-ltb, leb-true, leb-false, le-leb, lt-leb, eqb-false, ne_eqb, not-true, not-false}
+use Rattle.std.proofs.lemmas.List.{get_or_default}
+use Rattle.std.proofs.lemmas.List.Folds.{Any-from_list_any, list_any_at}
 use Rattle.wire.specs.Lists.{any}
 use Rattle.wire.proofs.ListLaws.{and_left, and_right}
 use Rattle.engine_value.specs.Engine.{Route, blank_zone, undefined}
@@ -17,9 +20,10 @@ use Rattle.engine_value.specs.declared.Position.{Position}
 use Rattle.position.specs.Position.{point_count, placed, in_zone, zones_of, named, segment_named, offset_defined}
 use Rattle.position.specs.Standing.{is_passed}
 use Rattle.position.specs.Sentences.{segment}
+use Rattle.position.specs.declared.Named.{Named}
 use Rattle.position.specs.declared.Standing.{Standing}
 use Rattle.position.proofs.Sentences.{named_at, found_at}
-use Rattle.conditions.specs.Conditions.{first_ahead, profiles_there, too_far, located, outside_zones}
+use Rattle.conditions.specs.Conditions.{first_ahead, profiles_there, located, outside_zones}
 use Rattle.conditions.specs.Sentences.{FirstNotPassed, NoneLeft, LocatedIn, InZone, ZonesBooked, Sentences}
 
 -- ---- 4
@@ -91,7 +95,7 @@ module _ (j : Route) (standing : ℕ → Standing) where
 module _ (j : Route) (x : Position) where
   -- what the test of `located` says, of the segment at k
   located_at : (k : ℕ) → LocatedIn j x k → located (segment_named j x) x ≡ true
-  located_at k h = ap (λ s. located s x) (named_at j x k h.its_segment) ∙ rw (ne_eqb x.offset undefined h.offset_defined_lem) (go _ refl)
+  located_at k h = rw (named_at j x k h.its_segment, ne_eqb x.offset undefined h.offset_defined_lem) (go _ refl)
     where
       go : (b : Bool) → (segment j k).booked ≡ b → not ((segment j k).booked && ltb (segment j k).length x.offset) ≡ true
       go true q = rw (q, le-ltb (segment j k).length x.offset (h.not_beyond q))
@@ -99,19 +103,24 @@ module _ (j : Route) (x : Position) where
 
   at_located : located (segment_named j x) x ≡ true → (k : ℕ) × LocatedIn j x k
   at_located e =
-      let r = and_right (offset_defined x) _ e in
-      let (k, h) = found_at j x (and_left (segment_named j x).found _ r) in
-      let near = not-true _ (and_right (segment_named j x).found _ r) in
-      let far : too_far x (named x.offset (segment j k)) ≡ false = ap (too_far x) (sym (named_at j x k h)) ∙ near in
-      (k, record { offset_defined_lem = eqb-false _ _ (not-true _ (and_left (offset_defined x) _ e)); its_segment = h; not_beyond = λ b. within k b far })
+      let (k, h) = found_at j x (found (segment_named j x) e) in
+      let f : located (Some (named x.offset (segment j k))) x ≡ true = rw (named_at j x k h) at e in (
+        k,
+        record {
+          offset_defined_lem = eqb-false _ _ (not-true _ (and_left (offset_defined x) _ f));
+          its_segment = h;
+          not_beyond = λ b. ltb-false _ _ (rw b at (not-true _ (and_right (offset_defined x) _ f)));
+        },
+      )
     where
-      within : (k : ℕ) → (segment j k).booked ≡ true → too_far x (named x.offset (segment j k)) ≡ false → x.offset ≤ (segment j k).length
-      within k b far = ltb-false _ _ (rw b at far)
+      found : (s : Option Named) → located s x ≡ true → is_some s ≡ true
+      found None e = e
+      found (Some s) e = refl
 
   -- ---- 7
 
   outside_is : (k : ℕ) → LocatedIn j x k → outside_zones (segment_named j x) x ≡ not (any (in_zone x.offset) (zones_of (segment j k)))
-  outside_is k h = rw (located_at k h) (ap (λ s. not s.inside) (named_at j x k h.its_segment))
+  outside_is k h = let l = rw (named_at j x k h.its_segment) at (located_at k h) in rw (named_at j x k h.its_segment, l)
 
 -- some zone of a list holds the offset
 module _ (offset : ℕ) where
@@ -119,29 +128,25 @@ module _ (offset : ℕ) where
   Holds l i = (i < length l) × ((get_or l i blank_zone).start ≤ offset) × (offset ≤ (get_or l i blank_zone).end)
 
   zone_there : (l : List Zone) → any (in_zone offset) l ≡ true → (i : ℕ) × Holds l i
-  zone_there [] e = absurd (false≢true e)
-  zone_there (z ∷ l) e = go _ refl (zone_there l)
-    where
-      go : (b : Bool) → in_zone offset z ≡ b → (any (in_zone offset) l ≡ true → (i : ℕ) × Holds l i) → (i : ℕ) × Holds (z ∷ l) i
-      go true q ih = (0, (omega arith, leb-true _ _ (and_left (leb z.start offset) _ q), leb-true _ _ (and_right (leb z.start offset) _ q)))
-      go false q ih = let (i, (a, b, c)) = ih (rw q at e) in (suc i, (omega arith, b, c))
+  zone_there l e =
+      let (i, z, h, g, q) = Any-from_list_any (in_zone offset) l e in
+      let r : get_or l i blank_zone ≡ z = get_or_default l i blank_zone z h ∙ g in
+      (i, rw r (h, leb-true _ _ (and_left (leb z.start offset) _ q), leb-true _ _ (and_right (leb z.start offset) _ q)))
 
   there_zone : (l : List Zone) (i : ℕ) → Holds l i → any (in_zone offset) l ≡ true
-  there_zone [] i (a, b, c) = absurd (omega arith)
-  there_zone (z ∷ l) zero (a, b, c) = rw (le-leb z.start offset b, le-leb offset z.end c)
-  there_zone (z ∷ l) (suc i) (a, b, c) = rw (there_zone l i (omega arith, b, c)) (or_true (in_zone offset z))
-    where
-      or_true : (b : Bool) → (b || true) ≡ true
-      or_true true = refl
-      or_true false = refl
+  there_zone l i (a, b, c) = list_any_at (in_zone offset) l i blank_zone a (rw (le-leb _ _ b, le-leb _ _ c))
 
 module _ (j : Route) (x : Position) where
   condition_7 : (outside_zones (segment_named j x) x ≡ false) ↔ ((k : ℕ) × LocatedIn j x k × ((i : ℕ) × InZone (segment j k) x.offset i))
   condition_7 = (there, back)
     where
+      inside : (s : Option Named) → outside_zones s x ≡ false → located s x ≡ true
+      inside None e = absurd (false≢true (sym e))
+      inside (Some s) e = and_left (located (Some s) x) _ (not-false _ e)
+
       there : outside_zones (segment_named j x) x ≡ false → (k : ℕ) × LocatedIn j x k × ((i : ℕ) × InZone (segment j k) x.offset i)
       there e =
-          let (k, h) = at_located j x (and_left (located (segment_named j x) x) _ (not-false _ e)) in
+          let (k, h) = at_located j x (inside (segment_named j x) e) in
           let (i, (a, b, c)) = zone_there x.offset (zones_of (segment j k)) (not-false _ (sym (outside_is j x k h) ∙ e)) in
           (k, h, (i, record { of_segment = a; from_start = b; to_end = c }))
 

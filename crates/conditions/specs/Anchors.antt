@@ -1,6 +1,6 @@
 -- Values that the definitions must give for the journey of position/Sample, worked out by hand from document 01, "Nine conditions": the End of
 -- Journey is point 3, the last point 4, which is not placed.
-use Rattle.std.specs.Prelude.{ℕ, ◌≡◌, List, [], ◌∷◌, map, Bool, true, false, eqb, if◌then◌else◌}
+use Rattle.std.specs.Prelude.{ℕ, ◌≡◌, Some, List, [], ◌∷◌, map, Bool, true, false, eqb, if◌then◌else◌}
 use Rattle.engine_value.specs.Engine.{Route, blank_point, no_route, fresh_position, no_operational, progress, undefined}
 use Rattle.engine_value.specs.declared.Position.{Position}
 use Rattle.status_word.specs.View.{conditions_number}
@@ -38,7 +38,7 @@ unplaced_journey = record {
 
 -- a segment of length 100 that is found, in the book, with the offset in a zone
 abbrev zoned : Named
-zoned = record { found = true; booked = true; placed = true; inside = true; start = 0; length = 100 }
+zoned = record { booked = true; placed = true; inside = true; start = 0; length = 100 }
 
 -- the four that are report bits
 abbrev by_reports : ℕ → List Bool
@@ -81,7 +81,7 @@ pub record Anchors : Type 0 where
   pub outside_unplaced : map (λ o. outside_zones (segment_named journey (at 33 502 o 0)) (at 33 502 o 0)) (9 ∷ 10 ∷ 20 ∷ 21 ∷ [])
       ≡ true ∷ false ∷ false ∷ true ∷ []
   pub outside_elsewhere : map (λ x. outside_zones (segment_named journey x) x) (at 17 502 15 0 ∷ at 17 501 15 0 ∷ []) ≡ true ∷ true ∷ []
-  pub outside_too_far : map (λ o. outside_zones zoned (at 17 500 o 0)) (100 ∷ 101 ∷ undefined ∷ []) ≡ false ∷ true ∷ true ∷ []
+  pub outside_too_far : map (λ o. outside_zones (Some zoned) (at 17 500 o 0)) (100 ∷ 101 ∷ undefined ∷ []) ≡ false ∷ true ∷ true ∷ []
   pub all_nine_lem : all_conditions ≡ 511
   pub in_order : nine journey.load 10 (record { profiles = false; located = true; outside = false }) (targeted 4)
       ≡ false ∷ true ∷ false ∷ true ∷ false ∷ false ∷ true ∷ false ∷ true ∷ []

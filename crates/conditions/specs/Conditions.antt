@@ -1,5 +1,5 @@
 -- The nine conditions (001 §6.4.9): functions of the journey in force, the reports, the position, and where each point stands.
-use Rattle.std.specs.Prelude.{ℕ, zero, suc, ◌+◌, ◌-◌, List, [], ◌∷◌, map, Bool, true, not, ◌&&◌, ◌||◌, ltb, leb, if◌then◌else◌}
+use Rattle.std.specs.Prelude.{ℕ, zero, suc, ◌+◌, ◌-◌, Option, Some, None, List, [], ◌∷◌, map, Bool, true, false, not, ◌&&◌, ◌||◌, ltb, leb, if◌then◌else◌}
 use Rattle.wire.specs.Numbers.{bit, flag}
 use Rattle.engine_value.specs.Engine.{Route}
 use Rattle.engine_value.specs.declared.Load.{Load}
@@ -49,15 +49,17 @@ abbrev pub too_far : Position → Named → Bool
 too_far x s = s.booked && ltb s.length x.offset
 
 -- "6: offset defined and its segment in the journey." By the segment that the position names
-abbrev pub located : Named → Position → Bool
-located s x = offset_defined x && (s.found && not (too_far x s))
+abbrev pub located : Option Named → Position → Bool
+located None x = false
+located (Some s) x = offset_defined x && not (too_far x s)
 
 -- "7: not within a zone of a journey segment in the book, both ends inside." A segment that is not in the book has no zones
-abbrev pub outside_zones : Named → Position → Bool
-outside_zones s x = not (located s x && s.inside)
+abbrev pub outside_zones : Option Named → Position → Bool
+outside_zones None x = true
+outside_zones (Some s) x = not (located (Some s) x && s.inside)
 
 -- 4, 6 and 7: those that look up the journey's points and segments
-abbrev pub route_conditions_by : Named → Position → Bool → RouteConditions
+abbrev pub route_conditions_by : Option Named → Position → Bool → RouteConditions
 route_conditions_by s x profiles = record { profiles = profiles; located = located s x; outside = outside_zones s x }
 
 abbrev pub route_conditions : Route → Position → (ℕ → Standing) → RouteConditions

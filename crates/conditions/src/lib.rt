@@ -1,18 +1,18 @@
 // The nine conditions (001 §6.4.9).
 #![tactic(auto)]
 
-ghost use Rattle.std.specs.Prelude.{◌≡◌, map, ◌-◌};
+ghost use Rattle.std.specs.Prelude.{◌≡◌, map};
 ghost use Rattle.wire.specs.Numbers.{flag};
-ghost use Rattle.engine_value.specs.Engine.{Route, route_in};
+ghost use Rattle.engine_value.specs.View.{route_view};
+ghost use Rattle.engine_value.specs.Engine.{route_in};
 ghost use Rattle.status_word.specs.Word.{conditions_of};
-ghost use Rattle.position.specs.Position.{placed};
 ghost use Rattle.position.specs.Standing.{standing};
-ghost use Rattle.conditions.specs.Conditions.{etcs_fulfilled, no_emergency_brake, no_inconsistency, data_valid};
-ghost use Rattle.conditions.specs.Conditions.{end_ahead, last_ahead, profiles_there, too_far, located, route_conditions_by, route_conditions, nine, conditions};
+ghost use Rattle.conditions.specs.Conditions.{end_ahead, last_ahead, profiles_there, too_far, located, route_conditions, nine, conditions};
 
-use engine_value::{Engine, Load, MAX_POINTS, Position, Progress, UNDEFINED};
-use position::Named;
+use engine_value::{Engine, Load, Position, Progress, Route, UNDEFINED};
+use position::{Named, Place};
 use status_word::OperationalConditions;
+use wire::bit;
 
 // What the conditions look up in the journey: 4, the first point not passed is placed, or none is left; 6, the offset counts in a segment
 // of the journey; 7, it is outside of the zones.
@@ -23,165 +23,75 @@ pub struct RouteConditions {
     pub outside: bool,
 }
 
-fn etcs_fulfilled(reports: u8) -> bool
-    ensures { result ≡ etcs_fulfilled reports }
-{
-    reports % 2 == 1
-}
-
-fn no_emergency_brake(reports: u8) -> bool
-    ensures { result ≡ no_emergency_brake reports }
-{
-    reports / 2 % 2 == 1
-}
-
-fn no_inconsistency(reports: u8) -> bool
-    ensures { result ≡ no_inconsistency reports }
-{
-    reports / 4 % 2 == 1
-}
-
-fn data_valid(reports: u8) -> bool
-    ensures { result ≡ data_valid reports }
-{
-    reports / 8 % 2 == 1
-}
-
-fn one_less(n: u8) -> u8
-    ensures { result ≡ n - 1 }
-{
-    if n == 0 { 0 } else { n - 1 }
-}
-
 // The End of Journey is neither reached nor passed, at a progress.
 pub fn end_ahead(l: Load, p: Progress) -> bool
     ensures { result ≡ end_ahead l (standing p) }
 {
-    if !l.valid {
-        return false;
-    }
-    let k = l.ending;
-    if k < p.next {
-        return false;
-    }
-    if k == p.next { !p.reached } else { true }
+    l.valid && (p.next < l.ending || (p.next == l.ending && !p.reached))
 }
 
 fn last_ahead(l: Load, p: Progress) -> bool
     ensures { result ≡ last_ahead l (standing p) }
 {
-    if !l.valid {
-        return false;
-    }
-    let last = one_less(position::points_loaded(l));
-    !(last < p.next)
+    l.valid && p.next <= position::points_loaded(l).saturating_sub(1)
 }
 
-// Point k is placed.
-pub fn placed_at(e: Engine, k: u8) -> bool
-    ensures { result ≡ placed (route_in e) k }
+// The first point not passed is placed, or none is left.
+fn profiles_there(j: Route, p: Progress) -> bool
+    ensures { result ≡ profiles_there (route_view j.entry) (standing p) }
 {
-    let i = k as usize;
-    let points = e.points;
-    if i < MAX_POINTS {
-        let p = points[i];
-        return p.placed;
-    }
-    false
-}
-
-// The first point not passed is placed, which `first` tells, or none is left, at a progress.
-pub fn profiles_there(l: Load, p: Progress, first: bool) -> bool
-    ensures { (j : Route) → l ≡ j.load → first ≡ placed j p.next → result ≡ profiles_there j (standing p) }
-{
-    if !l.valid {
-        return false;
-    }
-    if position::points_loaded(l) <= p.next {
-        true
-    } else {
-        first
-    }
+    j.load.valid && (position::points_loaded(j.load) <= p.next || position::point(j, p.next).placed)
 }
 
 // An offset held from before a load and beyond its segment's new length.
-fn too_far(x: Position, s: Named) -> bool
+pub fn too_far(x: Position, s: Named) -> bool
     ensures { result ≡ too_far x s }
 {
-    if s.booked { s.length < x.offset } else { false }
+    s.booked && s.length < x.offset
 }
 
 // The offset is defined and counts in the segment that the position names.
-fn located_in(s: Named, x: Position) -> bool
+fn located(s: Option<Named>, x: Position) -> bool
     ensures { result ≡ located s x }
 {
-    if x.offset == UNDEFINED {
-        return false;
-    }
-    if !s.found {
-        return false;
-    }
-    let far = too_far(x, s);
-    !far
+    x.offset != UNDEFINED && s.is_some_and(|s| !too_far(x, s))
 }
 
-// What the conditions look up, by the segment that the position names; `profiles` is condition 4.
-pub fn route_conditions(s: Named, x: Position, profiles: bool) -> RouteConditions
-    ensures { result ≡ route_conditions_by s x profiles }
+// What the conditions look up.
+pub fn route_conditions(place: Place, p: Progress) -> RouteConditions
+    ensures { result ≡ route_conditions (route_view place.entry.journey) place.entry.position (standing p) }
 {
-    if !located_in(s, x) {
-        return RouteConditions {
-            profiles: profiles,
-            located: false,
-            outside: true,
-        };
-    }
-    let inside = s.inside;
+    let located = located(place.segment, place.position);
     RouteConditions {
-        profiles: profiles,
-        located: true,
-        outside: !inside,
+        profiles: profiles_there(place.journey, p),
+        located,
+        outside: !(located && place.segment.is_some_and(|s| s.inside)),
     }
-}
-
-// What the conditions look up in an engine.
-fn route_conditions_in(e: Engine) -> RouteConditions
-    ensures { result ≡ route_conditions (route_in e) e.train.position (standing e.progress) }
-{
-    let s = position::segment_named(e, e.train.position);
-    let placed = placed_at(e, e.progress.next);
-    let profiles = profiles_there(e.load, e.progress, placed);
-    route_conditions(s, e.train.position, profiles)
-}
-
-// A test as zero or one.
-fn flag(b: bool) -> u8
-    ensures { result ≡ flag b }
-{
-    if b { 1 } else { 0 }
 }
 
 // The nine conditions, from what they look up.
+#[tactic(auto, using(crate::proofs::Laws::byte_is))]
 pub fn conditions_of(l: Load, reports: u8, w: RouteConditions, p: Progress) -> OperationalConditions
     ensures { result ≡ conditions_of (map flag (nine l reports w (standing p))) }
 {
     OperationalConditions {
-        etcs_fulfilled: flag(etcs_fulfilled(reports)),
-        no_emergency_brake: flag(no_emergency_brake(reports)),
-        end_ahead: flag(end_ahead(l, p)),
-        last_ahead: flag(last_ahead(l, p)),
-        profiles_there: flag(w.profiles),
-        no_inconsistency: flag(no_inconsistency(reports)),
-        located: flag(w.located),
-        outside_zones: flag(w.outside),
-        data_valid: flag(data_valid(reports)),
+        etcs_fulfilled: u8::from(bit(reports, 0)),
+        no_emergency_brake: u8::from(bit(reports, 1)),
+        end_ahead: u8::from(end_ahead(l, p)),
+        last_ahead: u8::from(last_ahead(l, p)),
+        profiles_there: u8::from(w.profiles),
+        no_inconsistency: u8::from(bit(reports, 2)),
+        located: u8::from(w.located),
+        outside_zones: u8::from(w.outside),
+        data_valid: u8::from(bit(reports, 3)),
     }
 }
 
 // The same of an engine.
-pub fn conditions(e: Engine) -> OperationalConditions
-    ensures { result ≡ conditions (route_in e) e.inputs.reports e.train.position (standing e.progress) }
+#[tactic(auto, unfolding(crate::specs::Conditions::conditions))]
+pub fn conditions(e: &Engine) -> OperationalConditions
+    ensures { result ≡ conditions (route_in e.now) e.now.inputs.reports e.now.train.position (standing e.now.progress) }
 {
-    let w = route_conditions_in(e);
+    let w = route_conditions(Place::new(e.route(), e.train.position), e.progress);
     conditions_of(e.load, e.inputs.reports, w, e.progress)
 }

@@ -1,203 +1,142 @@
 // What an event does, group by group and never as an engine, and the rows of the table of numbers that refuse it.
 #![tactic(auto)]
 
-ghost use Rattle.std.specs.Prelude.{◌≡◌, Bool, ℕ, ◌<◌};
-ghost use Rattle.engine_value.specs.Engine.{max_points};
-ghost use Rattle.wire.specs.Judged.{row};
-ghost use Rattle.wire.specs.Judged.Judged.{accept};
-ghost use Rattle.wire.specs.View.{verdict_view};
+ghost use Rattle.std.specs.Prelude.{◌≡◌, ℕ, IfOk};
+ghost use Rattle.wire.specs.View.{judged_by};
+ghost use Rattle.engine_value.specs.declared.Engine as engine;
 ghost use Rattle.position.specs.Standing.{standing, behind};
+ghost use Rattle.event.specs.declared.Event as event;
 ghost use Rattle.event.specs.Kinds.{other, report, skip, load, role_of, carried};
 ghost use Rattle.look_up.specs.LookUp.{look_up};
-ghost use Rattle.call_values.specs.Rows.{offset_beyond, same_bool};
-ghost use Rattle.call.specs.Effect.{kept, cleared, replaced, train_with, inputs_with, values_only, power_off, position_effect, load_effect, skip_effect};
-ghost use Rattle.effects.specs.View.{no_changes, one_change, reported_changes, skip_status, skip_journey, unchanged, plain_effect, kept_in, journey_engine, loaded_effect, loaded_route, Gives};
+ghost use Rattle.call_values.specs.Rows.{offset_beyond};
+ghost use Rattle.call.specs.Effect as model;
+ghost use Rattle.call.specs.Effect.{route_after, train_with, inputs_with, values_only, power_off, position_effect, loaded_in, skip_effect};
+ghost use Rattle.route.specs.View.{loaded_view};
+ghost use Rattle.effects.specs.View.{no_changes, reported_changes, unchanged, journey_view, effect_view, Beside};
 
 use conditions::RouteConditions;
-use engine_value::{
-    Control, Engine, Inputs, Load, MAX_POINTS, MAX_SEGMENTS, Point, Position, Progress, Segment,
-    Train, UNDEFINED,
-};
+use engine_value::{Control, Engine, Inputs, Load, Position, Progress, Route, Train, UNDEFINED};
 use event::Event;
-use event_packets::{Changes, Received};
+use event_packets::{Change, Changes, PointStatus, Received};
 use look_up::LookedUp;
-use position::{Found, Named, Standing};
+use position::{Named, Place, Standing};
 use route::Loaded;
 use timing::Reported;
-use wire::Verdict;
+use wire::Refusal;
 
-// The groups with the event's values, the head of a journey that was loaded and the NID_C of its packet, the points that changed, whether one
-// became reached, and conditions 4, 6 and 7 after it; where a row refuses, its number alone counts.
+// What becomes of the journey in force and of the driver skips: kept, cleared by power off, replaced by a load, one skip given or revoked.
 #[derive(Clone, Copy)]
-pub struct Effect {
-    pub verdict: Verdict,
-    pub load: Load,
+pub enum JourneyAfter<'a> {
+    Kept,
+    Cleared,
+    Replaced(Route<'a>),
+    SkipSet { at: u8, on: bool },
+}
+
+impl<'a> JourneyAfter<'a> {
+    // The load's group after it.
+    pub fn load(self, e: &Engine) -> Load
+        ensures { result ≡ (route_after e.now (journey_view self.entry)).load }
+    {
+        match self {
+            JourneyAfter::Kept => e.load,
+            JourneyAfter::Cleared => engine_value::no_load(),
+            JourneyAfter::Replaced(j) => j.load,
+            JourneyAfter::SkipSet { at: _, on: _ } => e.load,
+        }
+    }
+}
+
+// The groups with the event's values, the packet 65 of a journey that was loaded, the points that changed, and conditions 4, 6 and 7 after it.
+#[derive(Clone, Copy)]
+pub struct Effect<'a> {
+    pub journey: JourneyAfter<'a>,
     pub train: Train,
     pub progress: Progress,
     pub inputs: Inputs,
     pub control: Control,
-    pub received: Received,
-    pub nidc: u16,
+    pub received: Option<Received>,
     pub changes: Changes,
-    pub reached: bool,
     pub after: RouteConditions,
 }
 
-// The effect of a load, with the new journey's arrays.
-#[derive(Clone, Copy)]
-pub struct LoadEffect {
-    pub effect: Effect,
-    pub points: [Point; MAX_POINTS],
-    pub segments: [Segment; MAX_SEGMENTS],
-}
-
-// What a load leaves as it is.
-#[derive(Clone, Copy)]
-pub struct Kept {
-    pub train: Train,
-    pub inputs: Inputs,
-    pub control: Control,
-}
-
-fn no_changes() -> Changes
-    ensures { result ≡ no_changes }
-{
-    let after = Progress {
-        next: 0,
-        reached: false,
-    };
-    Changes {
-        first: false,
-        index: 0,
-        status: 0,
-        after: after,
-        from: 0,
-        to: 0,
-        stopped: false,
-    }
-}
-
-fn one_change(index: u8, status: u8, after: Progress) -> Changes
-    ensures { result ≡ one_change index status after }
-{
-    Changes {
-        first: true,
-        index: index,
-        status: status,
-        after: after,
-        from: 0,
-        to: 0,
-        stopped: false,
-    }
-}
-
-// The groups of an engine with that progress, and no point changed.
-fn unchanged(
-    e: Engine,
-    verdict: Verdict,
-    progress: Progress,
-    received: Received,
-    nidc: u16,
-    after: RouteConditions,
-) -> Effect
-    ensures { result ≡ unchanged e verdict progress received nidc after }
-{
-    let changes = no_changes();
-    let load = e.load;
-    let train = e.train;
-    let inputs = e.inputs;
-    let control = e.control;
-    Effect {
-        verdict: verdict,
-        load: load,
-        train: train,
-        progress: progress,
-        inputs: inputs,
-        control: control,
-        received: received,
-        nidc: nidc,
-        changes: changes,
-        reached: false,
-        after: after,
-    }
-}
+// No point is changed.
+const NO_CHANGES: Changes = Changes {
+    first: None,
+    from: 0,
+    to: 0,
+    last: None,
+};
 
 // The groups of an engine as they are.
-fn plain(e: Engine, verdict: Verdict, after: RouteConditions) -> Effect
-    ensures { result ≡ plain_effect e verdict after }
+fn unchanged<'a>(e: &Engine, after: RouteConditions) -> Effect<'a>
+    ensures { result ≡ unchanged e.now after }
 {
-    unchanged(e, verdict, e.progress, Received::Nothing, 0, after)
+    Effect {
+        journey: JourneyAfter::Kept,
+        train: e.train,
+        progress: e.progress,
+        inputs: e.inputs,
+        control: e.control,
+        received: None,
+        changes: NO_CHANGES,
+        after,
+    }
 }
 
 // ---- the values that an event brings
 
-// Test behind test, with one way out: where each returned by itself, more copies of the engine were compiled.
-fn train_with(e: Engine, v: Event) -> Train
-    ensures { result ≡ train_with e (carried v) }
+fn train_with(e: &Engine, v: Event) -> Train
+    ensures { result ≡ train_with e.now (carried v) }
 {
-    let mut train = e.train;
-    if let Event::Length(n) = v {
-        train.length = n;
+    match v {
+        Event::Length(length) => Train { length, ..e.train },
+        Event::PositionReport(position) => Train {
+            position,
+            ..e.train
+        },
+        _ => e.train,
     }
-    if let Event::PositionReport(x) = v {
-        train.position = x;
-    }
-    train
 }
 
-fn inputs_with(e: Engine, v: Event) -> Inputs
-    ensures { result ≡ inputs_with e (carried v) }
+fn inputs_with(e: &Engine, v: Event) -> Inputs
+    ensures { result ≡ inputs_with e.now (carried v) }
 {
-    let mut inputs = e.inputs;
-    if let Event::Reports(n) = v {
-        inputs.reports = n;
+    match v {
+        Event::Reports(reports) => Inputs {
+            reports,
+            ..e.inputs
+        },
+        Event::Mode(mode) => Inputs { mode, ..e.inputs },
+        Event::Lever(lever) => Inputs { lever, ..e.inputs },
+        _ => e.inputs,
     }
-    if let Event::Mode(n) = v {
-        inputs.mode = n;
-    }
-    if let Event::Lever(n) = v {
-        inputs.lever = n;
-    }
-    inputs
 }
 
 // An event that brings values, or nothing.
-pub fn values(e: Engine, v: Event, looked: LookedUp) -> Effect
-    ensures { looked ≡ look_up e v → role_of v ≡ other → Gives e kept (accept (values_only e (carried v))) result }
+#[tactic(auto, unfolding(timing::specs::Changes::passings))]
+pub fn values<'a>(e: &Engine, v: Event, looked: &LookedUp) -> Effect<'a>
+    ensures effect { effect_view result ≡ values_only e.now (carried v) }
+    ensures beside { looked.now ≡ look_up e.now v → role_of v ≡ other → Beside e.now result }
 {
-    let train = train_with(e, v);
-    let inputs = inputs_with(e, v);
-    let mut f = plain(e, Verdict::Accepted, looked.before);
-    f.train = train;
-    f.inputs = inputs;
-    f
+    Effect {
+        train: train_with(e, v),
+        inputs: inputs_with(e, v),
+        ..unchanged(e, looked.before)
+    }
 }
 
 // ---- the position report
 
-// An offset beyond the length of the segment that the position names.
-fn offset_beyond(s: Named, x: Position) -> bool
+// 13: an offset beyond the length of the segment that the position names.
+#[tactic(auto, unfolding(call_values::specs::Rows::offset_beyond))]
+fn offset_beyond(s: Option<Named>, x: Position) -> bool
     ensures { result ≡ offset_beyond s x }
 {
-    if x.offset == UNDEFINED {
-        return false;
-    }
-    if !s.found {
-        return false;
-    }
-    if s.booked { s.length < x.offset } else { false }
+    x.offset != UNDEFINED && s.is_some_and(|s| conditions::too_far(x, s))
 }
 
-// 13
-fn offset_row(s: Named, x: Position) -> Verdict
-    ensures { verdict_view result ≡ row 13 (offset_beyond s x) }
-{
-    if offset_beyond(s, x) {
-        return Verdict::Refused(13);
-    }
-    Verdict::Accepted
-}
-
+// What a report changes; `index` is the first point not passed before it.
 fn changes_of(index: u8, t: Reported) -> Changes
     ensures { result ≡ reported_changes index t }
 {
@@ -205,34 +144,44 @@ fn changes_of(index: u8, t: Reported) -> Changes
         next: t.from,
         reached: false,
     };
+    let departure = Change {
+        index,
+        status: PointStatus::Departed,
+        after,
+    };
+    let stop = Change {
+        index: t.progress.next,
+        status: PointStatus::Stopped,
+        after: t.progress,
+    };
     Changes {
-        first: t.departed,
-        index: index,
-        status: event_packets::DEPARTED,
-        after: after,
+        first: t.departed.then_some(departure),
         from: t.from,
         to: t.progress.next,
-        stopped: t.reached,
+        last: t.reached.then_some(stop),
     }
 }
 
 // A position report.
-pub fn report(e: Engine, v: Event, looked: LookedUp) -> Effect
-    ensures { looked ≡ look_up e v → role_of v ≡ report → Gives e kept (position_effect e (carried v) looked) result }
+#[tactic(auto, unfolding(call::specs::Effect::position_effect), using(crate::proofs::Laws::report_changes, crate::proofs::Laws::then_some))]
+pub fn report<'a>(e: &Engine, v: Event, looked: &LookedUp) -> Result<Effect<'a>, Refusal>
+    ensures effect { looked.now ≡ look_up e.now v → judged_by effect_view result ≡ position_effect e.now (carried v) looked.now }
+    ensures beside { looked.now ≡ look_up e.now v → role_of v ≡ report → IfOk result (λ f. Beside e.now f) }
 {
     let train = train_with(e, v);
-    let inputs = inputs_with(e, v);
+    if offset_beyond(looked.segment, train.position) {
+        return Err(Refusal::Beyond);
+    }
     let t = looked.report;
-    let progress = t.progress;
-    let profiles = conditions::profiles_there(e.load, progress, t.placed_after);
-    let after = conditions::route_conditions(looked.segment, train.position, profiles);
-    let mut f = plain(e, offset_row(looked.segment, train.position), after);
-    f.train = train;
-    f.inputs = inputs;
-    f.progress = progress;
-    f.changes = changes_of(e.progress.next, t);
-    f.reached = t.reached;
-    f
+    let place = Place::new(e.route(), train.position);
+    let after = conditions::route_conditions(place, t.progress);
+    Ok(Effect {
+        train,
+        inputs: inputs_with(e, v),
+        progress: t.progress,
+        changes: changes_of(e.progress.next, t),
+        ..unchanged(e, after)
+    })
 }
 
 // ---- driver skips
@@ -241,66 +190,50 @@ pub fn report(e: Engine, v: Event, looked: LookedUp) -> Effect
 fn is_behind(p: Progress, k: u8) -> bool
     ensures { result ≡ behind (standing p k) }
 {
-    match position::standing_of(p, k) {
-        Standing::Unused => false,
-        Standing::Targeted => false,
-        Standing::Reached => true,
-        Standing::Passed => true,
-    }
-}
-
-fn same(a: bool, b: bool) -> bool
-    ensures { result ≡ same_bool a b }
-{
-    if a { b } else { !b }
-}
-
-fn skip_status(on: bool) -> u8
-    ensures { result ≡ skip_status on }
-{
-    if on {
-        event_packets::SKIPPED
-    } else {
-        event_packets::REVOKED
-    }
-}
-
-// The index of a point, as a number of one byte.
-fn index_of(k: usize) -> u8
-    ensures { k < max_points → result ≡ k }
-{
-    if k < MAX_POINTS { k as u8 } else { 0 }
+    matches!(
+        position::standing_of(p, k),
+        Standing::Reached | Standing::Passed
+    )
 }
 
 // A driver skip, or its revocation.
-pub fn skip(e: Engine, v: Event, looked: LookedUp) -> Effect
-    ensures { (t : ℕ) (on : Bool) → looked ≡ look_up e v → role_of v ≡ skip t on → Gives e (skip_journey on looked.stop.at) (skip_effect e (carried v) on looked.stop) result }
+#[tactic(auto, unfolding(call::specs::Effect::skip_effect))]
+pub fn skip<'a>(e: &Engine, v: Event, on: bool, looked: &LookedUp) -> Result<Effect<'a>, Refusal>
+    ensures effect { (t : ℕ) → looked.now ≡ look_up e.now v → role_of v ≡ skip t on → judged_by effect_view result ≡ skip_effect e.now (carried v) on looked.now.stop }
+    ensures beside { (t : ℕ) → looked.now ≡ look_up e.now v → role_of v ≡ skip t on → IfOk result (λ f. Beside e.now f) }
 {
-    let on = event::gives_skip(v);
-    let stop = looked.stop;
-    let at = stop.at;
-    let Found::At(k) = at else {
-        return plain(e, Verdict::Refused(14), looked.before);
+    let stop = looked.stop.ok_or(Refusal::NoStop)?;
+    if is_behind(e.progress, stop.at) || stop.skipped == on {
+        return Err(Refusal::Skip);
+    }
+    let status = if on {
+        PointStatus::Skipped
+    } else {
+        PointStatus::Revoked
     };
-    let index = index_of(k);
-    if is_behind(e.progress, index) {
-        return plain(e, Verdict::Refused(15), looked.before);
-    }
-    if same(stop.skipped, on) {
-        return plain(e, Verdict::Refused(15), looked.before);
-    }
-    let mut f = plain(e, Verdict::Accepted, looked.before);
-    f.changes = one_change(index, skip_status(on), e.progress);
-    f
+    let change = Change {
+        index: stop.at,
+        status,
+        after: e.progress,
+    };
+    Ok(Effect {
+        journey: JourneyAfter::SkipSet { at: stop.at, on },
+        changes: Changes {
+            first: Some(change),
+            ..NO_CHANGES
+        },
+        ..unchanged(e, looked.before)
+    })
 }
 
 // ---- power off
 
 // Power off returns to fresh: no journey, so that 4 and 6 are 0 and 7 is 1.
-pub fn power_off() -> Effect
-    ensures { (e : Engine) → Gives e cleared (accept power_off) result }
+#[tactic(auto, unfolding(timing::specs::Changes::passings))]
+pub fn power_off<'a>() -> Effect<'a>
+    ensures effect { effect_view result ≡ power_off }
+    ensures beside { (e : engine.Engine) → Beside e result }
 {
-    let changes = no_changes();
     let progress = Progress {
         next: 0,
         reached: false,
@@ -311,93 +244,39 @@ pub fn power_off() -> Effect
         outside: true,
     };
     Effect {
-        verdict: Verdict::Accepted,
-        load: engine_value::no_load(),
+        journey: JourneyAfter::Cleared,
         train: engine_value::fresh_train(),
-        progress: progress,
+        progress,
         inputs: engine_value::fresh_inputs(),
         control: engine_value::fresh_control(),
-        received: Received::Nothing,
-        nidc: 0,
-        changes: changes,
-        reached: false,
-        after: after,
+        received: None,
+        changes: NO_CHANGES,
+        after,
     }
 }
 
 // ---- the load
 
-pub fn kept_of(e: Engine) -> Kept
-    ensures { result ≡ kept_in e }
+// A load, judged on the new journey with no driver skip.
+pub fn load<'a>(e: &Engine, l: &'a Loaded) -> Effect<'a>
+    ensures effect { (v : event.Event) → role_of v ≡ load → effect_view result ≡ loaded_in e.now (carried v) (loaded_view l.now) }
+    ensures beside { Beside e.now result }
 {
-    let train = e.train;
-    let inputs = e.inputs;
-    let control = e.control;
-    Kept {
-        train: train,
-        inputs: inputs,
-        control: control,
-    }
-}
-
-// An engine with the new journey: its points are looked up as those of any other. Of the traction requests it needs nothing.
-fn with_journey(k: Kept, l: Loaded) -> Engine
-    ensures { result ≡ journey_engine k l }
-{
-    let points = l.points;
-    let segments = l.segments;
-    let load = l.load;
-    let skips = [false; MAX_POINTS];
-    let train = k.train;
-    let inputs = k.inputs;
-    let control = k.control;
+    let j = l.route();
+    let place = Place::new(j, e.train.position);
     let progress = Progress {
-        next: 0,
+        next: timing::target(place, e.train.length),
         reached: false,
     };
-    Engine {
-        points: points,
-        skips: skips,
-        segments: segments,
-        load: load,
-        train: train,
-        progress: progress,
-        inputs: inputs,
-        control: control,
-        traction: engine_value::no_traction(),
-    }
-}
-
-// The effect of a load on the engine that has the new journey.
-fn load_effect(a: Engine, l: Loaded) -> Effect
-    ensures { result ≡ loaded_effect a l }
-{
-    let s = position::segment_named(a, a.train.position);
-    let next = timing::target(a, s);
-    let progress = Progress {
-        next: next,
-        reached: false,
+    let received = Received {
+        head: l.head,
+        nidc: event_packets::country(place),
     };
-    let placed = conditions::placed_at(a, next);
-    let profiles = conditions::profiles_there(a.load, progress, placed);
-    let after = conditions::route_conditions(s, a.train.position, profiles);
-    let nidc = event_packets::country(s, a.train.position);
-    let verdict = l.verdict;
-    let head = l.head;
-    unchanged(a, verdict, progress, Received::Journey(head), nidc, after)
-}
-
-pub fn load(k: Kept, journey: &[u8], book: &[u8]) -> LoadEffect
-    ensures { (e : Engine) (v : Event) → k ≡ kept_in e → role_of v ≡ load → Gives e (replaced (loaded_route result)) (load_effect e (carried v) journey.now book.now) result.effect }
-{
-    let l = route::load_route(journey, book);
-    let a = with_journey(k, l);
-    let f = load_effect(a, l);
-    let points = l.points;
-    let segments = l.segments;
-    LoadEffect {
-        effect: f,
-        points: points,
-        segments: segments,
+    let after = conditions::route_conditions(place, progress);
+    Effect {
+        journey: JourneyAfter::Replaced(j),
+        progress,
+        received: Some(received),
+        ..unchanged(e, after)
     }
 }

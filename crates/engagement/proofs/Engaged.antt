@@ -28,9 +28,6 @@ use Rattle.state_codes.specs.declared.EtcsMode.TheVariants.{Other, AD}
 use Rattle.state_codes.specs.declared.DriverLever.{DriverLever}
 use Rattle.state_codes.specs.declared.DriverLever.TheVariants.{Neutral, Traction, Brake}
 
-zero_one : ◌≡◌ {A = ℕ} 0 1 → ⊥
-zero_one e = omega arith
-
 -- ---- which row of the states an event takes
 
 after-row : (m : Machine) (e : Event) (r : Bool) (v : Values) → machine_after m e r v ≡ by_row m (row_of e) r v
@@ -53,7 +50,7 @@ on_in s e = go _ refl
   where
     go : (b : Bool) → is s NP ≡ b → s ≡ NP
     go true q = same_state s NP q
-    go false q = absurd (zero_one (cc))
+    go false q = cc
 
 conf_in : (s : State) → state_row s 2 ≡ accept tt → s ≡ CO
 unfolding state_row
@@ -61,7 +58,7 @@ conf_in s e = go _ refl
   where
     go : (b : Bool) → is s CO ≡ b → s ≡ CO
     go true q = same_state s CO q
-    go false q = absurd (zero_one (cc))
+    go false q = cc
 
 press-in : (s : State) → state_row s 8 ≡ accept tt → s ≡ RE
 unfolding state_row
@@ -69,7 +66,7 @@ press-in s e = go _ refl
   where
     go : (b : Bool) → is s RE ≡ b → s ≡ RE
     go true q = same_state s RE q
-    go false q = absurd (zero_one (cc))
+    go false q = cc
 
 accepted : (e : Event) (s : State) → power_rows s (kind_of e) ≡ accept tt → state_row s (kind_of e) ≡ accept tt → Is (row_of e) e s
 accepted e s p q = go (row_of e) (kind_of e) (known e).row p q
@@ -185,7 +182,7 @@ module _ (event : ℕ → Event) (value : ℕ → Values) (reached : ℕ → Boo
   -- the AD report that engages, at event m
   engage : {m : ℕ} → PressedBy m → event m ≡ Mode 1 → Ready (value (suc m)) → (value (suc m)).mode ≡ AD → Engagement event value Reached (suc m)
   engage {m} w e r a =
-      let cf : ConfiguredBy (suc m) = conf_more w.conf (record { not_on = λ q. zero_one (cc); not_fault = λ q. zero_one (cc) }) in
+      let cf : ConfiguredBy (suc m) = conf_more w.conf (record { not_on = λ q. cc; not_fault = λ q. cc }) in
       record {
         powered = cf.on.powered;
         is_on = cf.on.is_on;
@@ -208,7 +205,7 @@ module _ (event : ℕ → Event) (value : ℕ → Values) (reached : ℕ → Boo
       }
     where
       now : (v : ℕ) → v ≡ suc m → Driving (value v)
-      now v q = rw q (record { O = r.O; T = r.T; AD = a; unbraked = λ b. zero_one (cc (r.N, b)) })
+      now v q = rw q (record { O = r.O; T = r.T; AD = a; unbraked = λ b. cc (r.N, b) })
 
   engaged_more : {m : ℕ} → Engagement event value Reached m → Harmless m → Driving (value (suc m)) → ¬ Reached m → Engagement event value Reached (suc m)
   engaged_more {m} w a v r = record {
@@ -284,8 +281,8 @@ module _ (event : ℕ → Event) (value : ℕ → Values) (reached : ℕ → Boo
   eg_inv m false false t Traction AD a c f = c
   eg_inv m false true false Neutral AD a c f = c
   eg_inv m false true false Traction AD a c f = c
-  eg_inv m false true true Neutral AD a c f = f refl (record { O = a.O; T = a.T; AD = a.mode; unbraked = λ b. zero_one (cc (a.lever, b)) })
-  eg_inv m false true true Traction AD a c f = f refl (record { O = a.O; T = a.T; AD = a.mode; unbraked = λ b. zero_one (cc (a.lever, b)) })
+  eg_inv m false true true Neutral AD a c f = f refl (record { O = a.O; T = a.T; AD = a.mode; unbraked = λ b. cc (a.lever, b) })
+  eg_inv m false true true Traction AD a c f = f refl (record { O = a.O; T = a.T; AD = a.mode; unbraked = λ b. cc (a.lever, b) })
 
   de_inv : (m : ℕ) (o t : Bool) (l : DriverLever) (d : EtcsMode) → At m o t l d → ConfiguredBy (suc m) → Inv (from_de (values o t l d)) false (suc m)
   de_inv m o t Brake d a c = u_inv m o t Brake d a c
@@ -310,10 +307,10 @@ module _ (event : ℕ → Event) (value : ℕ → Values) (reached : ℕ → Boo
 
     press_inv : (p : Bool) → event m ≡ Press → Inv RE p m → let z = from_re true (value (suc m)) in Inv z.state z.press (suc m)
     press_inv p k i = re_inv m true _ _ _ _ (now m) (conf_more (c p i) a) (λ e v. press_new (c p i) a k (w p i) v)
-        (λ e r d. absurd (zero_one (cc (report (w p i).other d, k))))
+        (λ e r d. cc (report (w p i).other d, k))
       where
         a : Harmless m
-        a = record { not_on = λ q. zero_one (cc (k, q)); not_fault = λ q. zero_one (cc (k, q)) }
+        a = record { not_on = λ q. cc (k, q); not_fault = λ q. cc (k, q) }
 
         c : (p : Bool) → Inv RE p m → ConfiguredBy m
         c false i = i.0
@@ -329,11 +326,11 @@ module _ (event : ℕ → Event) (value : ℕ → Values) (reached : ℕ → Boo
     step_inv s p Configure e k i =
         let w : PoweredBy m = rw k.1 at i in
         u_inv m _ _ _ _ (now m)
-        (record { on = on_more w (record { not_on = λ q. zero_one (cc (k.0, q)); not_fault = λ q. zero_one (cc (k.0, q)) }); c = m; since = w.below; within = omega arith; is_configured = k.0 })
+        (record { on = on_more w (record { not_on = λ q. cc (k.0, q); not_fault = λ q. cc (k.0, q) }); c = m; since = w.below; within = omega arith; is_configured = k.0 })
     step_inv s p SwitchOff e k i = tt
     step_inv s p Fail e k i = tt
     step_inv s p EngagePress e k i = rw k.1 (press_inv p k.0 (rw k.1 at i))
-    step_inv s p ByState e k i = plain_inv s p (record { not_on = λ q. zero_one (cc); not_fault = λ q. zero_one (cc) }) i
+    step_inv s p ByState e k i = plain_inv s p (record { not_on = λ q. cc; not_fault = λ q. cc }) i
 
 -- ---- what the rows do where the rule holds
 
@@ -342,8 +339,8 @@ pressed = machine RE true
 
 -- RE with the press pending, at an event that is neither a fault nor a power off
 stays_RE : (w : Row) (e : Event) (r : Bool) (v : Values) → Is w e RE → w ≢ Fail → w ≢ SwitchOff → Waiting v → by_row pressed w r v ≡ pressed
-stays_RE SwitchOn e r v k f o x = absurd (zero_one (cc k.1))
-stays_RE Configure e r v k f o x = absurd (zero_one (cc k.1))
+stays_RE SwitchOn e r v k f o x = cc k.1
+stays_RE Configure e r v k f o x = cc k.1
 stays_RE SwitchOff e r v k f o x = absurd (o refl)
 stays_RE Fail e r v k f o x = absurd (f refl)
 stays_RE EngagePress e r v k f o x = simp (x.O, x.T, x.N, x.other)
@@ -364,11 +361,11 @@ drives r o t Traction d a b c e f = simp (a, b, c, f)
 drives r o t Brake d a b c e f = absurd (e refl)
 
 stays_EG : (p : Bool) (w : Row) (e : Event) (r : Bool) (v : Values) → Is w e EG → w ≢ Fail → w ≢ SwitchOff → r ≡ false → Driving v → (by_row (machine EG p) w r v).state ≡ EG
-stays_EG p SwitchOn e r v k f o q x = absurd (zero_one (cc k.1))
-stays_EG p Configure e r v k f o q x = absurd (zero_one (cc k.1))
+stays_EG p SwitchOn e r v k f o q x = cc k.1
+stays_EG p Configure e r v k f o q x = cc k.1
 stays_EG p SwitchOff e r v k f o q x = absurd (o refl)
 stays_EG p Fail e r v k f o q x = absurd (f refl)
-stays_EG p EngagePress e r v k f o q x = absurd (zero_one (cc k.1))
+stays_EG p EngagePress e r v k f o q x = cc k.1
 stays_EG p ByState e r v k f o q x = drives _ _ _ _ _ q x.O x.T x.unbraked x.AD
 
 is_flt : (w : Row) (e : Event) (s : State) → w ≡ Fail → Is w e s → e ≡ Fault

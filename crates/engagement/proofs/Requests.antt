@@ -23,9 +23,6 @@ use Rattle.state_codes.specs.declared.DriverLever.{DriverLever}
 use Rattle.state_codes.specs.declared.DriverLever.TheVariants.{Neutral, Traction, Brake}
 use Rattle.engagement.proofs.Engaged.{engaged_exactly}
 
-zero_one : ◌≡◌ {A = ℕ} 0 1 → ⊥
-zero_one e = omega arith
-
 both : (a b : Bool) → (a && b) ≡ true → (a ≡ true) × (b ≡ true)
 both true b e = (refl, e)
 both false b e = absurd (false≢true e)

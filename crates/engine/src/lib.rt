@@ -1,191 +1,134 @@
 // The event call: one event, with the profiles and the output memory that the host lends. It is read; power and state allow it; it looks up
-// the journey; it has its effect, which is judged; and what comes of it is stored and written. There is one engine variable and one way out,
-// and a load stands last, so that few copies of the engine are compiled (docs/DECISIONS.md, "Cost of the by-value form").
+// the journey; it has its effect, which is judged; and what comes of it is stored and written.
 #![tactic(auto)]
 
-ghost use Rattle.std.specs.Prelude.{◌≡◌, false, true};
-ghost use Rattle.wire.specs.View.{verdict_view};
-ghost use Rattle.event.specs.Kinds.{kind_of};
-ghost use Rattle.state_codes.specs.Codes.{state_at};
-ghost use Rattle.state_codes.specs.Numbers.{state_rows};
-ghost use Rattle.position.specs.View.{IndexBelow};
+ghost use Rattle.std.specs.Prelude.{◌≡◌};
+ghost use Rattle.wire.specs.View.{judged, judged_by};
+ghost use Rattle.route.specs.Route.{load_of};
+ghost use Rattle.route.specs.View.{loaded_view};
 ghost use Rattle.look_up.specs.LookUp.{route_conditions_in};
-ghost use Rattle.event_packets.specs.View.{status_view};
-ghost use Rattle.call.specs.Call.{status_in, step_of};
-ghost use Rattle.engine.specs.View.{is_accepted, answer_to, skips_for, without_journey, with_groups, call, Steps};
+ghost use Rattle.call.specs.Call.{judge, outcome_of, step_of};
+ghost use Rattle.engine_value.specs.Engine.{no_route};
+ghost use Rattle.engine_value.specs.View.{route_view};
+ghost use Rattle.effects.specs.View.{effect_view, Beside};
+ghost use Rattle.judge.specs.View.{engine_after};
+ghost use Rattle.engine.specs.View.{call, with_route, Steps};
 
-use call::Answer;
+use call_values::Accepted;
 use conditions::RouteConditions;
-use engine_value::{Engine, MAX_POINTS, MAX_SEGMENTS};
-use event::{Event, EventRead};
-use judge::{Before, Judgement};
-use position::Found;
-use wire::Verdict;
-
-// What a call answers, the engine that it leaves, and whether that has another journey's points and segments.
-#[derive(Clone, Copy)]
-pub struct Stepped {
-    pub engine: Engine,
-    pub answer: Answer,
-    pub rewritten: bool,
-}
-
-fn is_accepted(t: Judgement) -> bool
-    ensures { result ≡ is_accepted t.verdict }
-{
-    let verdict = t.verdict;
-    if let Verdict::Accepted = verdict {
-        true
-    } else {
-        false
-    }
-}
-
-// The rows of power and state.
-fn rows_of(e: Engine, v: Event) -> Verdict
-    ensures { verdict_view result ≡ state_rows (state_at e.control.state) (kind_of v) }
-{
-    let state = state_codes::state_at(e.control.state);
-    state_codes::state_rows(state, event::kind_of(v))
-}
-
-// What its packets are judged against, before the event.
-fn before_it(e: Engine, c: RouteConditions) -> Before
-    requires { c ≡ route_conditions_in e }
-    ensures { (status_view result.status ≡ status_in e) × (result.traction ≡ e.traction) }
-{
-    let conditions = conditions::conditions_of(e.load, e.inputs.reports, c, e.progress);
-    let status = judge::status(e.control, e.train, conditions);
-    let traction = e.traction;
-    Before {
-        status: status,
-        traction: traction,
-    }
-}
-
-// The driver skips, with that of the stop that was looked up given or revoked.
-fn skips_with(given: [bool; MAX_POINTS], at: Found, on: bool) -> [bool; MAX_POINTS]
-    requires { IndexBelow 64 at }
-    ensures { result ≡ skips_for given at on }
-{
-    let mut skips = given;
-    if let Found::At(k) = at {
-        skips[k] = on;
-    }
-    skips
-}
+use effects::{Effect, JourneyAfter};
+use engine_value::{Engine, MAX_POINTS, Route};
+use event::{Event, Role};
+use judge::Judgement;
+use route::Loaded;
+use state_codes::State;
+use wire::Refusal;
 
 // No journey.
-fn without_journey(e: Engine) -> Engine
-    ensures { result ≡ without_journey e }
+fn clear_journey(e: &mut Engine)
+    ensures { e.new ≡ with_route e.old no_route }
 {
-    let mut m = e;
-    m.points = [engine_value::blank_point(); MAX_POINTS];
-    m.segments = [engine_value::blank_segment(); MAX_SEGMENTS];
-    m.skips = [false; MAX_POINTS];
-    m
+    e.points.fill(engine_value::blank_point());
+    e.segments.fill(engine_value::blank_segment());
+    e.load = engine_value::no_load();
+    e.skips.fill(false);
 }
 
-// The groups as they were judged.
-fn with_groups(e: Engine, t: Judgement) -> Engine
-    ensures { result ≡ with_groups e t }
+// The values one by one: the library's `copy_from_slice` asks for memmove, which a host need not have.
+#[tactic(auto, using(std::proofs::lemmas::List::take_all))]
+fn copy<T: Copy, const N: usize>(to: &mut [T; N], from: &[T; N])
+    ensures { to.new ≡ from.now }
 {
-    let load = t.load;
-    let train = t.train;
-    let progress = t.progress;
-    let inputs = t.inputs;
-    let control = t.control;
-    let traction = t.traction;
-    let mut m = e;
-    m.load = load;
-    m.train = train;
-    m.progress = progress;
-    m.inputs = inputs;
-    m.control = control;
-    m.traction = traction;
-    m
-}
-
-// State, request and bytes written, or the number alone.
-fn answer_of(t: Judgement) -> Answer
-    ensures { result ≡ answer_to t }
-{
-    let verdict = t.verdict;
-    if let Verdict::Refused(n) = verdict {
-        return Answer::Refused(n);
+    for i in 0..N {
+        to[i] = from[i];
     }
-    Answer::Accepted {
+}
+
+// Another journey.
+fn replace_journey(e: &mut Engine, j: Route)
+    ensures { e.new ≡ with_route e.old (route_view j.entry) }
+{
+    copy(&mut e.points, j.points);
+    copy(&mut e.segments, j.segments);
+    e.load = j.load;
+    e.skips.fill(false);
+}
+
+// The groups as they were judged, and what becomes of the journey.
+fn store(e: &mut Engine, f: Effect, t: &Judgement)
+    ensures { e.new ≡ engine_after e.old f.entry t.now }
+{
+    match f.journey {
+        JourneyAfter::Kept => {}
+        JourneyAfter::Cleared => clear_journey(e),
+        JourneyAfter::Replaced(j) => replace_journey(e, j),
+        JourneyAfter::SkipSet { at, on } => {
+            let at = at as usize;
+            if at < MAX_POINTS {
+                e.skips[at] = on;
+            }
+        }
+    }
+    e.train = f.train;
+    e.progress = f.progress;
+    e.inputs = f.inputs;
+    e.control = t.control;
+    e.traction = t.traction;
+}
+
+// The effect of an event is judged, stored and written. Nothing is stored where 16 refuses.
+fn accept(
+    e: &mut Engine,
+    v: Event,
+    before: RouteConditions,
+    f: Effect,
+    out: &mut [u8],
+) -> Result<Accepted, Refusal>
+    ensures { before ≡ route_conditions_in e.old → Beside e.old f.entry → Steps (outcome_of e.old out.old (judge e.old v out.old (effect_view f.entry))) e.new (judged result) out.new }
+{
+    let t = judge::judge(e, v, before, f, out.len())?;
+    store(e, f, &t);
+    event_packets::write(e, &t.writes, out);
+    Ok(Accepted {
         state: t.control.state,
         request: t.control.request,
         bytes: t.size,
-    }
+    })
+}
+
+// The journey and the book of a load, in a function of its own: what reading them takes of the stack, no other event then takes.
+#[inline(never)]
+fn load_route(journey: &[u8], book: &[u8]) -> Result<Loaded, Refusal>
+    ensures { judged_by loaded_view result ≡ load_of journey.now book.now }
+{
+    route::load_route(journey, book)
 }
 
 // One event. A refusal changes neither engine nor memory.
-pub fn step(e: Engine, event: &[u8], journey: &[u8], book: &[u8], out: &mut [u8]) -> Stepped
-    ensures { Steps e (step_of e (call event.now journey.now book.now out.old)) result out.new }
+pub fn step(
+    e: &mut Engine,
+    event: &[u8],
+    journey: &[u8],
+    book: &[u8],
+    out: &mut [u8],
+) -> Result<Accepted, Refusal>
+    ensures engine { e.new ≡ (step_of e.old (call event.now journey.now book.now out.old)).engine }
+    ensures answer { judged result ≡ (step_of e.old (call event.now journey.now book.now out.old)).answer }
+    ensures output { out.new ≡ (step_of e.old (call event.now journey.now book.now out.old)).memory }
 {
-    let mut m = e;
-    let mut rewritten = false;
-    let mut answer = Answer::Refused(1);
-    let read = event::read_event(event);
-    if let EventRead::Refused(n) = read {
-        answer = Answer::Refused(n);
-    } else if let EventRead::Event(v) = read {
-        let rows = rows_of(m, v);
-        if let Verdict::Refused(n) = rows {
-            answer = Answer::Refused(n);
-        } else {
-            let looked = look_up::look_up(m, v);
-            let before = before_it(m, looked.before);
-            let room = out.len();
-            let t = if event::is_report(v) {
-                judge::judge(before, v, effects::report(m, v, looked), room)
-            } else if event::is_skip(v) {
-                // Before it is judged: read behind the judgement, the compiled step would copy the engine once more.
-                let stop = looked.stop;
-                let at = stop.at;
-                let given = m.skips;
-                let skips = skips_with(given, at, event::gives_skip(v));
-                let t = judge::judge(before, v, effects::skip(m, v, looked), room);
-                if is_accepted(t) {
-                    m.skips = skips;
-                }
-                t
-            } else if event::is_power_off(v) {
-                let t = judge::judge(before, v, effects::power_off(), room);
-                if is_accepted(t) {
-                    m = without_journey(m);
-                    rewritten = true;
-                }
-                t
-            } else if event::is_load(v) {
-                let l = effects::load(effects::kept_of(m), journey, book);
-                let f = l.effect;
-                let t = judge::judge(before, v, f, room);
-                if is_accepted(t) {
-                    let points = l.points;
-                    let segments = l.segments;
-                    m.points = points;
-                    m.segments = segments;
-                    m.skips = [false; MAX_POINTS];
-                    rewritten = true;
-                }
-                t
-            } else {
-                judge::judge(before, v, effects::values(m, v, looked), room)
-            };
-            if is_accepted(t) {
-                m = with_groups(m, t);
-                let w = t.writes;
-                event_packets::write(m, w, out);
-            }
-            answer = answer_of(t);
+    let v = event::read_event(event)?;
+    state_codes::state_rows(State::from(e.control.state), v.kind())?;
+    let looked = look_up::look_up(e, v);
+    let f = match v.role() {
+        Role::Off => effects::power_off(),
+        Role::Load => {
+            let l = load_route(journey, book)?;
+            let f = effects::load(e, &l);
+            return accept(e, v, looked.before, f, out);
         }
-    }
-    Stepped {
-        engine: m,
-        answer: answer,
-        rewritten: rewritten,
-    }
+        Role::Report(_) => effects::report(e, v, &looked)?,
+        Role::Skip { nidtp: _, on } => effects::skip(e, v, on, &looked)?,
+        Role::Other => effects::values(e, v, &looked),
+    };
+    accept(e, v, looked.before, f, out)
 }

@@ -1,5 +1,5 @@
 // The engine as a value: the journey in force, the train, how far it has come, and the ATO state. Numbers, bools and arrays of
-// plain structs, so that a host in C can hold it.
+// plain structs, so that a host in C can hold it. A derived Default, every field 0 or false, is the blank or the fresh value.
 #![tactic(auto)]
 
 ghost use Rattle.std.specs.Prelude.{◌≡◌};
@@ -27,15 +27,16 @@ pub const NO_OPERATIONAL: u32 = 4294967295;
 
 // An inhibition zone of a segment, both ends inside.
 #[repr(C)]
-#[derive(Clone, Copy)]
+#[derive(Clone, Copy, Default)]
 pub struct Zone {
     pub start: u32,
     pub end: u32,
 }
 
 // A segment of the journey. It is placed if it and all before it are in the book; `start` is then counted from the journey's start.
+// C layout: a count beside the zones.
 #[repr(C)]
-#[derive(Clone, Copy)]
+#[derive(Clone, Copy, Default)]
 pub struct Segment {
     pub nidsp: u32,
     pub start: u32,
@@ -48,9 +49,9 @@ pub struct Segment {
 }
 
 // A timing point of the journey. Where it is placed, `place` is counted from the journey's start, and `reach` is the reached distance R.
-// `spare` is always 0: room for one mark.
+// `spare` is always 0: room for one mark. C layout: alignment and stopping by their numbers.
 #[repr(C)]
-#[derive(Clone, Copy)]
+#[derive(Clone, Copy, Default)]
 pub struct Point {
     pub nidtp: u32,
     pub place: u32,
@@ -64,7 +65,8 @@ pub struct Point {
     pub spare: u8,
 }
 
-// What a load settles beside the points and the segments; `ending` is the index of the End of Journey.
+// What a load settles beside the points and the segments; `ending` is the index of the End of Journey. C layout: the counts of the engine's
+// arrays, and a flag where there is a journey.
 #[repr(C)]
 #[derive(Clone, Copy)]
 pub struct Load {
@@ -77,7 +79,7 @@ pub struct Load {
 
 // The first point not passed, and whether it is reached: points before it are passed, later ones not used.
 #[repr(C)]
-#[derive(Clone, Copy)]
+#[derive(Clone, Copy, Default)]
 pub struct Progress {
     pub next: u8,
     pub reached: bool,
@@ -100,18 +102,18 @@ pub struct Train {
     pub length: u32,
 }
 
-// What the latest mode, lever and report events tell.
+// What the latest mode, lever and report events tell. C layout: mode and lever by their numbers.
 #[repr(C)]
-#[derive(Clone, Copy)]
+#[derive(Clone, Copy, Default)]
 pub struct Inputs {
     pub mode: u8,
     pub lever: u8,
     pub reports: u8,
 }
 
-// The ATO state by its code, whether a press is pending, and the AD request.
+// The ATO state, whether a press is pending, and the AD request. C layout: the state by its code.
 #[repr(C)]
-#[derive(Clone, Copy)]
+#[derive(Clone, Copy, Default)]
 pub struct Control {
     pub state: u8,
     pub press: bool,
@@ -119,9 +121,9 @@ pub struct Control {
 }
 
 // Range and Q_ATO_SupTB of the latest traction request, where they are remembered; else 0. `spare` is always 0: without it the engine would end in
-// a byte of padding.
+// a byte of padding. C layout: a flag beside the two values.
 #[repr(C)]
-#[derive(Clone, Copy)]
+#[derive(Clone, Copy, Default)]
 pub struct Traction {
     pub remembered: bool,
     pub range: u8,
@@ -129,7 +131,8 @@ pub struct Traction {
     pub spare: u8,
 }
 
-// The journey's points and the driver skips of each, its segments, and the groups above.
+// The journey's points and the driver skips of each, its segments, and the groups above. C layout: the skips in an array of their own, since a
+// load's result is the points without them.
 #[repr(C)]
 #[derive(Clone, Copy)]
 pub struct Engine {
@@ -144,40 +147,42 @@ pub struct Engine {
     pub traction: Traction,
 }
 
+// The journey in force, where it is kept: in an engine, or in what a load brings.
+#[derive(Clone, Copy)]
+pub struct Route<'a> {
+    pub load: Load,
+    pub points: &'a [Point; MAX_POINTS],
+    pub segments: &'a [Segment; MAX_SEGMENTS],
+}
+
+impl Engine {
+    ghost use Rattle.engine_value.specs.View.{route_view};
+    ghost use Rattle.engine_value.specs.Engine.{route_in};
+
+    // The journey in force.
+    pub fn route(&self) -> Route<'_>
+        ensures { route_view result ≡ route_in self.now }
+    {
+        Route {
+            load: self.load,
+            points: &self.points,
+            segments: &self.segments,
+        }
+    }
+}
+
 // The value of a segment beyond the journey's count.
 pub fn blank_segment() -> Segment
     ensures { result ≡ blank_segment }
 {
-    let zone = Zone { start: 0, end: 0 };
-    let zones = [zone; MAX_ZONES];
-    Segment {
-        nidsp: 0,
-        start: 0,
-        length: 0,
-        zone_count: 0,
-        zones: zones,
-        nidc: 0,
-        booked: false,
-        placed: false,
-    }
+    Segment::default()
 }
 
 // The value of a point beyond the journey's count.
 pub fn blank_point() -> Point
     ensures { result ≡ blank_point }
 {
-    Point {
-        nidtp: 0,
-        place: 0,
-        reach: 0,
-        nidc: 0,
-        alignment: 0,
-        stopping: 0,
-        stop: false,
-        trackside: false,
-        placed: false,
-        spare: 0,
-    }
+    Point::default()
 }
 
 // ---- fresh, group by group
@@ -198,14 +203,13 @@ pub fn no_load() -> Load
 pub fn fresh_train() -> Train
     ensures { result ≡ fresh_train }
 {
-    let position = Position {
-        nidsp: 0,
-        offset: UNDEFINED,
-        nidc: 0,
-        speed: 0,
-    };
     Train {
-        position: position,
+        position: Position {
+            nidsp: 0,
+            offset: UNDEFINED,
+            nidc: 0,
+            speed: 0,
+        },
         length: 0,
     }
 }
@@ -213,53 +217,33 @@ pub fn fresh_train() -> Train
 pub fn fresh_inputs() -> Inputs
     ensures { result ≡ fresh_inputs }
 {
-    Inputs {
-        mode: 0,
-        lever: 0,
-        reports: 0,
-    }
+    Inputs::default()
 }
 
 pub fn fresh_control() -> Control
     ensures { result ≡ fresh_control }
 {
-    Control {
-        state: 0,
-        press: false,
-        request: false,
-    }
+    Control::default()
 }
 
 // Nothing is remembered of a traction request.
 pub fn no_traction() -> Traction
     ensures { result ≡ no_traction }
 {
-    Traction {
-        remembered: false,
-        range: 0,
-        suptb: 0,
-        spare: 0,
-    }
+    Traction::default()
 }
 
 // The fresh engine.
 pub fn fresh() -> Engine
     ensures { result ≡ fresh }
 {
-    let points = [blank_point(); MAX_POINTS];
-    let skips = [false; MAX_POINTS];
-    let segments = [blank_segment(); MAX_SEGMENTS];
-    let progress = Progress {
-        next: 0,
-        reached: false,
-    };
     Engine {
-        points: points,
-        skips: skips,
-        segments: segments,
+        points: [blank_point(); MAX_POINTS],
+        skips: [false; MAX_POINTS],
+        segments: [blank_segment(); MAX_SEGMENTS],
         load: no_load(),
         train: fresh_train(),
-        progress: progress,
+        progress: Progress::default(),
         inputs: fresh_inputs(),
         control: fresh_control(),
         traction: no_traction(),

@@ -21,11 +21,15 @@ rows = record {
   longer = refl;
   shorter = refl;
   length_first = refl;
+  numbers = refl;
+  known = refl;
   views = refl;
 }
 
 roles : Roles
 roles = record {
+  views = refl;
+  told = refl;
   offs = refl;
   loads = refl;
   reports = refl;

@@ -1,12 +1,12 @@
--- The table of the kinds read backwards: the event, from its row, its role or the value that it brings; and its role from its number.
+-- The table of the kinds read backwards: the event, from its row, its role or the value that it brings.
 use Prim.Native.Nat.{ℕ}
 use mathlib.Core.Path.{◌≡◌, refl, sym, ap, ◌∙◌}
-use mathlib.Core.Bool.{Bool, true, false, ◌||◌, false≢true}
-use mathlib.Core.Option.{Option, none, some}
+use mathlib.Core.Bool.{true, false, false≢true}
+use Rattle.std.specs.Prelude.{Option, Some, None}
 use lib.Dec.{eqb}
 use Rattle.engine_value.specs.Engine.{mode}
 use Rattle.engine_value.specs.declared.Position.{Position}
-use Rattle.event.specs.Kinds.{Role, off, load, report, other, skip, is_off, is_load, is_report, is_skip, skip_given, newer, Kind, kind, role_of, bringing, carried}
+use Rattle.event.specs.Kinds.{Role, off, load, report, other, skip, is_report, newer, Kind, kind, role_of, bringing, carried}
 use Rattle.event.specs.declared.TractionRequest.{TractionRequest}
 use Rattle.event.specs.declared.Event.{Event}
 use Rattle.event.specs.declared.Row.{Row}
@@ -30,23 +30,16 @@ OfRole (skip t false) e = e ≡ Event.Revoke t
 
 -- a mode that an event brings is a mode report's, a position that it brings a position report's, a traction request one of kind 14
 abbrev pub OfMode : Option ℕ → Event → Type 0
-OfMode none e = Unit {0}
-OfMode (some n) e = e ≡ Event.Mode n
+OfMode None e = Unit {0}
+OfMode (Some n) e = e ≡ Event.Mode n
 
 abbrev pub OfPosition : Option Position → Event → Type 0
-OfPosition none e = Unit {0}
-OfPosition (some x) e = e ≡ Event.PositionReport x
+OfPosition None e = Unit {0}
+OfPosition (Some x) e = e ≡ Event.PositionReport x
 
 abbrev pub OfTraction : Option TractionRequest → Event → Type 0
-OfTraction none e = Unit {0}
-OfTraction (some x) e = e ≡ Event.Traction x
-
--- which role it is, by the number of the kind
-abbrev pub role_tests : Role → Bool × Bool × Bool × Bool × Bool
-role_tests r = (is_off r, is_load r, is_report r, skip_given r, is_skip r)
-
-abbrev pub number_tests : ℕ → Bool × Bool × Bool × Bool × Bool
-number_tests n = (eqb n 3, eqb n 11, eqb n 9, eqb n 12, eqb n 12 || eqb n 13)
+OfTraction None e = Unit {0}
+OfTraction (Some x) e = e ≡ Event.Traction x
 
 pub record Known (k : Kind) (e : Event) : Type 0 where
   pub row : OfRow k.row k.number e
@@ -54,23 +47,22 @@ pub record Known (k : Kind) (e : Event) : Type 0 where
   pub mode : OfMode ((bringing k.brings).number mode) e
   pub position : OfPosition (bringing k.brings).position e
   pub traction : OfTraction (bringing k.brings).traction e
-  pub tests : number_tests k.number ≡ role_tests k.role
 
 pub known : (e : Event) → Known (kind e) e
-known Event.PowerOn = record { row = (refl, refl); role = tt; mode = tt; position = tt; traction = tt; tests = refl }
-known Event.Configured = record { row = (refl, refl); role = tt; mode = tt; position = tt; traction = tt; tests = refl }
-known Event.PowerOff = record { row = (refl, refl); role = refl; mode = tt; position = tt; traction = tt; tests = refl }
-known Event.Fault = record { row = (refl, refl); role = tt; mode = tt; position = tt; traction = tt; tests = refl }
-known (Event.Reports n) = record { row = refl; role = tt; mode = tt; position = tt; traction = tt; tests = refl }
-known (Event.Mode n) = record { row = refl; role = tt; mode = refl; position = tt; traction = tt; tests = refl }
-known (Event.Lever n) = record { row = refl; role = tt; mode = tt; position = tt; traction = tt; tests = refl }
-known Event.Press = record { row = (refl, refl); role = tt; mode = tt; position = tt; traction = tt; tests = refl }
-known (Event.PositionReport x) = record { row = refl; role = (x, refl); mode = tt; position = refl; traction = tt; tests = refl }
-known (Event.Length n) = record { row = refl; role = tt; mode = tt; position = tt; traction = tt; tests = refl }
-known Event.Load = record { row = refl; role = refl; mode = tt; position = tt; traction = tt; tests = refl }
-known (Event.Skip t) = record { row = refl; role = refl; mode = tt; position = tt; traction = tt; tests = refl }
-known (Event.Revoke t) = record { row = refl; role = refl; mode = tt; position = tt; traction = tt; tests = refl }
-known (Event.Traction x) = record { row = refl; role = tt; mode = tt; position = tt; traction = refl; tests = refl }
+known Event.PowerOn = record { row = (refl, refl); role = tt; mode = tt; position = tt; traction = tt }
+known Event.Configured = record { row = (refl, refl); role = tt; mode = tt; position = tt; traction = tt }
+known Event.PowerOff = record { row = (refl, refl); role = refl; mode = tt; position = tt; traction = tt }
+known Event.Fault = record { row = (refl, refl); role = tt; mode = tt; position = tt; traction = tt }
+known (Event.Reports n) = record { row = refl; role = tt; mode = tt; position = tt; traction = tt }
+known (Event.Mode n) = record { row = refl; role = tt; mode = refl; position = tt; traction = tt }
+known (Event.Lever n) = record { row = refl; role = tt; mode = tt; position = tt; traction = tt }
+known Event.Press = record { row = (refl, refl); role = tt; mode = tt; position = tt; traction = tt }
+known (Event.PositionReport x) = record { row = refl; role = (x, refl); mode = tt; position = refl; traction = tt }
+known (Event.Length n) = record { row = refl; role = tt; mode = tt; position = tt; traction = tt }
+known Event.Load = record { row = refl; role = refl; mode = tt; position = tt; traction = tt }
+known (Event.Skip t) = record { row = refl; role = refl; mode = tt; position = tt; traction = tt }
+known (Event.Revoke t) = record { row = refl; role = refl; mode = tt; position = tt; traction = tt }
+known (Event.Traction x) = record { row = refl; role = tt; mode = tt; position = tt; traction = refl }
 
 pub mode_of : (e : Event) → OfMode ((carried e).number mode) e
 mode_of e = (known e).mode
@@ -86,5 +78,5 @@ pub position_kept : (e : Event) (x : Position) → is_report (role_of e) ≡ fal
 position_kept e x h = go (carried e).position (position_of e)
   where
     go : (y : Option Position) → OfPosition y e → newer y x ≡ x
-    go none k = refl
-    go (some y) k = absurd (false≢true (sym h ∙ ap (λ v. is_report (role_of v)) k))
+    go None k = refl
+    go (Some y) k = absurd (false≢true (sym h ∙ ap (λ v. is_report (role_of v)) k))

@@ -1,4 +1,3 @@
-pub mod ContentLaws
 pub mod Anchors
 pub mod Known
 pub mod Accepted

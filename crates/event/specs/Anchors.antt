@@ -1,18 +1,20 @@
 -- Values worked out by hand from documents 01 and 02, which the table of the kinds and the reader must give, a line a kind.
-use Rattle.std.specs.Prelude.{ℕ, ◌≡◌, true, false, List, [], ◌∷◌, ◌++◌, map}
-use Rattle.std.proofs.Math.Option.{Option, none, some}
+use Rattle.std.specs.Prelude.{ℕ, ◌≡◌, true, false, Option, Some, None, Ok, Err, List, [], ◌∷◌, ◌++◌, map}
 use Rattle.wire.specs.Judged.{Judged}
 use Rattle.wire.specs.Judged.Judged.{refuse, accept}
+use Rattle.wire.specs.View.{judged}
+use Rattle.wire.specs.declared.Refusal.{Refusal}
 use Rattle.engine_value.specs.Engine.{mode, lever, reports, train_length}
 use Rattle.engine_value.specs.declared.Position.{Position}
 use Rattle.event.specs.Kinds.{Role, off, load, report, other, skip, is_off, is_load, is_report, is_skip, skip_given, skip_name, newer}
 use Rattle.event.specs.Kinds.{kind_of, row_of, role_of, carried}
 use Rattle.event.specs.Events.{event_of}
-use Rattle.event.specs.View.{event_view}
+use Rattle.event.specs.View.{kind_number, known_kind, role_view, reported}
 use Rattle.event.specs.declared.TractionRequest.{TractionRequest}
 use Rattle.event.specs.declared.Event.{Event}
-use Rattle.event.specs.declared.EventRead.{EventRead}
+use Rattle.event.specs.declared.EventKind.{EventKind}
 use Rattle.event.specs.declared.Row.{Row}
+use Rattle.event.specs.declared.Role as code
 use Rattle.event.specs.declared.Row.TheVariants.{SwitchOn, Configure, SwitchOff, Fail, EngagePress, ByState}
 
 -- ---- one event of each kind
@@ -25,7 +27,7 @@ abbrev pub brought_by : Event → Brought
 brought_by e = ((carried e).number mode, (carried e).number lever, (carried e).number reports, (carried e).number train_length, (carried e).position)
 
 abbrev pub nothing : Brought
-nothing = (none, none, none, none, none)
+nothing = (None, None, None, None, None)
 
 -- no two bytes alike
 abbrev pub somewhere : Position
@@ -49,19 +51,19 @@ vectors =
     ∷ (Event.Configured, 2, Configure, other, nothing, 2 ∷ [])
     ∷ (Event.PowerOff, 3, SwitchOff, off, nothing, 3 ∷ [])
     ∷ (Event.Fault, 4, Fail, other, nothing, 4 ∷ [])
-    ∷ (Event.Reports 22, 5, ByState, other, (none, none, some 22, none, none), 5 ∷ 22 ∷ [])
-    ∷ (Event.Mode 1, 6, ByState, other, (some 1, none, none, none, none), 6 ∷ 1 ∷ [])
-    ∷ (Event.Lever 2, 7, ByState, other, (none, some 2, none, none, none), 7 ∷ 2 ∷ [])
+    ∷ (Event.Reports 22, 5, ByState, other, (None, None, Some 22, None, None), 5 ∷ 22 ∷ [])
+    ∷ (Event.Mode 1, 6, ByState, other, (Some 1, None, None, None, None), 6 ∷ 1 ∷ [])
+    ∷ (Event.Lever 2, 7, ByState, other, (None, Some 2, None, None, None), 7 ∷ 2 ∷ [])
     ∷ (Event.Press, 8, EngagePress, other, nothing, 8 ∷ [])
     ∷ (
       Event.PositionReport somewhere,
       9,
       ByState,
       report,
-      (none, none, none, none, some somewhere),
+      (None, None, None, None, Some somewhere),
       9 ∷ 0x01 ∷ 0x23 ∷ 0x45 ∷ 0x67 ∷ 0x89 ∷ 0xAB ∷ 0x00 ∷ 0xCD ∷ 0xEF ∷ 0x12 ∷ 0x34 ∷ 0x56 ∷ [],
     )
-    ∷ (Event.Length 0x012345, 10, ByState, other, (none, none, none, some 0x012345, none), 10 ∷ 0x00 ∷ 0x01 ∷ 0x23 ∷ 0x45 ∷ [])
+    ∷ (Event.Length 0x012345, 10, ByState, other, (None, None, None, Some 0x012345, None), 10 ∷ 0x00 ∷ 0x01 ∷ 0x23 ∷ 0x45 ∷ [])
     ∷ (Event.Load, 11, ByState, load, nothing, 11 ∷ [])
     ∷ (Event.Skip 0x456789AB, 12, ByState, skip 0x456789AB true, nothing, 12 ∷ 0x45 ∷ 0x67 ∷ 0x89 ∷ 0xAB ∷ [])
     ∷ (Event.Revoke 7001, 13, ByState, skip 7001 false, nothing, 13 ∷ 0x00 ∷ 0x00 ∷ 0x1B ∷ 0x59 ∷ [])
@@ -126,14 +128,25 @@ pub record Rows : Type 0 where
   -- the length is looked at before the range
   pub length_first : map number_for ((7 ∷ 3 ∷ 0 ∷ []) ∷ (14 ∷ 0x65 ∷ 0 ∷ 0 ∷ 0 ∷ 0 ∷ []) ∷ []) ≡ 1 ∷ 1 ∷ []
   -- "For an answer that is an enum, a definition gives this paper's number and values for each of its cases."
-  pub views : map event_view (EventRead.Event (Event.Lever 2) ∷ EventRead.Refused 2 ∷ []) ≡ accept (Event.Lever 2) ∷ refuse 2 ∷ []
+  pub numbers : map kind_number (
+      EventKind.PowerOn ∷ EventKind.Configured ∷ EventKind.PowerOff ∷ EventKind.Fault ∷ EventKind.Reports ∷ EventKind.Mode ∷ EventKind.Lever
+      ∷ EventKind.Press ∷ EventKind.PositionReport ∷ EventKind.Length ∷ EventKind.Load ∷ EventKind.Skip ∷ EventKind.Revoke ∷ EventKind.Traction ∷ []
+      ) ≡ 1 ∷ 2 ∷ 3 ∷ 4 ∷ 5 ∷ 6 ∷ 7 ∷ 8 ∷ 9 ∷ 10 ∷ 11 ∷ 12 ∷ 13 ∷ 14 ∷ []
+  pub known : map known_kind (0 ∷ 1 ∷ 14 ∷ 15 ∷ 255 ∷ []) ≡ refuse 1 ∷ accept 1 ∷ accept 14 ∷ refuse 1 ∷ refuse 1 ∷ []
+  pub views : map judged (Ok (Event.Lever 2) ∷ Err Refusal.EventRange ∷ []) ≡ accept (Event.Lever 2) ∷ refuse 2 ∷ []
 
 -- ---- roles
 
 abbrev pub roles : List Role
 roles = off ∷ load ∷ report ∷ other ∷ skip 7001 true ∷ skip 7002 false ∷ []
 
+-- those of the code, each once
+abbrev pub code_roles : List code.Role
+code_roles = code.Role.Off ∷ code.Role.Load ∷ code.Role.Report somewhere ∷ code.Role.Other ∷ code.Role.Skip 7001 true ∷ code.Role.Skip 7002 false ∷ []
+
 pub record Roles : Type 0 where
+  pub views : map role_view code_roles ≡ roles
+  pub told : map reported code_roles ≡ None ∷ None ∷ Some somewhere ∷ None ∷ None ∷ None ∷ []
   pub offs : map is_off roles ≡ true ∷ false ∷ false ∷ false ∷ false ∷ false ∷ []
   pub loads : map is_load roles ≡ false ∷ true ∷ false ∷ false ∷ false ∷ false ∷ []
   pub reports : map is_report roles ≡ false ∷ false ∷ true ∷ false ∷ false ∷ false ∷ []
@@ -142,11 +155,11 @@ pub record Roles : Type 0 where
   pub names : map skip_name roles ≡ 0 ∷ 0 ∷ 0 ∷ 0 ∷ 7001 ∷ 7002 ∷ []
   -- "Mode, lever, reports, position and train length come from the latest accepted event .. that carries them": each value as it is
   pub values : (n : ℕ) → map brought_by (Event.Mode n ∷ Event.Lever n ∷ Event.Reports n ∷ Event.Length n ∷ [])
-      ≡ (some n, none, none, none, none) ∷ (none, some n, none, none, none) ∷ (none, none, some n, none, none) ∷ (none, none, none, some n, none) ∷ []
-  pub position : (x : Position) → brought_by (Event.PositionReport x) ≡ (none, none, none, none, some x)
+      ≡ (Some n, None, None, None, None) ∷ (None, Some n, None, None, None) ∷ (None, None, Some n, None, None) ∷ (None, None, None, Some n, None) ∷ []
+  pub position : (x : Position) → brought_by (Event.PositionReport x) ≡ (None, None, None, None, Some x)
   pub traction : map (λ v. (carried (event_in v)).traction) vectors
-      ≡ none ∷ none ∷ none ∷ none ∷ none ∷ none ∷ none ∷ none ∷ none ∷ none ∷ none ∷ none ∷ none ∷ some asked ∷ []
-  pub newest : map {B = ℕ} (λ b. newer b 5) (none ∷ some 6 ∷ []) ≡ 5 ∷ 6 ∷ []
+      ≡ None ∷ None ∷ None ∷ None ∷ None ∷ None ∷ None ∷ None ∷ None ∷ None ∷ None ∷ None ∷ None ∷ Some asked ∷ []
+  pub newest : map {B = ℕ} (λ b. newer b 5) (None ∷ Some 6 ∷ []) ≡ 5 ∷ 6 ∷ []
 
 pub record Anchors : Type 0 where
   pub kinds : map given vectors ≡ map said vectors

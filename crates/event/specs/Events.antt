@@ -1,6 +1,6 @@
 -- Document 01, "Events", and the place "event" of the table of numbers.
 use Rattle.std.specs.Prelude.{ℕ, ◌+◌, Bool, not, List, [], ◌∷◌, length, get_or, eqb, if◌then◌else◌}
-use Rattle.wire.specs.Judged.{Judged, row, then_judge, ◌>>=◌, ◌>>◌}
+use Rattle.wire.specs.Judged.{Judged, row, ◌>>=◌, ◌>>◌}
 use Rattle.wire.specs.Judged.Judged.{refuse, accept}
 use Rattle.layout.specs.Layout.{size, values_at, fits}
 use Rattle.event.specs.Kinds.{Content, kind, kinds}

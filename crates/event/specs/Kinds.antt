@@ -1,7 +1,6 @@
 -- What each kind of event is: its number, what it carries, its row of the states, what it is to the journey and its points, and which value it
 -- brings. A kind is said here and nowhere else; reader, effects, rules and proofs go by content, row, role and value.
-use Rattle.std.specs.Prelude.{ℕ, Bool, true, false, List, [], ◌∷◌, eqb, if◌then◌else◌}
-use Rattle.std.proofs.Math.Option.{Option, none, some}
+use Rattle.std.specs.Prelude.{ℕ, Bool, true, false, Option, Some, None, List, [], ◌∷◌, eqb, if◌then◌else◌}
 use Rattle.layout.specs.Layout.{Field, Layout, Value as ValueOf, Values, field, to_highest}
 use Rattle.layout.specs.Layout.Content.{free, up_to, between, signed}
 use Rattle.engine_value.specs.Engine.{max2, max4, max_nidc, undefined, fresh_position, Value, mode, lever, reports, train_length, place}
@@ -80,8 +79,8 @@ pub data Brings : Type 0 where
 
 -- a value after an event, from what the event brings and the value before
 abbrev pub newer : {A : Type 0} → Option A → A → A
-newer none a = a
-newer (some b) a = b
+newer None a = a
+newer (Some b) a = b
 
 pub record Kind : Type 0 where
   pub number : ℕ
@@ -155,10 +154,10 @@ pub record Carried : Type 0 where
   pub traction : Option TractionRequest
 
 abbrev pub bringing : Brings → Carried
-bringing nothing = record { number = λ v. none; position = none; traction = none }
-bringing (number w n) = record { number = λ v. if eqb (place v) (place w) then some n else none; position = none; traction = none }
-bringing (position x) = record { number = λ v. none; position = some x; traction = none }
-bringing (traction x) = record { number = λ v. none; position = none; traction = some x }
+bringing nothing = record { number = λ v. None; position = None; traction = None }
+bringing (number w n) = record { number = λ v. if eqb (place v) (place w) then Some n else None; position = None; traction = None }
+bringing (position x) = record { number = λ v. None; position = Some x; traction = None }
+bringing (traction x) = record { number = λ v. None; position = None; traction = Some x }
 
 abbrev pub carried : Event → Carried
 carried e = bringing (kind e).brings

@@ -1,9 +1,50 @@
--- What the answers stand for.
-use Rattle.wire.specs.Judged.{Judged}
-use Rattle.wire.specs.Judged.Judged.{refuse, accept}
-use Rattle.event.specs.declared.Event.{Event}
-use Rattle.event.specs.declared.EventRead.{EventRead}
+-- What the values of the code say.
+use Rattle.std.specs.Prelude.{ℕ, Option, Some, None, not, eqb}
+use Rattle.wire.specs.Lists.{any}
+use Rattle.wire.specs.Judged.{Judged, row, ◌>>◌}
+use Rattle.wire.specs.Judged.Judged.{accept}
+use Rattle.engine_value.specs.declared.Position.{Position}
+use Rattle.event.specs.Kinds as model
+use Rattle.event.specs.Kinds.{kinds, kind_of}
+use Rattle.event.specs.declared.EventKind.{EventKind}
+use Rattle.event.specs.declared.EventKind.TheVariants.{PowerOn, Configured, PowerOff, Fault, Reports, Mode, Lever, Press, PositionReport, Length, Load, Skip, Revoke, Traction}
+use Rattle.event.specs.declared.Role as code
 
-abbrev pub event_view : EventRead → Judged Event
-event_view (EventRead.Event e) = accept e
-event_view (EventRead.Refused n) = refuse n
+-- the number of a kind
+abbrev pub kind_number : EventKind → ℕ
+kind_number PowerOn = 1
+kind_number Configured = 2
+kind_number PowerOff = 3
+kind_number Fault = 4
+kind_number Reports = 5
+kind_number Mode = 6
+kind_number Lever = 7
+kind_number Press = 8
+kind_number PositionReport = 9
+kind_number Length = 10
+kind_number Load = 11
+kind_number Skip = 12
+kind_number Revoke = 13
+kind_number Traction = 14
+
+-- "1 .. unknown kind": a number, where it is that of a kind of the table
+abbrev pub known_kind : ℕ → Judged ℕ
+known_kind n = do
+  row 1 (not (any (λ e. eqb n (kind_of e)) kinds))
+  accept n
+
+-- to the journey and its points
+abbrev pub role_view : code.Role → model.Role
+role_view code.Role.Off = model.Role.off
+role_view code.Role.Load = model.Role.load
+role_view (code.Role.Report x) = model.Role.report
+role_view (code.Role.Skip t on) = model.Role.skip t on
+role_view code.Role.Other = model.Role.other
+
+-- the position that a report brings
+abbrev pub reported : code.Role → Option Position
+reported code.Role.Off = None
+reported code.Role.Load = None
+reported (code.Role.Report x) = Some x
+reported (code.Role.Skip t on) = None
+reported code.Role.Other = None

@@ -1,43 +1,72 @@
 // Events: one byte kind and what it carries, read and checked (1, 2).
 #![tactic(auto)]
 
-ghost use Rattle.std.specs.Prelude.{◌≡◌, ◌&&◌, leb};
-ghost use Rattle.event.specs.Kinds.{kind_of, row_of, role_of, is_report, is_load, is_off, is_skip, skip_given, skip_name, newer, carried, position_content, traction_content};
+ghost use Rattle.std.specs.Prelude.{◌≡◌};
+ghost use Rattle.wire.specs.View.{judged};
+ghost use Rattle.event.specs.Kinds.{newer, carried, position_content, traction_content};
 ghost use Rattle.event.specs.Events.{event_rows, event_with, event_of};
-ghost use Rattle.event.specs.View.{event_view};
 
 use engine_value::{MAX_NIDC, Position, UNDEFINED};
 use packets::Requested;
-use wire::{be8, be16, be32, magnitude};
+use wire::{Number, Refusal, magnitude};
 
 // The kinds of events by their numbers.
-pub const POWER_ON: u8 = 1;
+#[derive(Clone, Copy)]
+pub enum EventKind {
+    PowerOn = 1,
+    Configured = 2,
+    PowerOff = 3,
+    Fault = 4,
+    Reports = 5,
+    Mode = 6,
+    Lever = 7,
+    Press = 8,
+    PositionReport = 9,
+    Length = 10,
+    Load = 11,
+    Skip = 12,
+    Revoke = 13,
+    Traction = 14,
+}
 
-pub const CONFIGURED: u8 = 2;
+impl From<EventKind> for u8 {
+    ghost use Rattle.event.specs.View.{kind_number};
 
-pub const POWER_OFF: u8 = 3;
+    ghost from_gives = { λ k n. n ≡ kind_number k };
 
-pub const FAULT: u8 = 4;
+    fn from(k: EventKind) -> u8 {
+        k as u8
+    }
+}
 
-pub const REPORTS: u8 = 5;
+impl TryFrom<u8> for EventKind {
+    ghost use Rattle.wire.specs.View.{judged_by};
+    ghost use Rattle.event.specs.View.{kind_number, known_kind};
 
-pub const MODE: u8 = 6;
+    ghost try_from_gives = { λ n r. judged_by kind_number r ≡ known_kind n };
 
-pub const LEVER: u8 = 7;
+    type Error = Refusal;
 
-pub const PRESS: u8 = 8;
-
-pub const POSITION_REPORT: u8 = 9;
-
-pub const LENGTH: u8 = 10;
-
-pub const LOAD: u8 = 11;
-
-pub const SKIP: u8 = 12;
-
-pub const REVOKE: u8 = 13;
-
-pub const TRACTION: u8 = 14;
+    fn try_from(n: u8) -> Result<EventKind, Refusal> {
+        match n {
+            1 => Ok(EventKind::PowerOn),
+            2 => Ok(EventKind::Configured),
+            3 => Ok(EventKind::PowerOff),
+            4 => Ok(EventKind::Fault),
+            5 => Ok(EventKind::Reports),
+            6 => Ok(EventKind::Mode),
+            7 => Ok(EventKind::Lever),
+            8 => Ok(EventKind::Press),
+            9 => Ok(EventKind::PositionReport),
+            10 => Ok(EventKind::Length),
+            11 => Ok(EventKind::Load),
+            12 => Ok(EventKind::Skip),
+            13 => Ok(EventKind::Revoke),
+            14 => Ok(EventKind::Traction),
+            _ => Err(Refusal::EventForm),
+        }
+    }
+}
 
 // The greatest size of a traction request, without its sign.
 const MAX_REQUEST: u8 = 100;
@@ -78,190 +107,142 @@ pub enum Row {
     ByState,
 }
 
-// An event, or the number that refuses it.
+// What an event is to the journey and its points: power off, a load, a position report, a driver skip given or revoked, nothing.
 #[derive(Clone, Copy)]
-pub enum EventRead {
-    Event(Event),
-    Refused(u8),
+pub enum Role {
+    Off,
+    Load,
+    Report(Position),
+    Skip { nidtp: u32, on: bool },
+    Other,
+}
+
+impl Event {
+    ghost use Rattle.event.specs.Kinds.{kind_of, row_of, role_of};
+    ghost use Rattle.event.specs.View.{kind_number, role_view, reported};
+
+    // The kind of an event.
+    pub fn kind(self) -> EventKind
+        ensures { kind_number result ≡ kind_of self }
+    {
+        match self {
+            Event::PowerOn => EventKind::PowerOn,
+            Event::Configured => EventKind::Configured,
+            Event::PowerOff => EventKind::PowerOff,
+            Event::Fault => EventKind::Fault,
+            Event::Reports(_) => EventKind::Reports,
+            Event::Mode(_) => EventKind::Mode,
+            Event::Lever(_) => EventKind::Lever,
+            Event::Press => EventKind::Press,
+            Event::PositionReport(_) => EventKind::PositionReport,
+            Event::Length(_) => EventKind::Length,
+            Event::Load => EventKind::Load,
+            Event::Skip(_) => EventKind::Skip,
+            Event::Revoke(_) => EventKind::Revoke,
+            Event::Traction(_) => EventKind::Traction,
+        }
+    }
+
+    // The row of the states that an event takes.
+    pub fn row(self) -> Row
+        ensures { result ≡ row_of self }
+    {
+        match self {
+            Event::PowerOn => Row::SwitchOn,
+            Event::Configured => Row::Configure,
+            Event::PowerOff => Row::SwitchOff,
+            Event::Fault => Row::Fail,
+            Event::Press => Row::EngagePress,
+            _ => Row::ByState,
+        }
+    }
+
+    // What it is to the journey and its points.
+    pub fn role(self) -> Role
+        ensures role { role_view result ≡ role_of self }
+        ensures position { reported result ≡ (carried self).position }
+    {
+        match self {
+            Event::PowerOff => Role::Off,
+            Event::Load => Role::Load,
+            Event::PositionReport(x) => Role::Report(x),
+            Event::Skip(nidtp) => Role::Skip { nidtp, on: true },
+            Event::Revoke(nidtp) => Role::Skip { nidtp, on: false },
+            _ => Role::Other,
+        }
+    }
 }
 
 // Rows 1 and 2: the event, where there are as many bytes and its fields are in their ranges.
-fn event_rows(s: &[u8], size: usize, fit: bool, e: Event) -> EventRead
-    ensures { event_view result ≡ event_rows size fit e s.now }
+#[tactic(auto, unfolding(crate::specs::Events::event_rows))]
+fn event_rows(s: &[u8], size: usize, fit: bool, e: Event) -> Result<Event, Refusal>
+    ensures { judged result ≡ event_rows size fit e s.now }
 {
     if s.len() != size {
-        EventRead::Refused(1)
+        Err(Refusal::EventForm)
     } else if fit {
-        EventRead::Event(e)
+        Ok(e)
     } else {
-        EventRead::Refused(2)
+        Err(Refusal::EventRange)
     }
 }
 
-fn within(n: u32, low: u32, high: u32) -> bool
-    ensures { result ≡ (leb low n && leb n high) }
+#[tactic(auto, unfolding(crate::specs::Events::event_with, layout::specs::Layout::values_at))]
+fn read_position(s: &[u8]) -> Result<Event, Refusal>
+    ensures { judged result ≡ event_with position_content s.now }
 {
-    if n < low {
-        return false;
-    }
-    n <= high
-}
-
-fn read_position(s: &[u8]) -> EventRead
-    ensures { event_view result ≡ event_with position_content s.now }
-{
-    let nidc = be16(s, 1);
-    let nidsp = be32(s, 3);
-    let offset = be32(s, 7);
-    let speed = be16(s, 11);
     let x = Position {
-        nidsp: nidsp,
-        offset: offset,
-        nidc: nidc,
-        speed: speed,
+        nidc: u16::get(s, 1),
+        nidsp: u32::get(s, 3),
+        offset: u32::get(s, 7),
+        speed: u16::get(s, 11),
     };
-    if MAX_NIDC < nidc as u32 {
-        return event_rows(s, 13, false, Event::PositionReport(x));
-    }
-    event_rows(s, 13, offset <= UNDEFINED, Event::PositionReport(x))
+    let fit = x.nidc as u32 <= MAX_NIDC && x.offset <= UNDEFINED;
+    event_rows(s, 13, fit, Event::PositionReport(x))
 }
 
-fn read_traction(s: &[u8]) -> EventRead
-    ensures { event_view result ≡ event_with traction_content s.now }
+#[tactic(auto, unfolding(crate::specs::Events::event_with, layout::specs::Layout::values_at))]
+fn read_traction(s: &[u8]) -> Result<Event, Refusal>
+    ensures { judged result ≡ event_with traction_content s.now }
 {
-    let request = be8(s, 1);
+    let request = u8::get(s, 1);
     let content = Requested {
-        m_ato_trabrrq: be8(s, 2),
-        m_ato_locobrrq: be8(s, 3),
-        q_ato_suptb: be8(s, 4),
-        m_ato_rtbrq: be16(s, 5),
+        m_ato_trabrrq: u8::get(s, 2),
+        m_ato_locobrrq: u8::get(s, 3),
+        q_ato_suptb: u8::get(s, 4),
+        m_ato_rtbrq: u16::get(s, 5),
     };
-    let x = TractionRequest {
-        request: request,
-        content: content,
-    };
+    let x = TractionRequest { request, content };
     event_rows(s, 7, magnitude(request) <= MAX_REQUEST, Event::Traction(x))
 }
 
 // The event of the bytes: the kind byte, then exactly what that kind carries.
-pub fn read_event(s: &[u8]) -> EventRead
-    ensures { event_view result ≡ event_of s.now }
+#[tactic(auto, unfolding(crate::specs::Events::event_of, crate::specs::Events::event_of_kind, crate::specs::Events::content_among, crate::specs::Events::event_with, layout::specs::Layout::values_at))]
+pub fn read_event(s: &[u8]) -> Result<Event, Refusal>
+    ensures { judged result ≡ event_of s.now }
 {
-    if s.len() == 0 {
-        return EventRead::Refused(1);
-    }
-    let byte = be8(s, 1);
-    let number = be32(s, 1);
-    let kind = s[0];
+    let kind = EventKind::try_from(*s.first().ok_or(Refusal::EventForm)?)?;
+    let byte = u8::get(s, 1);
+    let number = u32::get(s, 1);
     match kind {
-        1 => event_rows(s, 1, true, Event::PowerOn),
-        2 => event_rows(s, 1, true, Event::Configured),
-        3 => event_rows(s, 1, true, Event::PowerOff),
-        4 => event_rows(s, 1, true, Event::Fault),
-        5 => event_rows(s, 2, byte <= 31, Event::Reports(byte)),
-        6 => event_rows(s, 2, byte <= 1, Event::Mode(byte)),
-        7 => event_rows(s, 2, byte <= 2, Event::Lever(byte)),
-        8 => event_rows(s, 1, true, Event::Press),
-        9 => read_position(s),
-        10 => event_rows(s, 5, within(number, 1, 100000), Event::Length(number)),
-        11 => event_rows(s, 1, true, Event::Load),
-        12 => event_rows(s, 5, true, Event::Skip(number)),
-        13 => event_rows(s, 5, true, Event::Revoke(number)),
-        14 => read_traction(s),
-        0 | 15..=255 => EventRead::Refused(1),
+        EventKind::PowerOn => event_rows(s, 1, true, Event::PowerOn),
+        EventKind::Configured => event_rows(s, 1, true, Event::Configured),
+        EventKind::PowerOff => event_rows(s, 1, true, Event::PowerOff),
+        EventKind::Fault => event_rows(s, 1, true, Event::Fault),
+        EventKind::Reports => event_rows(s, 2, byte <= 31, Event::Reports(byte)),
+        EventKind::Mode => event_rows(s, 2, byte <= 1, Event::Mode(byte)),
+        EventKind::Lever => event_rows(s, 2, byte <= 2, Event::Lever(byte)),
+        EventKind::Press => event_rows(s, 1, true, Event::Press),
+        EventKind::PositionReport => read_position(s),
+        EventKind::Length => {
+            let fit = (1..=100000).contains(&number);
+            event_rows(s, 5, fit, Event::Length(number))
+        }
+        EventKind::Load => event_rows(s, 1, true, Event::Load),
+        EventKind::Skip => event_rows(s, 5, true, Event::Skip(number)),
+        EventKind::Revoke => event_rows(s, 5, true, Event::Revoke(number)),
+        EventKind::Traction => read_traction(s),
     }
-}
-
-// The kind of an event.
-pub fn kind_of(e: Event) -> u8
-    ensures { result ≡ kind_of e }
-{
-    match e {
-        Event::PowerOn => POWER_ON,
-        Event::Configured => CONFIGURED,
-        Event::PowerOff => POWER_OFF,
-        Event::Fault => FAULT,
-        Event::Reports(_) => REPORTS,
-        Event::Mode(_) => MODE,
-        Event::Lever(_) => LEVER,
-        Event::Press => PRESS,
-        Event::PositionReport(_) => POSITION_REPORT,
-        Event::Length(_) => LENGTH,
-        Event::Load => LOAD,
-        Event::Skip(_) => SKIP,
-        Event::Revoke(_) => REVOKE,
-        _ => TRACTION,
-    }
-}
-
-// The row of the states that an event takes.
-pub fn row_of(e: Event) -> Row
-    ensures { result ≡ row_of e }
-{
-    match e {
-        Event::PowerOn => Row::SwitchOn,
-        Event::Configured => Row::Configure,
-        Event::PowerOff => Row::SwitchOff,
-        Event::Fault => Row::Fail,
-        Event::Reports(_) => Row::ByState,
-        Event::Mode(_) => Row::ByState,
-        Event::Lever(_) => Row::ByState,
-        Event::Press => Row::EngagePress,
-        Event::PositionReport(_) => Row::ByState,
-        Event::Length(_) => Row::ByState,
-        Event::Load => Row::ByState,
-        Event::Skip(_) => Row::ByState,
-        Event::Revoke(_) => Row::ByState,
-        Event::Traction(_) => Row::ByState,
-    }
-}
-
-// What an event is to the journey and its points: a test for each role, and not one match on a role. In the code of a step such a match leaves an
-// arm that no value takes, and for its sake LLVM keeps one more copy of the engine.
-pub fn is_report(e: Event) -> bool
-    ensures { result ≡ is_report (role_of e) }
-{
-    kind_of(e) == POSITION_REPORT
-}
-
-pub fn is_load(e: Event) -> bool
-    ensures { result ≡ is_load (role_of e) }
-{
-    kind_of(e) == LOAD
-}
-
-pub fn is_power_off(e: Event) -> bool
-    ensures { result ≡ is_off (role_of e) }
-{
-    kind_of(e) == POWER_OFF
-}
-
-// A driver skip, given.
-pub fn gives_skip(e: Event) -> bool
-    ensures { result ≡ skip_given (role_of e) }
-{
-    kind_of(e) == SKIP
-}
-
-// A driver skip, given or revoked.
-pub fn is_skip(e: Event) -> bool
-    ensures { result ≡ is_skip (role_of e) }
-{
-    let kind = kind_of(e);
-    kind == SKIP || kind == REVOKE
-}
-
-// The NID_TP that a driver skip names.
-pub fn stop_in(e: Event) -> u32
-    ensures { result ≡ skip_name (role_of e) }
-{
-    if let Event::Skip(nidtp) = e {
-        return nidtp;
-    }
-    if let Event::Revoke(nidtp) = e {
-        return nidtp;
-    }
-    0
 }
 
 // The position after an event, from the one before.
@@ -269,7 +250,8 @@ pub fn position_after(e: Event, x: Position) -> Position
     ensures { result ≡ newer (carried e).position x }
 {
     if let Event::PositionReport(y) = e {
-        return y;
+        y
+    } else {
+        x
     }
-    x
 }

@@ -2,7 +2,6 @@
 use mathlib.Core.Path.{refl}
 use Rattle.wire.specs.Numbers.{number}
 use Rattle.fields.specs.Parse.{field, bit_map, optional, many, counted, listed}
-use Rattle.fields.specs.View.{field_at}
 use Rattle.fields.specs.Anchors.{Fields, Items, Answers, Anchors}
 
 fields : Fields
@@ -25,8 +24,7 @@ unfolding number field many counted listed
 items = record { several = refl; counts = refl; bit_stands = refl; bit_clear = refl }
 
 answers : Answers
-unfolding field_at
-answers = record { widths = refl; reads = refl; wholes = refl; answered = refl }
+answers = record { reads = refl; wholes = refl }
 
 pub anchors : Anchors
 anchors = record { fields = fields; items = items; answers = answers }

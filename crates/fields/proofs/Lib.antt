@@ -1,4 +1,3 @@
-pub mod Answers
 pub mod ReaderLaws
 pub mod Sure
 pub mod Anchors

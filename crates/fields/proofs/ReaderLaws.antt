@@ -1,39 +1,30 @@
 -- Laws of the readers: a field by case, and one law over the width that what was written reads back.
-use Prim.Native.Nat.{ℕ, ◌+◌, ◌-◌, ◌^◌, ◌≤◌, ◌<◌}
-use mathlib.Core.Path.{◌≡◌, refl}
-use mathlib.Core.List.{List, ◌++◌}
-use mathlib.Core.Bool.{Bool, true, false, cond, ◌&&◌, and-false}
-use lib.ListN.{length, drop, length-drop, length-append}
-use lib.Seq.{drop-drop, drop_at}
+use Prim.Native.Nat.{ℕ, suc, ◌+◌, ◌-◌, ◌^◌, ◌≤◌, ◌<◌}
+use mathlib.Core.Path.{◌≡◌, refl, sym}
+use mathlib.Core.List.{List, [], ◌∷◌, ◌++◌, append_assoc}
+use mathlib.Core.Bool.{Bool, true, false, cond, ◌&&◌}
+use lib.ListN.{length, get_or, take, drop, length-drop, length-append}
+use lib.Seq.{drop-drop, drop_at, drop-cons, take-length}
 use lib.Dec.{leb}
+use Rattle.std.proofs.lemmas.List.{append-nil}
+use native.Mathlib.Numerals.{add-one}
 use native.Mathlib.Omega.{arith}
 use borrow.Author.Tests.{le-leb, lt-leb, leb-true}
 use Rattle.wire.specs.Numbers.{number, bytes_of}
+use Rattle.wire.specs.Lists.{any, twice}
 use Rattle.wire.proofs.ListLaws.{and_left, and_right}
 use Rattle.wire.proofs.NumberLaws.{number-bytes_of, length-bytes_of}
-use Rattle.fields.specs.declared.Width.{Width}
-use Rattle.fields.specs.declared.Width.TheVariants.{One, Two, Four}
-use Rattle.fields.specs.Parse.{Parse, and_then, field, bytes}
+use Rattle.fields.specs.Parse.{Parse, Reader, and_then, field, many}
 use Rattle.fields.specs.Parse.Parse.{bad, good}
-
-pub bytes_pos : (w : Width) → 1 ≤ bytes w
-bytes_pos One = omega arith
-bytes_pos Two = omega arith
-bytes_pos Four = omega arith
+use Rattle.fields.specs.View.{parsed_by}
+use Rattle.std.specs.Borrow.{Bor}
+use Rattle.std.specs.Bool.{then_some}
 
 -- a field at a position of s, by case
 module _ (s : List ℕ) (at w low high : ℕ) where
   pub field_short : length s - at < w → bad ≡ field w low high (drop at s)
   unfolding field
   field_short h = rw (lt-leb w (length (drop at s)) (rw length-drop h))
-
-  pub field_low : number w (drop at s) < low → bad ≡ field w low high (drop at s)
-  unfolding field
-  field_low h = rw (lt-leb _ _ h, and-false)
-
-  pub field_high : high < number w (drop at s) → bad ≡ field w low high (drop at s)
-  unfolding field
-  field_high h = rw (lt-leb _ _ h, and-false, and-false)
 
   pub field_good : at + w ≤ length s → low ≤ number w (drop at s) → number w (drop at s) ≤ high → good (number w (drop at s)) (drop (at + w) s) ≡ field w low high (drop at s)
   unfolding field
@@ -74,3 +65,40 @@ field-bytes w low high n rest h a b =
     let e = number-bytes_of w n rest h in
     let k : w ≤ length (bytes_of w n ++ rest) = rw (length-append, length-bytes_of) (omega arith) in
     rw (e, le-leb w _ k, le-leb low n a, le-leb n high b, drop_at (bytes_of w n) rest w (length-bytes_of w n))
+
+-- ---- items one after the other, in a loop
+
+-- those that were read, and those that are still read
+abbrev pub with_front : {A : Type 0} → List A → Parse (List A) → Parse (List A)
+with_front xs bad = bad
+with_front xs (good ys r) = good (xs ++ ys) r
+
+module _ {A : Type 0} (p : Reader A) (xs : List A) (n i : ℕ) (l : List ℕ) where
+  pub many_goes_on : (a : A) (r : List ℕ) → i < n → p l ≡ good a r → with_front (xs ++ a ∷ []) (many (n - (i + 1)) p r) ≡ with_front xs (many (n - i) p l)
+  unfolding many
+  many_goes_on a r h e = let k : n - i ≡ suc (n - (i + 1)) = omega arith in rw (k, e) (go (many (n - (i + 1)) p r))
+    where
+      go : (q : Parse (List A)) → with_front (xs ++ a ∷ []) q ≡ with_front xs (and_then q (λ ys r₂. good (a ∷ ys) r₂))
+      go bad = refl
+      go (good ys r₂) = simp append_assoc
+
+  pub many_ends : i < n → p l ≡ bad → with_front xs (many (n - i) p l) ≡ bad
+  unfolding many
+  many_ends h e = let k : n - i ≡ suc (n - (i + 1)) = omega arith in rw (k, e)
+
+  pub many_done : n ≤ i → with_front xs (many (n - i) p l) ≡ good xs l
+  unfolding many
+  many_done h = let k : n - i ≡ 0 = omega arith in rw k (simp append-nil)
+
+-- an item that none behind it is the same as does not decide whether one stands twice
+pub twice_goes_on : {A : Type 0} (same : A → A → Bool) (xs : List A) (i : ℕ) (d : A) → i < length xs
+    → false ≡ any (λ y. same y (get_or xs i d)) (take (length xs - (i + 1)) (drop (i + 1) xs)) → twice same (drop (i + 1) xs) ≡ twice same (drop i xs)
+twice_goes_on same xs i d h e =
+    let k : length xs - (i + 1) ≡ length (drop (i + 1) xs) = rw length-drop in
+    let f : any (λ y. same y (get_or xs i d)) (drop (suc i) xs) ≡ false = sym (rw (k, take-length, add-one i) at e) in
+    rw (add-one i, drop-cons xs i d h, f)
+
+-- what is read where a test holds
+pub parsed_then_some : {A B : Type 0} (f : A → B) (b : Bool) (a : A) (r : Bor (List ℕ)) → parsed_by f (then_some b (a, r)) ≡ cond b (good (f a) r.now) bad
+parsed_then_some f true a r = refl
+parsed_then_some f false a r = refl

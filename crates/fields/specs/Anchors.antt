@@ -1,11 +1,8 @@
 -- Values worked out by hand from document 01, which the definitions must give.
 use Rattle.std.specs.Prelude.{ℕ, ◌≡◌, true, false, List, [], ◌∷◌, map}
 use Rattle.wire.specs.Judged.Judged.{refuse, accept}
-use Rattle.fields.specs.Parse.{Parse, Reader, ◌>>=◌, ◌>>◌, give, must, field, free, bit_map, optional, many, counted, listed, bytes, read, whole}
+use Rattle.fields.specs.Parse.{Reader, ◌>>=◌, ◌>>◌, give, must, field, free, bit_map, optional, many, counted, listed, read, whole}
 use Rattle.fields.specs.Parse.Parse.{bad, good}
-use Rattle.fields.specs.View.{field_at}
-use Rattle.fields.specs.declared.Field.{Field}
-use Rattle.fields.specs.declared.Width.TheVariants.{One, Two, Four}
 
 -- a field of one byte from 2 to 5; and one with a free one behind it
 abbrev pub small : Reader ℕ
@@ -53,12 +50,9 @@ pub record Items : Type 0 where
       ≡ good [] (0 ∷ 2 ∷ []) ∷ good [] (1 ∷ 2 ∷ 3 ∷ []) ∷ good [] [] ∷ []
 
 pub record Answers : Type 0 where
-  pub widths : map bytes (One ∷ Two ∷ Four ∷ []) ≡ 1 ∷ 2 ∷ 4 ∷ []
   -- "7 bad map, range or length": the row's number where nothing was read, or where a byte is left over
   pub reads : map (read {A = ℕ} 7) (bad ∷ good 5 [] ∷ good 5 (0 ∷ []) ∷ []) ≡ refuse 7 ∷ accept 5 ∷ accept 5 ∷ []
   pub wholes : map (whole {A = ℕ} 9) (bad ∷ good 5 [] ∷ good 5 (0 ∷ []) ∷ good 5 (1 ∷ 2 ∷ []) ∷ []) ≡ refuse 9 ∷ accept 5 ∷ refuse 9 ∷ refuse 9 ∷ []
-  -- for a field of two bytes at position 3: the number that was read, and the position behind it
-  pub answered : map (λ (x : Parse ℕ). field_at 3 x 2) (good 258 (9 ∷ []) ∷ bad ∷ []) ≡ Field.Value 258 5 ∷ Field.Bad ∷ []
 
 pub record Anchors : Type 0 where
   pub fields : Fields

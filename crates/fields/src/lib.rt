@@ -1,99 +1,109 @@
-// Fields of layouts: numbers of a width that stand within their range, maps of bits, optional fields.
+// Fields of layouts: numbers of a width that stand within their range, maps of bits, optional fields, lists. Each reader takes the
+// front of a slice, and answers the value and the bytes behind it, or nothing.
 #![tactic(auto)]
 
-ghost use Rattle.std.specs.Prelude.{◌≡◌, ◌∷◌, [], not, drop, if◌then◌else◌};
-ghost use Rattle.wire.specs.Numbers.{number, bit};
-ghost use Rattle.wire.specs.Lists.{every};
-ghost use Rattle.fields.specs.Parse.{bytes, field, optional};
-ghost use Rattle.fields.specs.View.{field_at};
+ghost use Rattle.std.specs.Prelude.{◌≡◌, ◌≤◌, min, length, map};
+ghost use Rattle.wire.specs.Lists.{twice};
+ghost use Rattle.fields.specs.Parse.{field, optional, map_fits, bit_map, many, counted, listed};
+ghost use Rattle.fields.specs.View.{parsed, parsed_by};
 
-use wire::{be8, be16, be32};
+use arrayvec::ArrayVec;
+use wire::{Number, bit};
 
-// The widths of the numbers in a layout.
-#[derive(Clone, Copy)]
-pub enum Width {
-    One,
-    Two,
-    Four,
-}
-
-// A number that was read and the position behind it.
-#[derive(Clone, Copy)]
-pub enum Field {
-    Value(u32, usize),
-    Bad,
-}
-
-fn size_of(w: Width) -> usize
-    ensures { result ≡ bytes w }
+// The bits of one list stand, those of another do not.
+fn map_fits(map: u8, standing: &[u8], clear: &[u8]) -> bool
+    ensures { result ≡ map_fits standing.now clear.now map }
 {
-    match w {
-        Width::One => 1,
-        Width::Two => 2,
-        Width::Four => 4,
-    }
+    standing.iter().all(|k| bit(map, *k)) && clear.iter().all(|k| !bit(map, *k))
 }
 
-// The number of a width; bytes past the end count as 0.
-fn number_at(s: &[u8], at: usize, w: Width) -> u32
-    ensures { result ≡ number (bytes w) (drop at s.now) }
+// A map of bits, of which some must stand and some must not.
+#[tactic(auto, unfolding(crate::specs::Parse::bit_map))]
+pub fn read_map<'a>(s: &'a [u8], standing: &[u8], clear: &[u8]) -> Option<(u8, &'a [u8])>
+    ensures { parsed result ≡ bit_map standing.now clear.now s.now }
 {
-    match w {
-        Width::One => be8(s, at) as u32,
-        Width::Two => be16(s, at) as u32,
-        Width::Four => be32(s, at),
-    }
+    let (map, s) = read_field::<u8>(s, 0, 255)?;
+    map_fits(map, standing, clear).then_some((map, s))
 }
 
-// Bits 5 to 7 of a map do not stand.
-pub fn upper_clear(map: u32) -> bool
-    ensures { result ≡ every (λ k. not (bit k map)) (5 ∷ 6 ∷ 7 ∷ []) }
+// A number within its range.
+#[tactic(auto, using(std::proofs::lemmas::Map::Keys::le_from_is_le), unfolding(crate::specs::Parse::field))]
+pub fn read_field<N: Number>(s: &[u8], low: u32, high: u32) -> Option<(N, &[u8])>
+    ensures { parsed_by N.value result ≡ field N.WIDTH low high s.now }
 {
-    if map / 32 % 2 == 1 {
-        return false;
-    }
-    if map / 64 % 2 == 1 {
-        return false;
-    }
-    map / 128 % 2 != 1
-}
-
-// The number of a width at a position, where it is there and in its range.
-pub fn read_field(s: &[u8], at: usize, w: Width, low: u32, high: u32) -> Field
-    ensures { result ≡ field_at at (field (bytes w) low high (drop at s.now)) (bytes w) }
-{
-    let k = size_of(w);
-    if s.len() < at {
-        return Field::Bad;
-    }
-    if s.len() - at < k {
-        return Field::Bad;
-    }
-    let n = number_at(s, at, w);
-    if n < low {
-        return Field::Bad;
-    }
-    if high < n {
-        return Field::Bad;
-    }
-    Field::Value(n, at + k)
+    let (_, rest) = s.split_at_checked(N::WIDTH)?;
+    let n = N::get(s, 0);
+    (low..=high).contains(&n.into()).then_some((n, rest))
 }
 
 // The same where its bit stands; where not, the value that an absent field means.
-pub fn read_optional(
+#[tactic(auto, unfolding(crate::specs::Parse::optional))]
+pub fn read_optional<N: Number>(
     s: &[u8],
-    at: usize,
     present: bool,
-    other: u32,
-    w: Width,
+    other: N,
     low: u32,
     high: u32,
-) -> Field
-    ensures { result ≡ field_at at (optional present other (field (bytes w) low high) (drop at s.now)) (if present then bytes w else 0) }
+) -> Option<(N, &[u8])>
+    ensures { parsed_by N.value result ≡ optional present (N.value other) (field N.WIDTH low high) s.now }
 {
     if present {
-        read_field(s, at, w, low, high)
+        read_field(s, low, high)
     } else {
-        Field::Value(other, at)
+        Some((other, s))
     }
+}
+
+// An item of a list.
+pub trait Item {
+    ghost use Rattle.fields.specs.Parse.{Reader};
+
+    type Value: Copy + Default;
+
+    ghost reader: { Self → Reader Self.Value };
+
+    fn read<'a>(&self, s: &'a [u8]) -> Option<(Self::Value, &'a [u8])>
+        ensures { parsed result ≡ reader self.now s.now };
+}
+
+// A count of one byte, from 1 to N, and as many items.
+#[tactic(auto, using(crate::proofs::ReaderLaws::many_goes_on, crate::proofs::ReaderLaws::many_ends, crate::proofs::ReaderLaws::many_done), unfolding(crate::specs::Parse::counted))]
+pub fn read_counted<'a, I: Item, const N: usize>(
+    item: &I,
+    s: &'a [u8],
+) -> Option<(ArrayVec<I::Value, N>, &'a [u8])>
+    ensures { parsed_by (λ v. v.items) result ≡ counted (min N 255) (I.reader item.now) s.now }
+{
+    let most = N.min(255) as u32;
+    let (n, mut rest) = read_field::<u8>(s, 1, most)?;
+    let mut items = ArrayVec::new();
+    for _ in 0..n {
+        let (value, behind) = item.read(rest)?;
+        items.try_push(value).ok()?;
+        rest = behind;
+    }
+    Some((items, rest))
+}
+
+// What bears a name, by which two of a list are the same.
+pub trait Bears {
+    type Name: PartialEq + Drop;
+
+    ghost name: { Self → Self.Name };
+
+    fn name(&self) -> Self::Name
+        ensures { result ≡ name self.now };
+}
+
+// Two of the items bear one name.
+pub fn name_twice<T: Bears>(items: &[T]) -> bool
+    ensures { result ≡ twice (λ a b. T.Name.eq (T.name a) (T.name b)) items.now }
+{
+    for (i, first) in items.iter().enumerate() {
+        let name = first.name();
+        if items[i + 1..].iter().any(|x| x.name() == name) {
+            return true;
+        }
+    }
+    false
 }

@@ -2,7 +2,7 @@
 use Rattle.std.specs.Prelude.{true, false}
 use Rattle.wire.specs.Judged.{Judged}
 use Rattle.wire.specs.Judged.Judged.{refuse, accept}
-use Rattle.call_values.specs.Call.{Accepted}
+use Rattle.call_values.specs.declared.Accepted.{Accepted}
 use Rattle.host.specs.declared.Answer.{Answer}
 
 -- "An accepted event returns state, request and bytes written."

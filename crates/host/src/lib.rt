@@ -4,7 +4,8 @@
 ghost use Rattle.std.specs.Prelude.{◌≡◌, ◌≤◌};
 ghost use Rattle.engine_value.specs.Engine.{fresh};
 ghost use Rattle.call.specs.Call.{step_of};
-ghost use Rattle.call.specs.View.{shown_view, answer_view as call·answer_view};
+ghost use Rattle.call.specs.View.{shown_view};
+ghost use Rattle.wire.specs.View.{judged};
 ghost use Rattle.engine.specs.View.{call};
 ghost use Rattle.packets.specs.Packets.{packet_of, front_size};
 ghost use Rattle.packet_fields.specs.View.{fields_view};
@@ -12,8 +13,10 @@ ghost use Rattle.host.specs.View.{answer_view};
 ghost use Rattle.host.specs.Version.{version};
 
 use call::Shown;
+use call_values::Accepted;
 use engine_value::Engine;
 use packet_fields::PacketFields;
+use wire::Refusal;
 
 // The version of this interface, a byte each for the three numbers.
 const MAJOR: u32 = 1;
@@ -22,7 +25,8 @@ const MINOR: u32 = 1;
 
 const PATCH: u32 = 0;
 
-// State, request and bytes written, where accepted; else the number of the row that refuses. The fields of the other case are 0.
+// State, request and bytes written, where accepted; else the number of the row that refuses. The fields of the other case are 0: one struct for
+// both, since an exported function can hand over no enum.
 #[repr(C)]
 #[derive(Clone, Copy)]
 pub struct Answer {
@@ -33,24 +37,20 @@ pub struct Answer {
     pub bytes: usize,
 }
 
-fn plain(a: call::Answer) -> Answer
-    ensures { result ≡ answer_view (call·answer_view a) }
+fn plain(r: Result<Accepted, Refusal>) -> Answer
+    ensures { result ≡ answer_view (judged r) }
 {
-    match a {
-        call::Answer::Accepted {
-            state,
-            request,
-            bytes,
-        } => Answer {
+    match r {
+        Ok(a) => Answer {
             accepted: true,
             number: 0,
-            state: state,
-            request: request,
-            bytes: bytes,
+            state: a.state,
+            request: a.request,
+            bytes: a.bytes,
         },
-        call::Answer::Refused(n) => Answer {
+        Err(n) => Answer {
             accepted: false,
-            number: n,
+            number: u8::from(n),
             state: 0,
             request: false,
             bytes: 0,
@@ -58,7 +58,7 @@ fn plain(a: call::Answer) -> Answer
     }
 }
 
-// One event, on the engine where it is kept. Points and segments are stored only where the journey was rewritten: they are most of the engine.
+// One event, on the engine where it is kept.
 #[unsafe(no_mangle)]
 pub extern "C" fn hollwern_step(
     e: &mut Engine,
@@ -67,26 +67,11 @@ pub extern "C" fn hollwern_step(
     book: &[u8],
     out: &mut [u8],
 ) -> Answer
-    ensures { (result ≡ answer_view (step_of e.old (call event.now journey.now book.now out.old)).answer)
-        × (e.new ≡ (step_of e.old (call event.now journey.now book.now out.old)).engine)
-        × (out.new ≡ (step_of e.old (call event.now journey.now book.now out.old)).memory) }
+    ensures answer { result ≡ answer_view (step_of e.old (call event.now journey.now book.now out.old)).answer }
+    ensures engine { e.new ≡ (step_of e.old (call event.now journey.now book.now out.old)).engine }
+    ensures output { out.new ≡ (step_of e.old (call event.now journey.now book.now out.old)).memory }
 {
-    let s = engine::step(*e, event, journey, book, out);
-    if s.rewritten {
-        let points = s.engine.points;
-        let segments = s.engine.segments;
-        (*e).points = points;
-        (*e).segments = segments;
-    }
-    let skips = s.engine.skips;
-    (*e).skips = skips;
-    (*e).load = s.engine.load;
-    (*e).train = s.engine.train;
-    (*e).progress = s.engine.progress;
-    (*e).inputs = s.engine.inputs;
-    (*e).control = s.engine.control;
-    (*e).traction = s.engine.traction;
-    plain(s.answer)
+    plain(engine::step(e, event, journey, book, out))
 }
 
 // The fresh engine, made where it is kept.
@@ -94,16 +79,16 @@ pub extern "C" fn hollwern_step(
 pub extern "C" fn hollwern_fresh(e: &mut Engine)
     ensures { e.new ≡ fresh }
 {
-    let r = engine_value::fresh();
-    *e = r;
+    *e = engine_value::fresh();
 }
 
 // What the engine shows.
 #[unsafe(no_mangle)]
 pub extern "C" fn hollwern_show(e: &Engine) -> Shown
-    ensures { (result ≡ shown_view e.now) × (result.conditions ≤ 511) }
+    ensures value { result ≡ shown_view e.now }
+    ensures nine { result.conditions ≤ 511 }
 {
-    call::show(*e)
+    call::show(e)
 }
 
 // One packet, exactly.

@@ -1,5 +1,2 @@
-pub mod Filling
-pub mod Rows
 pub mod Accepted
-pub mod Left
 pub mod Anchors

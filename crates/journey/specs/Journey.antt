@@ -29,16 +29,13 @@ max_alignment = 2
 abbrev pub max_stopping : ℕ
 max_stopping = 127
 
--- ---- what stands in the arrays beyond the counts
+-- ---- what stands where a list has no element
 
 abbrev pub blank_name : Name
 blank_name = record { nidc = 0; nidsp = 0 }
 
 abbrev pub blank_journey_point : JourneyPoint
 blank_journey_point = record { nidtp = 0; index = 0; alignment = 0; stopping = 0; stop = false; trackside = false; end = false }
-
-abbrev pub blank_head : Head
-blank_head = record { operational = 0; date = 0; seconds = 0; counter = 0; atots = 0 }
 
 -- ---- layouts
 

@@ -1,5 +1,3 @@
-pub mod Names
-pub mod Rising
-pub mod OnePass
+pub mod Points
 pub mod Anchors
 pub mod Sentences

@@ -1,4 +1,3 @@
 pub mod Rows
 pub mod Anchors
 pub mod Sentences
-pub mod View

@@ -3,7 +3,7 @@ use Rattle.std.specs.Prelude.{ℕ, ◌≤◌, ◌<◌, ◌≡◌, ◌↔◌, Lis
 use Rattle.wire.specs.Lists.{twice, falls, strictly_rises}
 use Rattle.engine_value.specs.Engine.{blank_point}
 use Rattle.engine_value.specs.declared.Point.{Point}
-use Rattle.book.specs.Sentences.{Some, Two}
+use Rattle.book.specs.Sentences.{One, Two}
 use Rattle.journey.specs.Journey.{blank_name, blank_journey_point, JourneyValue}
 use Rattle.journey.specs.declared.Name.{Name}
 use Rattle.journey.specs.declared.JourneyPoint.{JourneyPoint}
@@ -15,7 +15,7 @@ SegmentTwice ns = Two blank_name (λ a b. (a.nidc ≡ b.nidc) × (a.nidsp ≡ b.
 
 -- "11 index beyond": a point's index is that of no segment
 abbrev pub IndexBeyond : JourneyValue → Type 0
-IndexBeyond j = Some blank_journey_point (λ p. length j.names ≤ p.index) j.points
+IndexBeyond j = One blank_journey_point (λ p. length j.names ≤ p.index) j.points
 
 -- "11 .. NID_TP twice"
 abbrev pub PointTwice : List JourneyPoint → Type 0

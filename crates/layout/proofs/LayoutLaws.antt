@@ -2,7 +2,7 @@
 use Prim.Native.Nat.{ℕ, ◌+◌, ◌*◌, ◌/◌, ◌%◌, ◌^◌, ◌<◌, ◌≤◌, ◌∣◌}
 use mathlib.Core.Path.{◌≡◌, refl, sym, ap, ◌∙◌}
 use mathlib.Core.List.{List, [], ◌∷◌, ◌++◌, map, append_assoc}
-use mathlib.Core.Bool.{Bool, true, ◌&&◌, and_assoc, and-true}
+use mathlib.Core.Bool.{Bool, true, ◌&&◌}
 use native.Mathlib.Nat.{add-zero, add_assoc, mod-add-div, mod-eq_of_lt, div-eq_of_lt, add-mul-mod_self_left, add-mul-div_left, mul-le-mul_left}
 use native.Mathlib.Nat.{dvd-zero, dvd-add, dvd_trans, dvd-mul_right, dvd-mul_right_of_dvd, dvd_of_mod-eq-zero, mod-mod_of_dvd, mul-div_cancel'}
 use native.Mathlib.Omega.{arith}
@@ -10,7 +10,7 @@ use lib.ListN.{length, drop, length-append}
 use lib.Seq.{drop-drop, drop_at, get_or-drop}
 use lib.Dec.{eqb, leb, ltb}
 use borrow.Author.Tests.{eqb-true, leb-true, ltb-true}
-use Rattle.wire.specs.Numbers.{number, bytes_of, magnitude, Bytes}
+use Rattle.wire.specs.Numbers.{number, bytes_of, Bytes}
 use Rattle.wire.proofs.NumberLaws.{length-bytes_of, number-bytes_of, number_bound, reread}
 use Rattle.wire.proofs.ListLaws.{and_left, and_right}
 use Rattle.layout.specs.Layout.{Part, Content, Layout, Numbers, Value, Values, listed, weighed, packed, below, numbers_of, unpacked, bytes, size, values_at, parts_fit, content_fits, fits}
@@ -24,41 +24,6 @@ length-bytes [] v = refl
 length-bytes (f ∷ fs) v =
     length-append (bytes_of f.width (packed f.content v.0)) (bytes fs v.1)
     ∙ cc (length-bytes_of f.width (packed f.content v.0), length-bytes fs v.1)
-
--- ---- ranges as code tests them: one test after the other, joined to what was tested before
-
-abbrev parts_tests : Bool → (ps : List Part) → Numbers ps → Bool
-parts_tests before [] v = before
-parts_tests before (p ∷ ps) v = parts_tests (before && leb v.0 p.high) ps v.1
-
-abbrev pub content_tests : Bool → (c : Content) → Value c → Bool
-content_tests before free v = before
-content_tests before (up_to high) v = before && leb v high
-content_tests before (between low high) v = (before && leb low v) && leb v high
-content_tests before (signed high) v = before && leb (magnitude v) high
-content_tests before (weighted high ps) v = parts_tests (before && leb v.0 high) ps v.1
-
-abbrev pub tests : Bool → (l : Layout) → Values l → Bool
-tests before [] v = before
-tests before (f ∷ fs) v = tests (content_tests before f.content v.0) fs v.1
-
-parts_tests_lem : (before : Bool) (ps : List Part) (v : Numbers ps) → parts_tests before ps v ≡ (before && parts_fit ps v)
-parts_tests_lem before [] v = sym (and-true before)
-parts_tests_lem before (p ∷ ps) v = parts_tests_lem (before && leb v.0 p.high) ps v.1 ∙ and_assoc before (leb v.0 p.high) (parts_fit ps v.1)
-
-content-tests : (before : Bool) (c : Content) (v : Value c) → content_tests before c v ≡ (before && content_fits c v)
-content-tests before free v = sym (and-true before)
-content-tests before (up_to high) v = refl
-content-tests before (between low high) v = and_assoc before (leb low v) (leb v high)
-content-tests before (signed high) v = refl
-content-tests before (weighted high ps) v = parts_tests_lem (before && leb v.0 high) ps v.1 ∙ and_assoc before (leb v.0 high) (parts_fit ps v.1)
-
-pub tests_fit : (before : Bool) (l : Layout) (v : Values l) → tests before l v ≡ (before && fits l v)
-tests_fit before [] v = sym (and-true before)
-tests_fit before (f ∷ fs) v =
-    tests_fit (content_tests before f.content v.0) fs v.1
-    ∙ ap (λ (b : Bool). b && fits fs v.1) (content-tests before f.content v.0)
-    ∙ and_assoc before (content_fits f.content v.0) (fits fs v.1)
 
 -- ---- a layout that can hold its ranges
 

@@ -1,14 +1,14 @@
 -- By computation.
 use mathlib.Core.Path.{refl}
 use Rattle.position.specs.Position.{front}
-use Rattle.position.specs.Skips.{stop_from}
+use Rattle.position.specs.Skips.{stop_named}
 use Rattle.timing.specs.Distance.{beyond, at_stop}
 use Rattle.timing.specs.Report.{looked, reported}
 use Rattle.conditions.specs.Conditions.{first_ahead}
 use Rattle.look_up.specs.Anchors.{Anchors}
 
 pub anchors : Anchors
-unfolding front stop_from beyond at_stop looked reported first_ahead
+unfolding front stop_named beyond at_stop looked reported first_ahead
 anchors = record {
   positions = refl;
   position_whole = refl;

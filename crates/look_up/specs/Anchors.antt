@@ -1,6 +1,6 @@
 -- Values that the definitions must give for the journey of position/Sample, worked out by hand from document 01. The engine stands in the zone of the
 -- first segment, with the first point targeted; the driver skips point 3.
-use Rattle.std.specs.Prelude.{ℕ, ◌≡◌, [], ◌∷◌, map, Bool, true, false}
+use Rattle.std.specs.Prelude.{ℕ, ◌≡◌, Option, Some, None, [], ◌∷◌, map, Bool, true, false}
 use Rattle.engine_value.specs.Engine.{progress, fresh, undefined}
 use Rattle.engine_value.specs.declared.Progress.{Progress}
 use Rattle.engine_value.specs.declared.Engine.{Engine}
@@ -8,8 +8,6 @@ use Rattle.event.specs.declared.Event.TheVariants.{Press, PositionReport, Length
 use Rattle.event.specs.Kinds.{report, load, other, skip}
 use Rattle.position.specs.Sample.{at, engine_at}
 use Rattle.position.specs.declared.Named.{Named}
-use Rattle.position.specs.declared.Found.{Found}
-use Rattle.position.specs.declared.Found.TheVariants.{At, Nothing}
 use Rattle.position.specs.declared.Stop.{Stop}
 use Rattle.timing.specs.declared.Reported.{Reported}
 use Rattle.conditions.specs.declared.RouteConditions.{RouteConditions}
@@ -24,18 +22,17 @@ abbrev routed : Bool → Bool → Bool → RouteConditions
 routed profiles located outside = record { profiles = profiles; located = located; outside = outside }
 
 -- a segment of the journey in the book that is placed: the offset in a zone of it, its start and length
-abbrev segment : Bool → ℕ → ℕ → Named
-segment inside start length = record { found = true; booked = true; placed = true; inside = inside; start = start; length = length }
+abbrev segment : Bool → ℕ → ℕ → Option Named
+segment inside start length = Some (record { booked = true; placed = true; inside = inside; start = start; length = length })
 
--- what a report brings: the progress after it, the first point looked at, departed, reached; the points before and after it are placed
+-- what a report brings: the progress after it, the first point looked at, departed, reached
 abbrev brings : Progress → ℕ → Bool → Bool → Reported
-brings p from departed reached =
-    record { progress = p; from = from; departed = departed; reached = reached; placed_before = true; placed_after = true }
+brings p from departed reached = record { progress = p; from = from; departed = departed; reached = reached }
 
-abbrev stop : Found → Bool → Stop
-stop k skipped = record { at = k; skipped = skipped }
+abbrev stop : ℕ → Bool → Option Stop
+stop k skipped = Some (record { at = k; skipped = skipped })
 
-abbrev looked_up : RouteConditions → Named → Reported → Stop → LookedUp
+abbrev looked_up : RouteConditions → Option Named → Reported → Option Stop → LookedUp
 looked_up w s r t = record { before = w; segment = s; report = r; stop = t }
 
 pub record Anchors : Type 0 where
@@ -52,14 +49,14 @@ pub record Anchors : Type 0 where
   pub no_report_lem : report_as other (engine_at (at 17 500 40000 0) 0 true) (at 33 500 10302 1) ≡ brings (progress 0 true) 0 false false
   -- "12 driver skip (4, NID_TP); 13 driver revokes skip (4)"
   pub stops : map (λ r. stop_as r engine) (skip 7001 true ∷ skip 7004 false ∷ skip 7002 true ∷ report ∷ other ∷ [])
-      ≡ stop (At 0) false ∷ stop (At 3) true ∷ stop Nothing false ∷ stop Nothing false ∷ stop Nothing false ∷ []
+      ≡ stop 0 false ∷ stop 3 true ∷ None ∷ None ∷ None ∷ []
   -- conditions 4, 6 and 7 of an engine: in a zone, outside of it, undefined; at the point that is not placed; with no journey
   pub routes : map route_conditions_in (engine ∷ engine_at (at 17 500 30001 0) 4 false ∷ engine_at (at 17 500 undefined 0) 5 false ∷ fresh ∷ [])
       ≡ routed true true false ∷ routed false true true ∷ routed true false true ∷ routed false false true ∷ []
   -- of an event: the conditions before it, the segment after it
   pub by_report : look_up engine (PositionReport (at 33 500 40150 0))
-      ≡ looked_up (routed true true false) (segment false 100000 50000) (brings (progress 3 false) 0 false false) (stop Nothing false)
+      ≡ looked_up (routed true true false) (segment false 100000 50000) (brings (progress 3 false) 0 false false) None
   pub by_skip : map (look_up engine) (Skip 7001 ∷ Revoke 7004 ∷ [])
-      ≡ looked_up (routed true true false) (segment true 0 100000) (brings (progress 0 false) 0 false false) (stop (At 0) false)
-      ∷ looked_up (routed true true false) (segment true 0 100000) (brings (progress 0 false) 0 false false) (stop (At 3) true)
+      ≡ looked_up (routed true true false) (segment true 0 100000) (brings (progress 0 false) 0 false false) (stop 0 false)
+      ∷ looked_up (routed true true false) (segment true 0 100000) (brings (progress 0 false) 0 false false) (stop 3 true)
       ∷ []

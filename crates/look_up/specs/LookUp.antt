@@ -1,12 +1,12 @@
 -- What an event looks up in the journey in force and the driver skips.
-use Rattle.std.specs.Prelude.{if◌then◌else◌}
+use Rattle.std.specs.Prelude.{Option, None, if◌then◌else◌}
 use Rattle.engine_value.specs.Engine.{route_in}
 use Rattle.engine_value.specs.declared.Position.{Position}
 use Rattle.engine_value.specs.declared.Engine.{Engine}
 use Rattle.event.specs.declared.Event.{Event}
 use Rattle.event.specs.Kinds.{Role, is_report, is_skip, skip_name, newer, role_of, carried}
 use Rattle.position.specs.Position.{segment_named}
-use Rattle.position.specs.Skips.{stop_in, no_stop}
+use Rattle.position.specs.Skips.{stop_in}
 use Rattle.position.specs.Standing.{standing}
 use Rattle.position.specs.declared.Stop.{Stop}
 use Rattle.timing.specs.Distance.{report_from}
@@ -22,11 +22,11 @@ position_after e event = newer (carried event).position e.train.position
 
 -- what a position report brings, by the role of the event
 abbrev pub report_as : Role → Engine → Position → Reported
-report_as r e x = if is_report r then report_of (route_in e) (report_from e x) e.progress else no_report (route_in e) e.progress
+report_as r e x = if is_report r then report_of (route_in e) (report_from e x) e.progress else no_report e.progress
 
 -- the stop that a driver skip names
-abbrev pub stop_as : Role → Engine → Stop
-stop_as r e = if is_skip r then stop_in e (skip_name r) else no_stop
+abbrev pub stop_as : Role → Engine → Option Stop
+stop_as r e = if is_skip r then stop_in e (skip_name r) else None
 
 -- conditions 4, 6 and 7 as an engine has them
 abbrev pub route_conditions_in : Engine → RouteConditions

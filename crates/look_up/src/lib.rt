@@ -1,62 +1,50 @@
-// What an event looks up in the journey's segments and points and in the driver skips, before anything is stored: every read of the engine's
-// arrays, but for the points of its packets, stands here.
+// What an event looks up in the journey's segments and points and in the driver skips, before anything is stored.
 #![tactic(auto)]
 
 ghost use Rattle.std.specs.Prelude.{◌≡◌};
-ghost use Rattle.engine_value.specs.Engine.{route_in};
-ghost use Rattle.event.specs.Kinds.{role_of};
-ghost use Rattle.position.specs.Position.{segment_named};
-ghost use Rattle.look_up.specs.LookUp.{report_as, stop_as, look_up};
+ghost use Rattle.look_up.specs.LookUp.{look_up};
 
 use conditions::RouteConditions;
-use engine_value::{Engine, Position};
-use event::Event;
-use position::{Named, Stop};
-use timing::Reported;
+use engine_value::Engine;
+use event::{Event, Role};
+use position::{Named, Place, Stop};
+use timing::{PositionReport, Reported};
 
 // Conditions 4, 6 and 7 before the event, the segment that the position after it names, what a position report brings, and the stop that a
 // driver skip names.
 #[derive(Clone, Copy)]
 pub struct LookedUp {
     pub before: RouteConditions,
-    pub segment: Named,
+    pub segment: Option<Named>,
     pub report: Reported,
-    pub stop: Stop,
+    pub stop: Option<Stop>,
 }
 
-fn stop_named(e: Engine, v: Event) -> Stop
-    ensures { result ≡ stop_as (role_of v) e }
+pub fn look_up(e: &Engine, v: Event) -> LookedUp
+    ensures { result ≡ look_up e.now v }
 {
-    if event::is_skip(v) {
-        return position::find_stop(e, event::stop_in(v));
-    }
-    position::no_stop()
-}
-
-fn report_of(e: Engine, v: Event, x: Position, s: Named) -> Reported
-    requires { s ≡ segment_named (route_in e) x }
-    ensures { result ≡ report_as (role_of v) e x }
-{
-    if event::is_report(v) {
-        return timing::report(e, x, s);
-    }
-    timing::no_report(e)
-}
-
-pub fn look_up(e: Engine, v: Event) -> LookedUp
-    ensures { result ≡ look_up e v }
-{
-    let stop = stop_named(e, v);
-    let x = event::position_after(v, e.train.position);
-    let both = position::segments_named(e, e.train.position, x);
-    let segment = both.after;
-    let report = report_of(e, v, x, segment);
-    let profiles = conditions::profiles_there(e.load, e.progress, report.placed_before);
-    let before = conditions::route_conditions(both.before, e.train.position, profiles);
+    let before = conditions::route_conditions(Place::new(e.route(), e.train.position), e.progress);
+    let place = Place::new(e.route(), event::position_after(v, e.train.position));
+    let role = v.role();
+    let report = match role {
+        Role::Report(_) => {
+            let r = PositionReport {
+                place,
+                length: e.train.length,
+                skips: &e.skips,
+            };
+            timing::report(r, e.progress)
+        }
+        _ => timing::no_report(e.progress),
+    };
+    let stop = match role {
+        Role::Skip { nidtp, on: _ } => position::find_stop(e, nidtp),
+        _ => None,
+    };
     LookedUp {
-        before: before,
-        segment: segment,
-        report: report,
-        stop: stop,
+        before,
+        segment: place.segment,
+        report,
+        stop,
     }
 }

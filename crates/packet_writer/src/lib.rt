@@ -1,34 +1,28 @@
 // The writer of one packet.
 #![tactic(auto)]
 
-ghost use Rattle.std.specs.Prelude.{◌≡◌, [], ◌∷◌, ◌++◌, min, ◌+◌, ◌%◌, take, drop};
+ghost use Rattle.std.specs.Prelude.{◌≡◌, [], ◌∷◌, ◌++◌, ◌+◌, ◌%◌, take, drop};
 ghost use Rattle.std.proofs.lemmas.List.Edits.{sets};
-ghost use Rattle.wire.specs.Numbers.{bytes_of};
 ghost use Rattle.layout.specs.Layout.{weighed, bytes};
-ghost use Rattle.packets.specs.Layouts.{header_layout};
-ghost use Rattle.packets.specs.View.{header_view};
+ghost use Rattle.packets.specs.Layouts.{header_layout, content_at, content62, content65, content68, content61};
+ghost use Rattle.packets.specs.View.{kind_view, header_view, timing_point_view, jp_received_view, ato_status_view, requested_view};
 ghost use Rattle.packets.specs.Packets.{packet_bytes, written_count, written_memory};
-ghost use Rattle.packet_writer.specs.View.{written_view};
+ghost use Rattle.wire.specs.View.{judged};
 
-use packets::{AtoStatus, Header, JpReceived, Packet, TimingPoint, TractionBrake};
-
-// The bytes that were written, or the number of the refusal.
-#[derive(Clone, Copy)]
-pub enum Written {
-    Wrote(usize),
-    Refused(u8),
-}
+use packets::{AtoStatus, Header, JpReceived, Packet, PacketKind, Requested, TimingPoint};
+use wire::{Number, Refusal};
 
 // The packet's number and the header, at the front.
-fn put_header(number: u8, h: Header, out: &mut [u8])
-    ensures { out.new ≡ sets out.old 0 (number ∷ bytes header_layout (header_view h)) }
+#[tactic(auto, unfolding(layout::specs::Layout::bytes, wire::specs::Numbers::bytes_of))]
+fn put_header(kind: PacketKind, h: Header, out: &mut [u8])
+    ensures { out.new ≡ sets out.old 0 ((kind_view kind).number ∷ bytes header_layout (header_view h)) }
 {
-    wire::put8(out, 0, number);
-    wire::put16(out, 1, h.nidc);
-    wire::put32(out, 3, h.nidsp);
-    wire::put32(out, 7, h.offset);
-    wire::put16(out, 11, h.speed);
-    wire::put32(out, 13, h.operational);
+    u8::from(kind).put(out, 0);
+    h.nidc.put(out, 1);
+    h.nidsp.put(out, 3);
+    h.offset.put(out, 7);
+    h.speed.put(out, 11);
+    h.operational.put(out, 13);
 }
 
 // The info byte. The remainder alters no info whose parts are in their ranges.
@@ -39,95 +33,90 @@ fn info_byte(p: TimingPoint) -> u8
     (sum % 256) as u8
 }
 
+// The contents, each behind the header.
+
+#[tactic(auto, unfolding(layout::specs::Layout::bytes, wire::specs::Numbers::bytes_of))]
 fn put_timing_point(p: TimingPoint, out: &mut [u8])
-    ensures { out.new ≡ sets out.old 0 (packet_bytes (Packet.TimingPoint p)) }
+    ensures { out.new ≡ sets out.old content_at (bytes content62 (timing_point_view p)) }
 {
-    put_header(packets::TIMING_POINT, p.header, out);
-    wire::put16(out, 17, p.nidc);
-    wire::put32(out, 19, p.nidtp);
-    wire::put8(out, 23, info_byte(p));
-    wire::put8(out, 24, p.stopping);
+    p.nidc.put(out, 17);
+    p.nidtp.put(out, 19);
+    info_byte(p).put(out, 23);
+    p.stopping.put(out, 24);
 }
 
+#[tactic(auto, unfolding(layout::specs::Layout::bytes, wire::specs::Numbers::bytes_of))]
 fn put_jp_received(p: JpReceived, out: &mut [u8])
-    ensures { out.new ≡ sets out.old 0 (packet_bytes (Packet.JpReceived p)) }
+    ensures { out.new ≡ sets out.old content_at (bytes content65 (jp_received_view p)) }
 {
-    put_header(packets::JP_RECEIVED, p.header, out);
-    wire::put16(out, 17, p.nidc);
-    wire::put16(out, 19, p.atots);
-    wire::put16(out, 21, p.date);
-    wire::put32(out, 23, p.seconds);
-    wire::put8(out, 27, p.counter);
-    wire::put8(out, 28, p.status);
+    p.nidc.put(out, 17);
+    p.atots.put(out, 19);
+    p.date.put(out, 21);
+    p.seconds.put(out, 23);
+    p.counter.put(out, 27);
+    p.status.put(out, 28);
 }
 
+#[tactic(auto, unfolding(layout::specs::Layout::bytes, wire::specs::Numbers::bytes_of))]
 fn put_ato_status(p: AtoStatus, out: &mut [u8])
-    ensures { out.new ≡ sets out.old 0 (packet_bytes (Packet.AtoStatus p)) }
+    ensures { out.new ≡ sets out.old content_at (bytes content68 (ato_status_view p)) }
 {
-    put_header(packets::ATO_STATUS, p.header, out);
-    let word = status_word::word_of(p.state, p.conditions);
+    let word = p.conditions.word(p.state);
     // The remainder alters no word whose parts are in their ranges.
-    wire::put16(out, 17, (word % 65536) as u16);
+    ((word % 65536) as u16).put(out, 17);
 }
 
-fn put_traction_brake(p: TractionBrake, out: &mut [u8])
-    ensures { out.new ≡ sets out.old 0 (packet_bytes (Packet.TractionBrake p)) }
+#[tactic(auto, unfolding(layout::specs::Layout::bytes, wire::specs::Numbers::bytes_of))]
+fn put_requested(r: Requested, out: &mut [u8])
+    ensures { out.new ≡ sets out.old content_at (bytes content61 (requested_view r)) }
 {
-    put_header(packets::TRACTION_BRAKE, p.header, out);
-    wire::put8(out, 17, p.requested.m_ato_trabrrq);
-    wire::put8(out, 18, p.requested.m_ato_locobrrq);
-    wire::put8(out, 19, p.requested.q_ato_suptb);
-    wire::put16(out, 20, p.requested.m_ato_rtbrq);
+    r.m_ato_trabrrq.put(out, 17);
+    r.m_ato_locobrrq.put(out, 18);
+    r.q_ato_suptb.put(out, 19);
+    r.m_ato_rtbrq.put(out, 20);
 }
 
+// A packet at the front.
 fn put_front(p: Packet, out: &mut [u8])
     ensures { out.new ≡ sets out.old 0 (packet_bytes p) }
 {
+    put_header(p.kind(), p.header(), out);
     match p {
         Packet::TimingPoint(x) => put_timing_point(x, out),
         Packet::JpReceived(x) => put_jp_received(x, out),
         Packet::AtoStatus(x) => put_ato_status(x, out),
-        Packet::TractionBrake(x) => put_traction_brake(x, out),
+        Packet::TractionBrake(x) => put_requested(x.requested, out),
     }
-}
-
-// A position, at most the end.
-fn within(n: usize, at: usize) -> usize
-    ensures { result ≡ min at n }
-{
-    if n < at { n } else { at }
 }
 
 // The packet's bytes from a position on, whatever its values; stores past the end store nothing. For a caller that has counted the bytes.
 pub fn put_packet(p: Packet, out: &mut [u8], at: usize)
     ensures { out.new ≡ sets out.old at (packet_bytes p) }
 {
-    let start = within(out.len(), at);
+    let start = at.min(out.len());
     put_front(p, &mut out[start..]);
 }
 
 // The packet from a position on; the bytes before it and behind it stay.
-pub fn append_packet(p: Packet, out: &mut [u8], at: usize) -> Written
-    ensures { (written_view result ≡ written_count p (drop at out.old)) × (out.new ≡ take at out.old ++ written_memory p (drop at out.old)) }
+pub fn append_packet(p: Packet, out: &mut [u8], at: usize) -> Result<usize, Refusal>
+    ensures count { judged result ≡ written_count p (drop at out.old) }
+    ensures memory { out.new ≡ take at out.old ++ written_memory p (drop at out.old) }
 {
-    let fits = packets::packet_fits(p);
-    let size = packets::packet_size(p);
-    let room = out.len() - within(out.len(), at);
-    if fits {
-        if size <= room {
-            put_packet(p, out, at);
-            Written::Wrote(size)
-        } else {
-            Written::Refused(16)
-        }
-    } else {
-        Written::Refused(19)
+    let size = p.size();
+    if !p.fits() {
+        return Err(Refusal::PacketRange);
     }
+    if out.len().saturating_sub(at) < size {
+        return Err(Refusal::Output);
+    }
+    put_packet(p, out, at);
+    Ok(size)
 }
 
 // The packet at the front of the memory; the bytes behind it stay.
-pub fn write_packet(p: Packet, out: &mut [u8]) -> Written
-    ensures { (written_view result ≡ written_count p out.old) × (out.new ≡ written_memory p out.old) }
+pub fn write_packet(p: Packet, out: &mut [u8]) -> Result<usize, Refusal>
+    ensures count { judged result ≡ written_count p out.old }
+    ensures memory { out.new ≡ written_memory p out.old }
 {
     append_packet(p, out, 0)
 }

@@ -1,18 +1,17 @@
--- Laws of the packets' bytes, sizes and ranges.
-use Prim.Native.Nat.{ℕ, zero, suc, ◌+◌, ◌<◌, ◌≤◌}
-use mathlib.Core.Path.{◌≡◌, refl, sym, ap, ◌∙◌}
+-- Laws of the packets' bytes and sizes, and of the writer.
+use Prim.Native.Nat.{ℕ, ◌+◌, ◌<◌, ◌≤◌}
+use mathlib.Core.Path.{◌≡◌, refl, ap, ◌∙◌}
 use mathlib.Core.List.{List, [], ◌∷◌, ◌++◌, append_assoc, append-nil}
-use mathlib.Core.Bool.{Bool, true, false, ◌&&◌, and-true}
+use mathlib.Core.Bool.{true, false}
 use lib.ListN.{length, drop, length-append}
-use lib.Dec.{eqb, leb, leb-suc-zero, eqb-suc-zero}
 use borrow.Author.Tests.{lt-ltb, le-ltb}
 use native.Mathlib.Omega.{arith}
 use Rattle.wire.specs.Judged.Judged.{refuse, accept}
-use Rattle.layout.specs.Layout.{bytes, fits}
-use Rattle.layout.proofs.LayoutLaws.{length-bytes, tests, tests_fit}
+use Rattle.layout.specs.Layout.{bytes}
+use Rattle.layout.proofs.LayoutLaws.{length-bytes}
 use Rattle.packets.specs.Layouts.{header_layout, kind_size}
 use Rattle.packets.specs.View.{PacketValues, packet_view}
-use Rattle.packets.specs.Packets.{value_bytes, packet_bytes, joined, size_of, values_fit, packet_fits, written_count, written_memory}
+use Rattle.packets.specs.Packets.{value_bytes, packet_bytes, joined, size_of, packet_fits, written_count, written_memory}
 use Rattle.packets.specs.declared.Packet.{Packet}
 
 pub length-values : (v : PacketValues) → length (value_bytes v) ≡ kind_size v.kind
@@ -37,21 +36,6 @@ length-joined ps qs = ap length (joined-append ps qs) ∙ length-append (joined 
 
 pub length-one : (p : Packet) (n : ℕ) → size_of p ≡ n → length (joined (p ∷ [])) ≡ n
 length-one p n e = ap length (append-nil (packet_bytes p)) ∙ length-packet_bytes p ∙ e
-
--- ---- ranges, tested one after the other
-
-module _ (v : PacketValues) where
-  pub tests_values : (tests (fits header_layout v.header) v.kind.content v.content && v.kind.between v.content) ≡ values_fit v
-  tests_values = ap (λ (b : Bool). b && v.kind.between v.content) (tests_fit (fits header_layout v.header) v.kind.content v.content)
-
-  -- where nothing lies between the fields
-  pub tests_alone : v.kind.between v.content ≡ true → tests (fits header_layout v.header) v.kind.content v.content ≡ values_fit v
-  tests_alone e = rw e (tests_fit (fits header_layout v.header) v.kind.content v.content ∙ sym (and-true _))
-
--- a field that may only be 0
-pub zero-only : (n : ℕ) → leb n 0 ≡ eqb n 0
-zero-only zero = refl
-zero-only (suc n) = leb-suc-zero n ∙ sym (eqb-suc-zero n)
 
 -- ---- the writer by case
 

@@ -3,6 +3,7 @@ use Rattle.layout.specs.Layout.{Values, in_parts}
 use Rattle.status_word.specs.Word.{condition_parts}
 use Rattle.status_word.specs.View.{conditions_view}
 use Rattle.packets.specs.Layouts.{PacketKind, header_layout, content62, content65, content68, content61, kind62, kind65, kind68, kind61}
+use Rattle.packets.specs.declared.PacketKind as code
 use Rattle.packets.specs.declared.Header.{Header}
 use Rattle.packets.specs.declared.TimingPoint.{TimingPoint}
 use Rattle.packets.specs.declared.JpReceived.{JpReceived}
@@ -36,3 +37,10 @@ packet_view (Packet.TimingPoint p) = record { kind = kind62; header = header_vie
 packet_view (Packet.JpReceived p) = record { kind = kind65; header = header_view p.header; content = jp_received_view p }
 packet_view (Packet.AtoStatus p) = record { kind = kind68; header = header_view p.header; content = ato_status_view p }
 packet_view (Packet.TractionBrake p) = record { kind = kind61; header = header_view p.header; content = requested_view p.requested }
+
+-- the kind of a packet
+abbrev pub kind_view : code.PacketKind → PacketKind
+kind_view code.PacketKind.TimingPoint = kind62
+kind_view code.PacketKind.JpReceived = kind65
+kind_view code.PacketKind.AtoStatus = kind68
+kind_view code.PacketKind.TractionBrake = kind61

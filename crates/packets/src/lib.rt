@@ -1,17 +1,15 @@
 // Recorder packets 61, 62, 65 and 68: their values, their sizes and the ranges of their fields.
 #![tactic(auto)]
 
-ghost use Rattle.std.specs.Prelude.{◌≡◌};
-ghost use Rattle.layout.specs.Layout.{fits};
-ghost use Rattle.packets.specs.Layouts.{header_layout};
-ghost use Rattle.packets.specs.View.{header_view};
-ghost use Rattle.packets.specs.Packets.{size_of, size_at, front_size, packet_fits};
+ghost use Rattle.std.specs.Prelude.{◌≡◌, ◌&&◌};
+ghost use Rattle.packets.specs.Packets.{front_size};
 
 use status_word::OperationalConditions;
+use wire::Refusal;
 
 // SUBSET-140, Table 3.
 #[repr(C)]
-#[derive(Clone, Copy)]
+#[derive(Clone, Copy, Default)]
 pub struct Header {
     pub nidc: u16,
     pub nidsp: u32,
@@ -81,22 +79,62 @@ pub enum Packet {
     TractionBrake(TractionBrake),
 }
 
-// The numbers of the packets, and their bytes.
-pub const TIMING_POINT: u8 = 62;
+// The kinds of packets by their numbers.
+#[derive(Clone, Copy)]
+pub enum PacketKind {
+    TractionBrake = 61,
+    TimingPoint = 62,
+    JpReceived = 65,
+    AtoStatus = 68,
+}
 
-pub const JP_RECEIVED: u8 = 65;
+impl From<PacketKind> for u8 {
+    ghost use Rattle.packets.specs.View.{kind_view};
 
-pub const ATO_STATUS: u8 = 68;
+    ghost from_gives = { λ k n. n ≡ (kind_view k).number };
 
-pub const TRACTION_BRAKE: u8 = 61;
+    fn from(k: PacketKind) -> u8 {
+        k as u8
+    }
+}
 
-pub const TIMING_POINT_SIZE: usize = 25;
+impl TryFrom<u8> for PacketKind {
+    ghost use Rattle.packets.specs.Layouts.{kinds};
+    ghost use Rattle.packets.specs.Packets.{kind_from};
+    ghost use Rattle.packets.specs.View.{kind_view};
+    ghost use Rattle.wire.specs.View.{judged_by};
 
-pub const JP_RECEIVED_SIZE: usize = 29;
+    type Error = Refusal;
 
-pub const ATO_STATUS_SIZE: usize = 19;
+    ghost try_from_gives = { λ n r. judged_by kind_view r ≡ kind_from kinds n };
 
-pub const TRACTION_BRAKE_SIZE: usize = 22;
+    fn try_from(n: u8) -> Result<PacketKind, Refusal> {
+        match n {
+            61 => Ok(PacketKind::TractionBrake),
+            62 => Ok(PacketKind::TimingPoint),
+            65 => Ok(PacketKind::JpReceived),
+            68 => Ok(PacketKind::AtoStatus),
+            _ => Err(Refusal::PacketNumber),
+        }
+    }
+}
+
+impl PacketKind {
+    ghost use Rattle.packets.specs.Layouts.{kind_size};
+    ghost use Rattle.packets.specs.View.{kind_view};
+
+    // The bytes of a packet.
+    pub fn size(self) -> usize
+        ensures { result ≡ kind_size (kind_view self) }
+    {
+        match self {
+            PacketKind::TractionBrake => 22,
+            PacketKind::TimingPoint => 25,
+            PacketKind::JpReceived => 29,
+            PacketKind::AtoStatus => 19,
+        }
+    }
+}
 
 // NID_C in the content of 65 where the position is not known.
 pub const UNKNOWN_NIDC: u16 = 1024;
@@ -120,31 +158,117 @@ const DATE_MAX: u16 = 32767;
 
 const STATE_MAX: u8 = 7;
 
-// The bytes of a packet.
-pub fn packet_size(p: Packet) -> usize
-    ensures { result ≡ size_of p }
-{
-    match p {
-        Packet::TimingPoint(_) => TIMING_POINT_SIZE,
-        Packet::JpReceived(_) => JP_RECEIVED_SIZE,
-        Packet::AtoStatus(_) => ATO_STATUS_SIZE,
-        Packet::TractionBrake(_) => TRACTION_BRAKE_SIZE,
+impl Header {
+    ghost use Rattle.layout.specs.Layout.{fits};
+    ghost use Rattle.packets.specs.Layouts.{header_layout};
+    ghost use Rattle.packets.specs.View.{header_view};
+
+    fn fits(self) -> bool
+        ensures { result ≡ fits header_layout (header_view self) }
+    {
+        self.nidc <= NIDC_MAX && self.offset <= OFFSET_MAX
     }
 }
 
-// The bytes of the packet in front of a slice, by its number; 0 where no packet has it.
-pub fn size_at(s: &[u8]) -> usize
-    ensures { result ≡ size_at s.now }
-{
-    if s.len() == 0 {
-        return 0;
+impl TimingPoint {
+    ghost use Rattle.layout.specs.Layout.{fits};
+    ghost use Rattle.packets.specs.Layouts.{content62, stopping_allowed};
+    ghost use Rattle.packets.specs.View.{timing_point_view};
+
+    fn content_fits(self) -> bool
+        ensures { result ≡ (fits content62 (timing_point_view self) && stopping_allowed (timing_point_view self)) }
+    {
+        self.nidc <= NIDC_MAX
+            && self.q_eoj_reached <= 1
+            && self.alignment <= ALIGNMENT_MAX
+            && self.status <= STATUS_MAX
+            && self.stopping <= STOPPING_MAX
+            && (self.status == STATUS_STOPPED || self.stopping == 0)
     }
-    match s[0] {
-        TIMING_POINT => TIMING_POINT_SIZE,
-        JP_RECEIVED => JP_RECEIVED_SIZE,
-        ATO_STATUS => ATO_STATUS_SIZE,
-        TRACTION_BRAKE => TRACTION_BRAKE_SIZE,
-        _ => 0,
+}
+
+impl JpReceived {
+    ghost use Rattle.layout.specs.Layout.{fits};
+    ghost use Rattle.packets.specs.Layouts.{content65};
+    ghost use Rattle.packets.specs.View.{jp_received_view};
+
+    fn content_fits(self) -> bool
+        ensures { result ≡ fits content65 (jp_received_view self) }
+    {
+        self.nidc <= UNKNOWN_NIDC
+            && self.atots <= ATOTS_MAX
+            && self.date <= DATE_MAX
+            && self.status == 0
+    }
+}
+
+impl AtoStatus {
+    ghost use Rattle.layout.specs.Layout.{fits};
+    ghost use Rattle.packets.specs.Layouts.{content68};
+    ghost use Rattle.packets.specs.View.{ato_status_view};
+
+    fn content_fits(self) -> bool
+        ensures { result ≡ fits content68 (ato_status_view self) }
+    {
+        let c = self.conditions;
+        self.state <= STATE_MAX
+            && c.etcs_fulfilled <= 1
+            && c.no_emergency_brake <= 1
+            && c.end_ahead <= 1
+            && c.last_ahead <= 1
+            && c.profiles_there <= 1
+            && c.no_inconsistency <= 1
+            && c.located <= 1
+            && c.outside_zones <= 1
+            && c.data_valid <= 1
+    }
+}
+
+impl Packet {
+    ghost use Rattle.packets.specs.View.{header_view, kind_view, packet_view};
+    ghost use Rattle.packets.specs.Packets.{size_of, packet_fits};
+
+    pub fn kind(self) -> PacketKind
+        ensures { kind_view result ≡ (packet_view self).kind }
+    {
+        match self {
+            Packet::TimingPoint(_) => PacketKind::TimingPoint,
+            Packet::JpReceived(_) => PacketKind::JpReceived,
+            Packet::AtoStatus(_) => PacketKind::AtoStatus,
+            Packet::TractionBrake(_) => PacketKind::TractionBrake,
+        }
+    }
+
+    pub fn header(self) -> Header
+        ensures { header_view result ≡ (packet_view self).header }
+    {
+        match self {
+            Packet::TimingPoint(x) => x.header,
+            Packet::JpReceived(x) => x.header,
+            Packet::AtoStatus(x) => x.header,
+            Packet::TractionBrake(x) => x.header,
+        }
+    }
+
+    // Its bytes.
+    pub fn size(self) -> usize
+        ensures { result ≡ size_of self }
+    {
+        self.kind().size()
+    }
+
+    // Each value is in its range.
+    pub fn fits(self) -> bool
+        ensures { result ≡ packet_fits self }
+    {
+        let header = self.header().fits();
+        match self {
+            Packet::TimingPoint(x) => header && x.content_fits(),
+            Packet::JpReceived(x) => header && x.content_fits(),
+            Packet::AtoStatus(x) => header && x.content_fits(),
+            // Its content is free.
+            Packet::TractionBrake(_) => header,
+        }
     }
 }
 
@@ -152,66 +276,11 @@ pub fn size_at(s: &[u8]) -> usize
 pub fn front_size(s: &[u8]) -> usize
     ensures { result ≡ front_size s.now }
 {
-    let n = size_at(s);
-    if n == 0 {
-        return s.len();
-    }
-    if n < s.len() { n } else { s.len() }
-}
-
-fn header_fits(h: Header) -> bool
-    ensures { result ≡ fits header_layout (header_view h) }
-{
-    (h.nidc <= NIDC_MAX) & (h.offset <= OFFSET_MAX)
-}
-
-fn timing_point_fits(p: TimingPoint) -> bool
-    ensures { result ≡ packet_fits (Packet.TimingPoint p) }
-{
-    header_fits(p.header)
-        & (p.nidc <= NIDC_MAX)
-        & (p.q_eoj_reached <= 1)
-        & (p.alignment <= ALIGNMENT_MAX)
-        & (p.status <= STATUS_MAX)
-        & (p.stopping <= STOPPING_MAX)
-        & ((p.status == STATUS_STOPPED) | (p.stopping == 0))
-}
-
-fn jp_received_fits(p: JpReceived) -> bool
-    ensures { result ≡ packet_fits (Packet.JpReceived p) }
-{
-    header_fits(p.header)
-        & (p.nidc <= UNKNOWN_NIDC)
-        & (p.atots <= ATOTS_MAX)
-        & (p.date <= DATE_MAX)
-        & (p.status == 0)
-}
-
-fn ato_status_fits(p: AtoStatus) -> bool
-    ensures { result ≡ packet_fits (Packet.AtoStatus p) }
-{
-    let c = p.conditions;
-    header_fits(p.header)
-        & (p.state <= STATE_MAX)
-        & (c.etcs_fulfilled <= 1)
-        & (c.no_emergency_brake <= 1)
-        & (c.end_ahead <= 1)
-        & (c.last_ahead <= 1)
-        & (c.profiles_there <= 1)
-        & (c.no_inconsistency <= 1)
-        & (c.located <= 1)
-        & (c.outside_zones <= 1)
-        & (c.data_valid <= 1)
-}
-
-// Each value is in its range.
-pub fn packet_fits(p: Packet) -> bool
-    ensures { result ≡ packet_fits p }
-{
-    match p {
-        Packet::TimingPoint(x) => timing_point_fits(x),
-        Packet::JpReceived(x) => jp_received_fits(x),
-        Packet::AtoStatus(x) => ato_status_fits(x),
-        Packet::TractionBrake(x) => header_fits(x.header),
+    let Some(number) = s.first() else {
+        return 0;
+    };
+    match PacketKind::try_from(*number) {
+        Ok(kind) => kind.size().min(s.len()),
+        Err(_) => s.len(),
     }
 }

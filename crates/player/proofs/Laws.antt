@@ -1,14 +1,15 @@
 -- Laws of a run: it ends where the input is cut short, or goes on behind an event.
-use Prim.Native.Nat.{ℕ, zero, suc, ◌≤◌}
-use mathlib.Core.Path.{◌≡◌, refl}
+use Prim.Native.Nat.{ℕ, zero, suc, ◌+◌, ◌-◌, ◌≤◌}
+use mathlib.Core.Path.{◌≡◌, refl, sym, ap, ◌∙◌}
 use mathlib.Core.List.{List}
-use lib.ListN.{length}
+use lib.ListN.{length, drop, length-drop}
+use lib.Seq.{drop-drop}
 use native.Mathlib.Omega.{arith}
 use Rattle.fields.specs.Parse.Parse.{bad, good}
 use Rattle.engine_value.specs.declared.Engine.{Engine}
 use Rattle.call.specs.Call.{step_of}
 use Rattle.player_text.specs.Calls.{Given, call}
-use Rattle.player_text.proofs.Laws.{call-shorter}
+use Rattle.player_text.proofs.Laws.{call-behind, call-shorter}
 use Rattle.player_step.specs.View.{lent}
 use Rattle.player.specs.Played.{left, run}
 
@@ -23,3 +24,12 @@ pub run-next : (k : ℕ) (e : Engine) (m l : List ℕ) (g : Given) (r : List ℕ
 unfolding run
 run-next zero e m l g r h f = absurd (omega (arith, call-shorter l g r h))
 run-next (suc k) e m l g r h f = (k, omega (arith, call-shorter l g r h), rw h)
+
+-- what is left of the input is its end
+pub end-next : (s l : List ℕ) (g : Given) (r : List ℕ) → drop (length s - length l) s ≡ l → call l ≡ good g r → drop (length s - length r) s ≡ r
+end-next s l g r e h =
+    let (n, _, there, rest) = call-behind l g r h in
+    let a : length s - (length s - length l) ≡ length l = sym (length-drop (length s - length l) s) ∙ ap length e in
+    let b : length l - n ≡ length r = sym (length-drop n l) ∙ ap length rest in
+    let k : length s - length r ≡ length s - length l + n = omega (arith, a, b, there) in
+    rw k (sym (drop-drop n (length s - length l) s) ∙ ap (λ (x : List ℕ). drop n x) e ∙ rest)

@@ -19,7 +19,7 @@ use Rattle.packets.specs.Packets.{front_size, cut, cut_packets}
 use Rattle.packets.proofs.Cutting.{front-some}
 use Rattle.event.specs.Kinds.{kind_of}
 use Rattle.event.specs.declared.Event.TheVariants.{Load}
-use Rattle.call_values.specs.Call.{Accepted}
+use Rattle.call_values.specs.declared.Accepted.{Accepted}
 use Rattle.player_text.specs.Calls.{Given, some, block, profiles, call}
 use Rattle.player_text.specs.Lines.{hex, hex_lines, decimal, most_digits, lines, output_bytes, most_lines}
 

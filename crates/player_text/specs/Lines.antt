@@ -4,7 +4,7 @@ use Rattle.wire.specs.Numbers.{flag}
 use Rattle.wire.specs.Judged.{Judged}
 use Rattle.wire.specs.Judged.Judged.{refuse, accept}
 use Rattle.packets.specs.Packets.{cut_packets}
-use Rattle.call_values.specs.Call.{Accepted}
+use Rattle.call_values.specs.declared.Accepted.{Accepted}
 
 -- ---- ASCII
 

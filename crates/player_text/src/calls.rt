@@ -1,96 +1,50 @@
 // The events in the input, each with the profiles that follow it.
-ghost use Rattle.std.specs.Prelude.{◌≡◌, true, drop, eqb};
-ghost use Rattle.wire.specs.Numbers.{number};
-ghost use Rattle.event.specs.Kinds.{kind_of};
-ghost use Rattle.event.specs.declared.Event.TheVariants.{Load};
-ghost use Rattle.player_text.specs.Calls.{block, profiles, call};
-ghost use Rattle.player_text.specs.View.{part_view, block_view, call_view};
+ghost use Rattle.std.specs.Prelude.{◌≡◌};
+ghost use Rattle.fields.specs.View.{parsed_by};
+ghost use Rattle.player_text.specs.Calls.{block, call};
+ghost use Rattle.player_text.specs.View.{given_view};
 
-use crate::parts::{Part, bytes_of};
+use event::EventKind;
+use fields::read_field;
+use wire::Number;
 
-// A block, or an input that is cut short.
+// An event and its profiles.
 #[derive(Clone, Copy)]
-pub enum Block {
-    Whole(Part),
-    Short,
+pub struct Call<'a> {
+    pub event: &'a [u8],
+    pub journey: &'a [u8],
+    pub book: &'a [u8],
 }
 
-// An event and its profiles, and the position behind them.
-#[derive(Clone, Copy)]
-pub struct Call {
-    pub event: Part,
-    pub journey: Part,
-    pub book: Part,
-    pub next: usize,
-}
-
-#[derive(Clone, Copy)]
-pub enum CallRead {
-    Whole(Call),
-    Short,
-}
-
-// The bytes behind a two-byte length at a position.
-fn block_at(s: &[u8], at: usize) -> Block
-    ensures { block_view s.now result ≡ block (drop at s.now) }
+// A two-byte length, and as many bytes.
+#[tactic(auto, unfolding(crate::specs::Calls::block, crate::specs::Calls::some))]
+fn read_block(s: &[u8]) -> Option<(&[u8], &[u8])>
+    ensures { parsed_by (λ b. b.now) result ≡ block s.now }
 {
-    if s.len() < at {
-        return Block::Short;
-    }
-    if s.len() - at < 2 {
-        return Block::Short;
-    }
-    let start = at + 2;
-    let count = wire::be16(s, at) as usize;
-    if s.len() - start < count {
-        return Block::Short;
-    }
-    Block::Whole(Part {
-        start: start,
-        end: start + count,
-    })
+    let (count, s) = read_field::<u16>(s, 0, 65535)?;
+    s.split_at_checked(count as usize)
 }
 
-// The event's first byte is the kind of a load.
-fn is_load(s: &[u8], event: Part) -> bool
-    ensures { result ≡ eqb (number 1 (part_view s.now event)) (kind_of Load) }
+// An event and, where its first byte is the kind of a load, the journey and the book behind it.
+#[tactic(auto, unfolding(crate::specs::Calls::call, crate::specs::Calls::profiles))]
+pub fn read_call(s: &[u8]) -> Option<(Call<'_>, &[u8])>
+    ensures { parsed_by given_view result ≡ call s.now }
 {
-    wire::be8(bytes_of(s, event), 0) == event::LOAD
-}
-
-// The event at a position and, for a load, its profiles.
-pub fn call_at(s: &[u8], at: usize) -> CallRead
-    ensures { call_view s.now result ≡ call (drop at s.now) }
-{
-    let Block::Whole(event) = block_at(s, at) else {
-        return CallRead::Short;
+    let (event, s) = read_block(s)?;
+    if u8::get(event, 0) != u8::from(EventKind::Load) {
+        let call = Call {
+            event,
+            journey: &[],
+            book: &[],
+        };
+        return Some((call, s));
+    }
+    let (journey, s) = read_block(s)?;
+    let (book, s) = read_block(s)?;
+    let call = Call {
+        event,
+        journey,
+        book,
     };
-    if is_load(s, event) {
-        return load_at(s, event);
-    }
-    let none = Part { start: 0, end: 0 };
-    CallRead::Whole(Call {
-        event: event,
-        journey: none,
-        book: none,
-        next: event.end,
-    })
-}
-
-// A load, with the journey and the book behind it.
-fn load_at(s: &[u8], event: Part) -> CallRead
-    ensures { call_view s.now result ≡ profiles (part_view s.now event) true (drop event.end s.now) }
-{
-    let Block::Whole(journey) = block_at(s, event.end) else {
-        return CallRead::Short;
-    };
-    let Block::Whole(book) = block_at(s, journey.end) else {
-        return CallRead::Short;
-    };
-    CallRead::Whole(Call {
-        event: event,
-        journey: journey,
-        book: book,
-        next: book.end,
-    })
+    Some((call, s))
 }

@@ -3,4 +3,3 @@
 
 pub mod calls;
 pub mod lines;
-pub mod parts;

@@ -1,28 +1,26 @@
-// The lines of an answer.
-ghost use Rattle.std.specs.Prelude.{◌+◌, ◌%◌, ◌≡◌, [], ◌∷◌};
-ghost use Rattle.call.specs.View.{answer_view};
-ghost use Rattle.player_text.specs.Lines.{hex_byte, hex_line, packet_text, decimal, spaced, refused_line, accepted_line, zero_sign};
-ghost use Rattle.player_text.specs.View.{Put};
+// The lines of an answer, behind a text as far as it has room. They are put by hand: `write!` promises its text only where it answers Ok, and
+// not when it does; the kit's hex is in lowercase, or on the heap.
+ghost use Rattle.std.specs.Prelude.{◌≡◌};
+ghost use Rattle.wire.specs.View.{judged};
+ghost use Rattle.wire.specs.Refusals.{number_of};
+ghost use Rattle.player_text.specs.Lines.{hex_line, packet_text, spaced, refused_line, accepted_line};
+ghost use Rattle.player_text.specs.View.{appended};
 ghost use Rattle.player_text.specs.Lines.{digit as Lines·digit, lines as Lines·lines};
 
-use crate::parts::{front, rest};
-use call::Answer;
-
-// 64 bits make 20 digits at most.
-const MOST_DIGITS: usize = 20;
+use arrayvec::ArrayVec;
+use call_values::Accepted;
+use itoa::Buffer;
+use std::io::Write;
+use wire::Refusal;
 
 // The bytes that the lines of an event take at most, for an output memory of 4,096 (`lines_fit` of proofs/Room.antt).
 pub const MOST_LINES: usize = 16384;
 
-// One byte at a position, and the next position; where the text is full, nothing.
-fn put(text: &mut [u8], at: usize, b: u8) -> usize
-    ensures { Put text.old at (b ∷ []) text.new result }
+#[tactic(auto, unfolding(crate::specs::View::appended))]
+fn put<const N: usize>(text: &mut ArrayVec<u8, N>, s: &[u8])
+    ensures { text.new.items ≡ appended N text.old.items s.now }
 {
-    if at < text.len() {
-        text[at] = b;
-        return at + 1;
-    }
-    at
+    let _ = text.write(s);
 }
 
 // The last digit of n, in uppercase hexadecimal.
@@ -33,98 +31,74 @@ fn digit(n: u8) -> u8
     if d < 10 { b'0' + d } else { b'A' + (d - 10) }
 }
 
-fn put_hex(text: &mut [u8], at: usize, b: u8) -> usize
-    ensures { Put text.old at (hex_byte b) text.new result }
-{
-    let next = put(text, at, digit(b / 16));
-    put(text, next, digit(b))
-}
-
 // A line of uppercase hexadecimal.
-fn put_line(text: &mut [u8], at: usize, s: &[u8]) -> usize
-    ensures { Put text.old at (hex_line s.now) text.new result }
+#[tactic(auto, using(crate::proofs::Laws::appended_then, crate::proofs::Laws::hex_next, crate::proofs::Laws::hex_none))]
+fn put_line<const N: usize>(text: &mut ArrayVec<u8, N>, s: &[u8])
+    ensures { text.new.items ≡ appended N text.old.items (hex_line s.now) }
 {
-    let mut next = at;
-    for i in 0..s.len() {
-        next = put_hex(text, next, s[i]);
+    for b in s {
+        put(text, &[digit(*b / 16), digit(*b)]);
     }
-    put(text, next, b'\n')
+    put(text, b"\n");
 }
 
 // A line for each packet.
-fn put_packets(text: &mut [u8], at: usize, s: &[u8]) -> usize
-    ensures { Put text.old at (packet_text s.now) text.new result }
+#[tactic(auto, using(crate::proofs::Laws::appended_then, crate::proofs::Laws::appended_none, crate::proofs::Laws::packets_next, crate::proofs::Laws::packets_none))]
+fn put_packets<const N: usize>(text: &mut ArrayVec<u8, N>, s: &[u8])
+    ensures { text.new.items ≡ appended N text.old.items (packet_text s.now) }
 {
-    let mut next = at;
-    let mut from = 0;
-    while from < s.len() {
-        let left = rest(s, from);
-        let n = packets::front_size(left);
-        next = put_line(text, next, front(left, n));
-        from = from + n;
+    let mut rest = s;
+    while !rest.is_empty() {
+        let (packet, behind) = rest.split_at(packets::front_size(rest));
+        put_line(text, packet);
+        rest = behind;
     }
-    next
-}
-
-fn last_digit(n: usize) -> u8
-    ensures { result ≡ zero_sign + n % 10 }
-{
-    b'0' + (n % 10) as u8
-}
-
-// The last digits of n in decimal, with no zeros in front.
-fn put_decimal(text: &mut [u8], at: usize, n: usize, most: usize) -> usize
-    ensures { Put text.old at (decimal most n) text.new result }
-{
-    if most == 0 {
-        return at;
-    }
-    if n < 10 {
-        return put(text, at, last_digit(n));
-    }
-    let next = put_decimal(text, at, n / 10, most - 1);
-    put(text, next, last_digit(n))
 }
 
 // A space and n.
-fn put_number(text: &mut [u8], at: usize, n: usize) -> usize
-    ensures { Put text.old at (spaced n) text.new result }
+#[tactic(auto, using(crate::proofs::Laws::appended_then, crate::proofs::Laws::digits_printed))]
+fn put_number<const N: usize>(text: &mut ArrayVec<u8, N>, n: usize)
+    ensures { text.new.items ≡ appended N text.old.items (spaced n) }
 {
-    let next = put(text, at, b' ');
-    put_decimal(text, next, n, MOST_DIGITS)
+    let mut digits = Buffer::new();
+    put(text, b" ");
+    put(text, digits.format(n).as_bytes());
 }
 
-fn put_refused(text: &mut [u8], at: usize, n: u8) -> usize
-    ensures { Put text.old at (refused_line n) text.new result }
+#[tactic(auto, using(crate::proofs::Laws::appended_then))]
+fn put_refused<const N: usize>(text: &mut ArrayVec<u8, N>, r: Refusal)
+    ensures { text.new.items ≡ appended N text.old.items (refused_line (number_of r)) }
 {
-    let a = put(text, at, b'R');
-    let b = put_number(text, a, n as usize);
-    put(text, b, b'\n')
+    put(text, b"R");
+    put_number(text, usize::from(u8::from(r)));
+    put(text, b"\n");
 }
 
-fn put_accepted(text: &mut [u8], at: usize, state: u8, request: bool, bytes: usize) -> usize
-    ensures { Put text.old at (accepted_line state request bytes) text.new result }
+#[tactic(auto, using(crate::proofs::Laws::appended_then))]
+fn put_accepted<const N: usize>(text: &mut ArrayVec<u8, N>, a: Accepted)
+    ensures { text.new.items ≡ appended N text.old.items (accepted_line a.state a.request a.bytes) }
 {
-    let a = put(text, at, b'A');
-    let b = put_number(text, a, state as usize);
-    let c = put_number(text, b, request as usize);
-    let d = put_number(text, c, bytes);
-    put(text, d, b'\n')
+    put(text, b"A");
+    put_number(text, usize::from(a.state));
+    put_number(text, usize::from(a.request));
+    put_number(text, a.bytes);
+    put(text, b"\n");
 }
 
 // An answer, and the packets in the output memory.
-pub fn put_answer(text: &mut [u8], at: usize, a: Answer, memory: &[u8]) -> usize
-    ensures { Put text.old at (Lines·lines (answer_view a) memory.now) text.new result }
+#[tactic(auto, using(crate::proofs::Laws::appended_then, std::proofs::lemmas::List::take_min), unfolding(crate::specs::Lines::lines))]
+pub fn put_answer<const N: usize>(
+    text: &mut ArrayVec<u8, N>,
+    answer: Result<Accepted, Refusal>,
+    memory: &[u8],
+)
+    ensures { text.new.items ≡ appended N text.old.items (Lines·lines (judged answer) memory.now) }
 {
-    match a {
-        Answer::Refused(n) => put_refused(text, at, n),
-        Answer::Accepted {
-            state,
-            request,
-            bytes,
-        } => {
-            let next = put_accepted(text, at, state, request, bytes);
-            put_packets(text, next, front(memory, bytes))
+    match answer {
+        Ok(a) => {
+            put_accepted(text, a);
+            put_packets(text, &memory[..a.bytes.min(memory.len())]);
         }
+        Err(r) => put_refused(text, r),
     }
 }

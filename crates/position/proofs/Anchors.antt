@@ -1,11 +1,11 @@
 -- By computation.
 use mathlib.Core.Path.{refl}
 use Rattle.position.specs.Position.{front}
-use Rattle.position.specs.Skips.{stop_from}
+use Rattle.position.specs.Skips.{stop_named}
 use Rattle.position.specs.Anchors.{Anchors}
 
 pub anchors : Anchors
-unfolding front stop_from
+unfolding front stop_named
 anchors = record {
   zone_ends = refl;
   segments = refl;
@@ -25,7 +25,6 @@ anchors = record {
   stops = refl;
   no_stop_behind = refl;
   skips = refl;
-  none_looked_for = refl;
   stands_targeted = refl;
   stands_reached = refl;
   passed = refl;

@@ -2,7 +2,6 @@
 pub mod Position
 pub mod Standing
 pub mod Skips
-pub mod View
 pub mod Sample
 pub mod Anchors
 pub mod Sentences

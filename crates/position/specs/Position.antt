@@ -1,6 +1,7 @@
 -- The journey's segments and points, and the known position.
-use Rattle.std.specs.Prelude.{ℕ, ◌+◌, min, List, [], ◌∷◌, Bool, true, false, not, ◌&&◌, get_or, take, eqb, leb, if◌then◌else◌}
-use Rattle.wire.specs.Lists.{those, any}
+use Rattle.std.specs.Prelude.{ℕ, ◌+◌, min, Option, Some, None, is_some, option_map, List, Bool, not, ◌&&◌, get_or, take, eqb, leb, if◌then◌else◌}
+use Rattle.std.specs.List.{find}
+use Rattle.wire.specs.Lists.{any}
 use Rattle.engine_value.specs.Engine.{Route, blank_point, undefined, max_points}
 use Rattle.engine_value.specs.declared.Zone.{Zone}
 use Rattle.engine_value.specs.declared.Load.{Load}
@@ -8,8 +9,6 @@ use Rattle.engine_value.specs.declared.Segment.{Segment}
 use Rattle.engine_value.specs.declared.Point.{Point}
 use Rattle.engine_value.specs.declared.Position.{Position}
 use Rattle.position.specs.declared.Named.{Named}
-use Rattle.position.specs.declared.Front.{Front}
-use Rattle.position.specs.declared.Front.TheVariants.{Known, Unknown}
 
 -- how many points there are; the array holds 64
 abbrev pub points_loaded : Load → ℕ
@@ -43,20 +42,12 @@ zones_of s = take s.zone_count s.zones
 
 -- what is looked up in a segment, with the offset in it
 abbrev pub named : ℕ → Segment → Named
-named offset s = record { found = true; booked = s.booked; placed = s.placed; inside = any (in_zone offset) (zones_of s); start = s.start; length = s.length }
-
-abbrev pub nothing_named : Named
-nothing_named = record { found = false; booked = false; placed = false; inside = false; start = 0; length = 0 }
-
--- the first of some segments, if there is one
-abbrev pub first : ℕ → List Segment → Named
-first offset [] = nothing_named
-first offset (s ∷ l) = named offset s
+named offset s = record { booked = s.booked; placed = s.placed; inside = any (in_zone offset) (zones_of s); start = s.start; length = s.length }
 
 -- "its segment", of the offset: the first of the journey's that bears the name. The position, the conditions and row 13 look it up, whether or
 -- not the offset is defined
-abbrev pub segment_named : Route → Position → Named
-segment_named j x = first x.offset (those (bears x.nidc x.nidsp) (listed j))
+abbrev pub segment_named : Route → Position → Option Named
+segment_named j x = option_map (named x.offset) (find (bears x.nidc x.nidsp) (listed j))
 
 -- ---- the known position
 
@@ -65,16 +56,12 @@ offset_defined x = not (eqb x.offset undefined)
 
 -- "The position is known if the offset is defined, its segment placed and the offset within its length"; the front, counted from the journey's
 -- start. By the segment that the position names
-unfoldable pub front : Named → Position → Front
-front s x =
-    if offset_defined x && (s.found && (s.placed && leb x.offset s.length)) then Known (s.start + x.offset) else Unknown
+unfoldable pub front : Option Named → Position → Option ℕ
+front None x = None
+front (Some s) x = if offset_defined x && (s.placed && leb x.offset s.length) then Some (s.start + x.offset) else None
 
-abbrev pub front_at : Route → Position → Front
+abbrev pub front_at : Route → Position → Option ℕ
 front_at j x = front (segment_named j x) x
 
-abbrev pub is_known : Front → Bool
-is_known (Known f) = true
-is_known Unknown = false
-
 abbrev pub known : Route → Position → Bool
-known j x = is_known (front_at j x)
+known j x = is_some (front_at j x)

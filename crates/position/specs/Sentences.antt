@@ -1,10 +1,8 @@
 -- Document 01's sentences on the known position and on a stop of a name, each beside the function that computes it.
-use Rattle.std.specs.Prelude.{ℕ, ◌+◌, ◌≤◌, ◌<◌, ◌≡◌, ◌↔◌, true, length, get_or}
+use Rattle.std.specs.Prelude.{ℕ, ◌+◌, ◌≤◌, ◌<◌, ◌≡◌, ◌↔◌, Some, None, true, length, get_or}
 use Rattle.engine_value.specs.Engine.{Route, blank_segment, undefined}
 use Rattle.engine_value.specs.declared.Segment.{Segment}
 use Rattle.engine_value.specs.declared.Position.{Position}
-use Rattle.position.specs.declared.Front.TheVariants.{Known}
-use Rattle.position.specs.declared.Found.TheVariants.{At, Nothing}
 use Rattle.position.specs.Position.{point_count, point, listed, front_at, known}
 use Rattle.position.specs.Skips.{stop_named}
 
@@ -36,8 +34,8 @@ pub record Sentences : Type 0 where
   -- "The position is known if .."
   pub position_known : (j : Route) (x : Position) → (known j x ≡ true) ↔ ((k : ℕ) × KnownIn j x k)
   -- the front is then that segment's start and the offset, "counted from the journey's start"
-  pub front_there : (j : Route) (x : Position) (f : ℕ) → (front_at j x ≡ Known f) ↔ ((k : ℕ) × KnownIn j x k × (f ≡ (segment j k).start + x.offset))
+  pub front_there : (j : Route) (x : Position) (f : ℕ) → (front_at j x ≡ Some f) ↔ ((k : ℕ) × KnownIn j x k × (f ≡ (segment j k).start + x.offset))
   -- the stop of a name is the first of them
-  pub stop_there : (j : Route) (t k : ℕ) → (stop_named j t ≡ At k) ↔ (IsStop j t k × ((i : ℕ) → i < k → ¬ IsStop j t i))
+  pub stop_there : (j : Route) (t k : ℕ) → (stop_named j t ≡ Some k) ↔ (IsStop j t k × ((i : ℕ) → i < k → ¬ IsStop j t i))
   -- "14 no stop of that name"
-  pub no_stop : (j : Route) (t : ℕ) → (stop_named j t ≡ Nothing) ↔ ((k : ℕ) → ¬ IsStop j t k)
+  pub no_stop : (j : Route) (t : ℕ) → (stop_named j t ≡ None) ↔ ((k : ℕ) → ¬ IsStop j t k)

@@ -1,30 +1,22 @@
 // Where the train's front is, and where each timing point stands.
 #![tactic(auto)]
 
-ghost use Rattle.std.specs.Prelude.{◌≡◌, ◌<◌, ◌^◌, min, [], ◌∷◌, if◌then◌else◌};
-ghost use Rattle.engine_value.specs.Engine.{route_in, max_points};
-ghost use Rattle.wire.specs.Lists.{any, those};
-ghost use Rattle.position.specs.Position.{points_loaded, in_zone, zones_of, bears, named, nothing_named, first, segment_named, front};
+ghost use Rattle.std.specs.Prelude.{◌≡◌, ◌<◌, ◌^◌, option_map, IfSome};
+ghost use Rattle.engine_value.specs.Engine.{max_points};
+ghost use Rattle.engine_value.specs.View.{route_view};
+ghost use Rattle.wire.specs.Lists.{any};
+ghost use Rattle.position.specs.Position.{points_loaded, point, in_zone, zones_of, bears, named, segment_named, front_at};
 ghost use Rattle.position.specs.Standing.{standing, standing_code};
-ghost use Rattle.position.specs.Skips.{stop_in, no_stop};
-ghost use Rattle.position.specs.View.{IndexBelow, FrontBelow};
+ghost use Rattle.position.specs.Skips.{stop_named, stop_in};
 
 use engine_value::{
-    Engine, Load, MAX_POINTS, MAX_SEGMENTS, MAX_ZONES, Position, Progress, Segment, UNDEFINED, Zone,
+    Engine, Load, MAX_POINTS, Point, Position, Progress, Route, Segment, UNDEFINED, Zone,
 };
 
-// The index of a segment or a point of the journey.
-#[derive(Clone, Copy)]
-pub enum Found {
-    At(usize),
-    Nothing,
-}
-
-// The journey segment that a position names, in numbers: whether there is one, whether it is in the book and placed, whether the offset is
-// in one of its zones, its start and its length.
+// The journey segment that a position names: whether it is in the book and placed, whether the offset is in one of its zones, its start and its
+// length, with the flags as the engine's Segment has them (C layout).
 #[derive(Clone, Copy)]
 pub struct Named {
-    pub found: bool,
     pub booked: bool,
     pub placed: bool,
     pub inside: bool,
@@ -32,214 +24,165 @@ pub struct Named {
     pub length: u32,
 }
 
-// The stop of a name, and whether the driver skips it.
+// The stop of a name, by its index, and whether the driver skips it.
 #[derive(Clone, Copy)]
 pub struct Stop {
-    pub at: Found,
+    pub at: u8,
     pub skipped: bool,
 }
 
-// The segments that the positions before and after an event name.
+// A position, and the segment that it names of the journey in force.
 #[derive(Clone, Copy)]
-pub struct Both {
-    pub before: Named,
-    pub after: Named,
+pub struct Place<'a> {
+    pub journey: Route<'a>,
+    pub position: Position,
+    pub segment: Option<Named>,
+    ghost named: { segment ≡ segment_named (route_view journey) position },
 }
 
 // Where the train's front is, from the journey's start.
 #[derive(Clone, Copy)]
-pub enum Front {
-    Known(u64),
-    Unknown,
+pub struct Front {
+    pub at: u64,
+    ghost below: { at < 2 ^ 33 },
 }
 
 // Where a timing point stands.
 #[derive(Clone, Copy)]
 pub enum Standing {
-    Unused,
-    Targeted,
-    Reached,
-    Passed,
+    Unused = 0,
+    Targeted = 1,
+    Reached = 2,
+    Passed = 3,
+}
+
+impl From<Standing> for u8 {
+    ghost from_gives = { λ s n. n ≡ standing_code s };
+
+    fn from(s: Standing) -> u8 {
+        s as u8
+    }
 }
 
 // ---- where the train is
 
-// A count, within what an array holds.
-pub fn at_most(n: u32, most: usize) -> usize
-    ensures { result ≡ min n most }
-{
-    let n = n as usize;
-    if n < most { n } else { most }
-}
-
-// How many points the journey has.
+// How many points the journey has, whatever its count says: the array holds 64.
 pub fn points_loaded(l: Load) -> u8
     ensures { result ≡ points_loaded l }
 {
-    at_most(l.point_count as u32, MAX_POINTS) as u8
+    l.point_count.min(MAX_POINTS as u8)
 }
 
-fn in_zone(z: Zone, offset: u32) -> bool
-    ensures { result ≡ in_zone offset z }
+fn in_zone(z: &Zone, offset: u32) -> bool
+    ensures { result ≡ in_zone offset z.now }
 {
-    if z.start <= offset {
-        offset <= z.end
-    } else {
-        false
-    }
+    z.start <= offset && offset <= z.end
 }
 
-fn in_zones(s: Segment, offset: u32) -> bool
-    ensures { result ≡ any (in_zone offset) (zones_of s) }
+fn in_zones(s: &Segment, offset: u32) -> bool
+    ensures { result ≡ any (in_zone offset) (zones_of s.now) }
 {
-    let n = at_most(s.zone_count, MAX_ZONES);
-    let mut i: usize = 0;
-    while i < n {
-        let z = s.zones[i];
-        if in_zone(z, offset) {
-            return true;
-        }
-        i += 1;
-    }
-    false
+    s.zones
+        .iter()
+        .take(s.zone_count as usize)
+        .any(|z| in_zone(z, offset))
 }
 
 // A segment that a position with that offset names.
-fn named_of(s: Segment, offset: u32) -> Named
-    ensures { result ≡ named offset s }
+fn named_of(s: &Segment, offset: u32) -> Named
+    ensures { result ≡ named offset s.now }
 {
-    let inside = in_zones(s, offset);
     Named {
-        found: true,
         booked: s.booked,
         placed: s.placed,
-        inside: inside,
+        inside: in_zones(s, offset),
         start: s.start,
         length: s.length,
     }
 }
 
-fn nothing_named() -> Named
-    ensures { result ≡ nothing_named }
-{
-    Named {
-        found: false,
-        booked: false,
-        placed: false,
-        inside: false,
-        start: 0,
-        length: 0,
-    }
-}
-
-fn bears(s: Segment, x: Position) -> bool
-    ensures { result ≡ bears x.nidc x.nidsp s }
+fn bears(s: &Segment, x: Position) -> bool
+    ensures { result ≡ bears x.nidc x.nidsp s.now }
 {
     s.nidc == x.nidc && s.nidsp == x.nidsp
 }
 
-// What a position names, by what it names among the segments before s, and s.
-fn named_next(known: Named, s: Segment, x: Position) -> Named
-    ensures { result ≡ (if known.found then known else first x.offset (those (bears x.nidc x.nidsp) (s ∷ []))) }
+// Point k of the journey; blank beyond the last of the array.
+pub fn point(j: Route, k: u8) -> Point
+    ensures { result ≡ point (route_view j.entry) k }
 {
-    if known.found {
-        return known;
-    }
-    if bears(s, x) {
-        return named_of(s, x.offset);
-    }
-    nothing_named()
-}
-
-// The journey segments that two positions name, in one look at the segments.
-pub fn segments_named(e: Engine, x: Position, y: Position) -> Both
-    ensures { result ≡ record { before = segment_named (route_in e) x; after = segment_named (route_in e) y } }
-{
-    let segments = e.segments;
-    let n = at_most(e.load.segment_count as u32, MAX_SEGMENTS);
-    let mut before = nothing_named();
-    let mut after = nothing_named();
-    let mut i: usize = 0;
-    while i < n {
-        let s = segments[i];
-        before = named_next(before, s, x);
-        after = named_next(after, s, y);
-        i += 1;
-    }
-    Both {
-        before: before,
-        after: after,
-    }
+    let points = j.points;
+    points
+        .get(k as usize)
+        .copied()
+        .unwrap_or(engine_value::blank_point())
 }
 
 // The journey segment that a position names.
-pub fn segment_named(e: Engine, x: Position) -> Named
-    ensures { result ≡ segment_named (route_in e) x }
+pub fn segment_named(j: Route, x: Position) -> Option<Named>
+    ensures { result ≡ segment_named (route_view j.entry) x }
 {
-    let segments = e.segments;
-    let n = at_most(e.load.segment_count as u32, MAX_SEGMENTS);
-    let mut i: usize = 0;
-    while i < n {
-        let s = segments[i];
-        if bears(s, x) {
-            return named_of(s, x.offset);
-        }
-        i += 1;
-    }
-    nothing_named()
+    let segments = j.segments;
+    segments
+        .iter()
+        .take(j.load.segment_count as usize)
+        .find(|s| bears(s, x))
+        .map(|s| named_of(s, x.offset))
 }
 
-// Where the front is, if the position is known: by the segment that it names.
-pub fn front_in(s: Named, x: Position) -> Front
-    ensures { (result ≡ front s x) × FrontBelow (2 ^ 33) result }
-{
-    if x.offset == UNDEFINED {
-        return Front::Unknown;
+impl<'a> Place<'a> {
+    pub fn new(journey: Route<'a>, position: Position) -> Place<'a>
+        ensures journey { route_view result.journey ≡ route_view journey.entry }
+        ensures position { result.position ≡ position }
+    {
+        Place {
+            journey,
+            position,
+            segment: segment_named(journey, position),
+        }
     }
-    if !s.found {
-        return Front::Unknown;
+
+    // Where the front is, if the position is known.
+    #[tactic(auto, unfolding(crate::specs::Position::front))]
+    pub fn front(self) -> Option<Front>
+        ensures { option_map (λ f. f.at) result ≡ front_at (route_view self.entry.journey) self.entry.position }
+    {
+        let s = self.segment?;
+        let offset = self.position.offset;
+        if offset == UNDEFINED || !s.placed || s.length < offset {
+            return None;
+        }
+        Some(Front {
+            at: s.start as u64 + offset as u64,
+        })
     }
-    if !s.placed {
-        return Front::Unknown;
-    }
-    if s.length < x.offset {
-        return Front::Unknown;
-    }
-    Front::Known((s.start as u64) + (x.offset as u64))
 }
 
 // ---- driver skips and standings
 
-// The stop of that name.
-pub fn find_stop(e: Engine, nidtp: u32) -> Stop
-    ensures { (result ≡ stop_in e nidtp) × IndexBelow max_points result.at }
+// The index of the first stop of that name.
+#[tactic(auto, unfolding(crate::specs::Skips::stop_named))]
+fn stop_named(j: Route, nidtp: u32) -> Option<usize>
+    ensures { result ≡ stop_named (route_view j.entry) nidtp }
 {
-    let points = e.points;
-    let skips = e.skips;
-    let n = points_loaded(e.load) as usize;
-    let mut i: usize = 0;
-    while i < n {
-        let p = points[i];
-        if p.stop && p.nidtp == nidtp {
-            let skipped = skips[i];
-            return Stop {
-                at: Found::At(i),
-                skipped: skipped,
-            };
-        }
-        i += 1;
-    }
-    no_stop()
+    let points = j.points;
+    points
+        .iter()
+        .take(points_loaded(j.load) as usize)
+        .position(|p| p.stop && p.nidtp == nidtp)
 }
 
-// Where none is looked for.
-pub fn no_stop() -> Stop
-    ensures { result ≡ no_stop }
+// The stop of that name.
+#[tactic(auto, using(crate::proofs::Laws::stop_below))]
+pub fn find_stop(e: &Engine, nidtp: u32) -> Option<Stop>
+    ensures value { result ≡ stop_in e.now nidtp }
+    ensures within { IfSome result (λ s. s.at < max_points) }
 {
-    Stop {
-        at: Found::Nothing,
-        skipped: false,
-    }
+    let at = stop_named(e.route(), nidtp)?;
+    Some(Stop {
+        at: at as u8,
+        skipped: e.skips[at],
+    })
 }
 
 // Where point k stands.
@@ -247,25 +190,12 @@ pub fn standing_of(p: Progress, k: u8) -> Standing
     ensures { result ≡ standing p k }
 {
     if k < p.next {
-        return Standing::Passed;
-    }
-    if p.next < k {
-        return Standing::Unused;
-    }
-    if p.reached {
-        return Standing::Reached;
-    }
-    Standing::Targeted
-}
-
-// The number of a standing.
-pub fn standing_code(s: Standing) -> u8
-    ensures { result ≡ standing_code s }
-{
-    match s {
-        Standing::Unused => 0,
-        Standing::Targeted => 1,
-        Standing::Reached => 2,
-        Standing::Passed => 3,
+        Standing::Passed
+    } else if p.next < k {
+        Standing::Unused
+    } else if p.reached {
+        Standing::Reached
+    } else {
+        Standing::Targeted
     }
 }

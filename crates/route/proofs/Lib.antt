@@ -1,7 +1,8 @@
-pub mod Accepted
-pub mod Rows
-pub mod Placed
 pub mod Limits
+pub mod Filling
+pub mod Placing
+pub mod Rows
+pub mod Accepted
 pub mod Ranges
 pub mod Anchors
 pub mod Sentences

@@ -1,9 +1,9 @@
 -- What an accepted book keeps to, and what follows for the places on the journey.
-use Prim.Native.Nat.{ℕ, zero, suc, ◌*◌, ◌≤◌, ◌<◌}
+use Prim.Native.Nat.{ℕ, ◌*◌, ◌≤◌, ◌<◌}
 use mathlib.Core.Path.{◌≡◌, refl}
 use mathlib.Core.List.{List, [], ◌∷◌, map}
 use mathlib.Core.Bool.{Bool, true, false, cond}
-use mathlib.Core.Option.{Option, none, some}
+use Rattle.std.specs.Prelude.{Option, Some, None}
 use native.Mathlib.Omega.{arith}
 use lib.ListN.{length, get_or, take, length-take, get_or-eq_default}
 use lib.Dec.{ltb}
@@ -12,31 +12,27 @@ use Rattle.wire.proofs.ListLaws.{tabulate-at, tabulate-length}
 use Rattle.wire.specs.Lists.{sum}
 use Rattle.engine_value.specs.Engine.{max_zones, blank_segment}
 use Rattle.engine_value.specs.declared.Segment.{Segment}
-use Rattle.segment_record.specs.Record.{BookPoint, BookSegment, max_length, max_reach, lookup_point}
+use Rattle.segment_record.specs.Record.{BookSegment, max_length, max_reach, lookup_point}
 use Rattle.journey.specs.declared.Name.{Name}
-use Rattle.route.specs.View.{Limits, OnSome, Sound}
+use Rattle.route.specs.Limits.{Limits, OnSome, Sound}
 use Rattle.route.specs.Placing.{record_of, length_on, points_on, zones_on, placed_at, start_at, segment_of, segment_at, segments_of, place_on, reach_on}
 
 -- of a segment of the journey, in the book or not
 pub length_limit : (r : Option BookSegment) → OnSome Limits r → length_on r ≤ max_length
-length_limit none h = omega arith
-length_limit (some g) h = h.long
+length_limit None h = omega arith
+length_limit (Some g) h = h.long
 
 pub place_limit : (r : Option BookSegment) (t : ℕ) → OnSome Limits r → place_on (lookup_point t (points_on r)) ≤ max_length
-place_limit none t h = omega arith
-place_limit (some g) t h = h.places t
+place_limit None t h = omega arith
+place_limit (Some g) t h = h.places t
 
 pub reach_limit : (r : Option BookSegment) (t : ℕ) → OnSome Limits r → reach_on (lookup_point t (points_on r)) ≤ max_reach
-reach_limit none t h = omega arith
-reach_limit (some g) t h = h.reaches t
+reach_limit None t h = omega arith
+reach_limit (Some g) t h = h.reaches t
 
 pub zones_limit : (r : Option BookSegment) → OnSome Limits r → length (zones_on r) ≤ max_zones
-zones_limit none h = omega arith
-zones_limit (some g) h = h.zones
-
--- the records' points of the journey's segments
-abbrev pub record_points : List BookSegment → List Name → List (List BookPoint)
-record_points book names = map (λ (n : Name). points_on (record_of book n)) names
+zones_limit None h = omega arith
+zones_limit (Some g) h = h.zones
 
 -- a segment by its index, in the list and beyond it
 module _ (book : List BookSegment) (names : List Name) where
@@ -58,11 +54,6 @@ module _ (book : List BookSegment) (names : List Name) where
       go false e = rw (segment_past k (ltb-false k (length names) e)) b
 
 module _ (book : List BookSegment) (sound : Sound book) where
-  pub places_limit : (names : List Name) (k t : ℕ) → place_on (lookup_point t (get_or (record_points book names) k [])) ≤ max_length
-  places_limit [] k t = omega arith
-  places_limit (n ∷ ns) zero t = place_limit (record_of book n) t (sound n.nidc n.nidsp)
-  places_limit (n ∷ ns) (suc k) t = places_limit ns k t
-
   -- a start is the sum of at most 39 lengths
   lengths_limit : (ns : List Name) → sum (map (λ (n : Name). length_on (record_of book n)) ns) ≤ length ns * 16777214
   lengths_limit [] = omega arith

@@ -3,7 +3,7 @@ use Prim.Native.Nat.{ℕ, zero, suc, ◌+◌, ◌≤◌, ◌<◌}
 use mathlib.Core.Path.{◌≡◌, refl, subst}
 use mathlib.Core.List.{List, [], ◌∷◌, map}
 use mathlib.Core.Bool.{Bool, true, false, cond, not, ◌||◌}
-use mathlib.Core.Option.{Option, none, some}
+use Rattle.std.specs.Prelude.{Option, Some, None}
 use native.Mathlib.Omega.{arith}
 use lib.ListN.{length, get_or}
 use lib.Dec.{eqb}
@@ -16,12 +16,13 @@ use Rattle.wire.proofs.ListLaws.{all-at, or-false}
 use Rattle.engine_value.specs.Engine.{max4, blank_segment, blank_point}
 use Rattle.engine_value.specs.declared.Segment.{Segment}
 use Rattle.engine_value.specs.declared.Point.{Point}
-use Rattle.segment_record.specs.Record.{BookPoint, BookSegment}
+use Rattle.segment_record.specs.declared.BookPoint.{BookPoint}
+use Rattle.segment_record.specs.Record.{BookSegment}
 use Rattle.book.specs.Book.{is_some}
 use Rattle.book.specs.Table.{book_of}
 use Rattle.journey.specs.Journey.{blank_name, JourneyValue, journey_value}
 use Rattle.engine_value.proofs.Filled.{filled_length}
-use Rattle.journey.proofs.Filling.{filled_at}
+use Rattle.route.proofs.Filling.{filled_at}
 use Rattle.journey.proofs.Accepted.{NameFits, JourneyPointFits, HeadFits, JourneyFits, journey-fits}
 use Rattle.journey.specs.declared.Name.{Name}
 use Rattle.journey.specs.declared.JourneyPoint.{JourneyPoint}
@@ -30,9 +31,9 @@ use Rattle.journey_rows.specs.Rows.{index_beyond, nidtps, ends}
 use Rattle.route.specs.Table.{point_missing, checked, journey_of}
 use Rattle.journey_rows.specs.Rows.{ending_of}
 use Rattle.route.specs.Route.{route_of, LoadValue, load_value, load_of}
-use Rattle.route.specs.View.{Sound}
+use Rattle.route.specs.Limits.{Sound}
 use Rattle.route.proofs.Limits.{length_limit, place_limit, reach_limit, zones_limit, segments_length, segments_all, segment_start, starts_limit}
-use Rattle.route.proofs.Placed.{all-within}
+use Rattle.route.proofs.Placing.{all-within}
 use Rattle.route.proofs.Rows.{ten, eleven, twelve, points-length}
 use Rattle.route.proofs.Accepted.{book-sound}
 
@@ -72,8 +73,8 @@ blank_segment-fits = record { nidc = omega arith; nidsp = omega arith; length = 
 
 -- a segment that is not in the book has no zones
 no_zones : (r : Option BookSegment) → is_some r ≡ false → length (zones_on r) ≡ 0
-no_zones none e = refl
-no_zones (some g) e = let z : ◌≡◌ {A = ℕ} 0 1 = cc in absurd (omega arith)
+no_zones None e = refl
+no_zones (Some g) e = let z : ◌≡◌ {A = ℕ} 0 1 = cc in absurd (omega arith)
 
 blank_point-fits : PointFits blank_point
 blank_point-fits = record { nidtp = omega arith; nidc = omega arith; alignment = omega arith; stopping = omega arith; place = omega arith; reach = omega arith }

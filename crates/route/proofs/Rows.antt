@@ -1,4 +1,4 @@
--- The code's tests and answers against the definitions, a case each.
+-- The rows' tests against the definitions, a case each.
 use Prim.Native.Nat.{ℕ, ◌≤◌}
 use mathlib.Core.Path.{◌≡◌, refl, sym, ap, ◌∙◌}
 use mathlib.Core.List.{List}
@@ -11,49 +11,24 @@ use Rattle.fields.specs.Parse.{Parse, whole}
 use Rattle.fields.specs.Parse.Parse.{bad, good}
 use Rattle.wire.specs.Judged.{Judged, then_judge, row}
 use Rattle.wire.specs.Judged.Judged.{refuse, accept}
-use Rattle.wire.specs.View.{verdict_view}
-use Rattle.wire.specs.declared.Verdict.{Verdict}
-use Rattle.engine_value.specs.Engine.{blank_segment, blank_point, filled}
-use Rattle.engine_value.specs.declared.Segment.{Segment}
+use Rattle.engine_value.specs.Engine.{blank_point, filled}
 use Rattle.engine_value.specs.declared.Point.{Point}
-use Rattle.engine_value.specs.declared.Load.{Load}
 use Rattle.segment_record.specs.Record.{BookSegment}
 use Rattle.book.specs.Table.{book_of}
 use Rattle.book.proofs.Accepted.{book-numbers}
-use Rattle.book.specs.View.{segments_view}
-use Rattle.book.proofs.Whole.{book_view}
-use Rattle.book.specs.declared.Book.{Book}
 use Rattle.journey.specs.Journey.{JourneyValue, journey_record, journey_value}
 use Rattle.engine_value.proofs.Filled.{filled_take}
-use Rattle.journey.specs.View.{value_view}
-use Rattle.journey.proofs.Rows.{journey_view}
-use Rattle.journey.specs.declared.Journey.{Journey}
-use Rattle.route.specs.Placing.{segments_of, point_at, points_of}
-use Rattle.journey_rows.specs.Rows.{same_name, index_beyond, nidtps, ends, indices, places}
-use Rattle.route.specs.Table.{point_missing, checked, journey_of}
-use Rattle.route.specs.Route.{route_of, load_group, LoadValue, load_value, load_of}
-use Rattle.route.specs.View.{refused_load, load_for, load_held}
-use Rattle.route.specs.declared.Loaded.{Loaded}
+use Rattle.route.specs.Placing.{point_at, points_of}
+use Rattle.journey_rows.specs.Rows.{same_name, indices, places}
+use Rattle.route.specs.Table.{checked, journey_of}
+use Rattle.route.specs.Route.{LoadValue, load_value, load_of}
+use Rattle.route.specs.View.{load_for}
+pub use Rattle.route.specs.View.{eleven}
 
 -- ---- the rows
 
 abbrev pub ten : JourneyValue → Bool
 ten v = twice same_name v.names
-
-abbrev pub eleven : List BookSegment → JourneyValue → Bool
-eleven book v = index_beyond v || (twice eqb (nidtps v.points) || (not (eqb (ends v.points) 1) || point_missing book v))
-
--- 11 without the book
-abbrev pub early : JourneyValue → Bool
-early v = index_beyond v || (twice eqb (nidtps v.points) || not (eqb (ends v.points) 1))
-
-pub eleven_parts : (book : List BookSegment) (v : JourneyValue) → eleven book v ≡ (early v || point_missing book v)
-eleven_parts book v = go (index_beyond v) (twice eqb (nidtps v.points)) (not (eqb (ends v.points) 1))
-  where
-    go : (a b c : Bool) → (a || (b || (c || point_missing book v))) ≡ ((a || (b || c)) || point_missing book v)
-    go true b c = refl
-    go false true c = refl
-    go false false c = refl
 
 abbrev pub twelve : List Point → JourneyValue → Bool
 twelve points v = falls (indices v.points) || not (strictly_rises (places points))
@@ -92,45 +67,7 @@ module _ (book : List BookSegment) (v : JourneyValue) where
     unfolding checked
     no_row c = rw (a, b, c)
 
--- ---- answers
-
-pub told-refused : (x : Judged LoadValue) (n : ℕ) (r : Loaded) → r ≡ refused_load n → x ≡ refuse n → r ≡ load_held x
-told-refused x n r e q = e ∙ ap load_held (sym q)
-
-pub told-loaded : (book : List BookSegment) (v : JourneyValue) (load : Load) (points : List Point) (segments : List Segment)
-    → load ≡ load_group v → points ≡ filled 64 blank_point (points_of book v) → segments ≡ filled 40 blank_segment (segments_of book v.names)
-    → load_for book v ≡ accept (load_value book v)
-    → record { verdict = Verdict.Accepted; load = load; points = points; segments = segments; head = v.head } ≡ load_held (load_for book v)
-unfolding route_of
-told-loaded book v load points segments a b c e =
-    (λ i. record { verdict = Verdict.Accepted; load = a i; points = b i; segments = c i; head = v.head }) ∙ ap load_held (sym e)
-
--- what an answer says
-abbrev pub load_view : Loaded → Judged LoadValue
-load_view r =
-    then_judge (verdict_view r.verdict) (λ u. accept (record { route = record { load = r.load; points = r.points; segments = r.segments }; head = r.head }))
-
-pub load_seen : (x : Judged LoadValue) (r : Loaded) → r ≡ load_held x → load_view r ≡ x
-load_seen (refuse n) r e = ap load_view e
-load_seen (accept v) r e = ap load_view e
-
 -- ---- book and journey
-
-module _ (s : List ℕ) (b : Book) where
-  pub book_refused : (n : ℕ) → b.verdict ≡ Verdict.Refused n → book_view s b ≡ refuse n
-  unfolding book_view
-  book_refused n t = rw t
-
-  pub book_accepted : b.verdict ≡ Verdict.Accepted → book_view s b ≡ accept (segments_view s b)
-  unfolding book_view
-  book_accepted t = rw t
-
-module _ (j : Journey) where
-  pub journey_refused : (n : ℕ) → j.verdict ≡ Verdict.Refused n → journey_view j ≡ refuse n
-  journey_refused n t = rw t
-
-  pub journey_accepted : j.verdict ≡ Verdict.Accepted → journey_view j ≡ accept (value_view j)
-  journey_accepted t = rw t
 
 module _ (journey bytes : List ℕ) where
   pub no_book : (n : ℕ) → book_of bytes ≡ refuse n → load_of journey bytes ≡ refuse n

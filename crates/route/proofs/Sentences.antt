@@ -5,7 +5,7 @@ use mathlib.Core.Logic.Iff
 use mathlib.Core.Logic.{◌↔◌}
 use mathlib.Core.List.{List, [], ◌∷◌}
 use mathlib.Core.Bool.{Bool, true, false, not, ◌&&◌, false≢true}
-use mathlib.Core.Option.{Option, none, some}
+use Rattle.std.specs.Prelude.{Option, Some, None}
 use native.Mathlib.Omega.{arith}
 use lib.ListN.{length, get_or, take}
 use lib.Dec.{eqb}
@@ -87,17 +87,17 @@ module _ (book : List BookSegment) where
   missing j = some_at blank_journey_point _ _ (λ p. go p.nidtp (record_at book j.names p)) j.points
     where
       go : (t : ℕ) (r : Option BookSegment)
-          → ((is_some r && not (is_some (lookup_point t (points_on r)))) ≡ true) ↔ ((g : BookSegment) × (r ≡ some g) × (¬ InRecord g t))
-      go t none = (λ e. absurd (false≢true e), nothing)
+          → ((is_some r && not (is_some (lookup_point t (points_on r)))) ≡ true) ↔ ((g : BookSegment) × (r ≡ Some g) × (¬ InRecord g t))
+      go t None = (λ e. absurd (false≢true e), nothing)
         where
-          nothing : (g : BookSegment) × (◌≡◌ {A = Option BookSegment} none (some g)) × (¬ InRecord g t) → false ≡ true
+          nothing : (g : BookSegment) × (◌≡◌ {A = Option BookSegment} None (Some g)) × (¬ InRecord g t) → false ≡ true
           nothing (g, e, n) = ap is_some e
-      go t (some g) = (λ e. (g, refl, without.0 e), there)
+      go t (Some g) = (λ e. (g, refl, without.0 e), there)
         where
           without : (not (is_some (lookup_point t g.points)) ≡ true) ↔ (¬ InRecord g t)
           without = fails (is_some (lookup_point t g.points)) (InRecord g t) (of_book.in_record g t)
 
-          there : (h : BookSegment) × (some g ≡ some h) × (¬ InRecord h t) → not (is_some (lookup_point t g.points)) ≡ true
+          there : (h : BookSegment) × (Some g ≡ Some h) × (¬ InRecord h t) → not (is_some (lookup_point t g.points)) ≡ true
           there (h, e, n) = let q : g ≡ h = cc in without.1 (λ x. n (subst (λ (s : BookSegment). InRecord s t) q x))
 
   module _ (j : JourneyValue) where

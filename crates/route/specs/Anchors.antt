@@ -7,7 +7,8 @@ use Rattle.engine_value.specs.Engine.{blank_zone, blank_segment, blank_point}
 use Rattle.engine_value.specs.declared.Zone.{Zone}
 use Rattle.engine_value.specs.declared.Segment.{Segment}
 use Rattle.engine_value.specs.declared.Point.{Point}
-use Rattle.segment_record.specs.Record.{BookPoint, BookSegment}
+use Rattle.segment_record.specs.declared.BookPoint.{BookPoint}
+use Rattle.segment_record.specs.Record.{BookSegment}
 use Rattle.journey.specs.declared.Name.{Name}
 use Rattle.journey.specs.declared.JourneyPoint.{JourneyPoint}
 use Rattle.journey.specs.declared.Head.{Head}

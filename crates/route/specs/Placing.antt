@@ -1,12 +1,13 @@
 -- Document 01, "Book and journey": the journey's segments and points placed by the book.
 use Rattle.std.specs.Prelude.{ℕ, suc, ◌+◌, List, [], map, Bool, length, get_or, take, if◌then◌else◌}
-use Rattle.std.proofs.Math.Option.{Option, none, some}
+use Rattle.std.specs.Prelude.{Option, Some, None}
 use Rattle.wire.specs.Lists.{every, tabulate, sum}
 use Rattle.engine_value.specs.Engine.{max_zones, blank_zone, filled}
 use Rattle.engine_value.specs.declared.Zone.{Zone}
 use Rattle.engine_value.specs.declared.Segment.{Segment}
 use Rattle.engine_value.specs.declared.Point.{Point}
-use Rattle.segment_record.specs.Record.{BookPoint, BookSegment, lookup_point}
+use Rattle.segment_record.specs.declared.BookPoint.{BookPoint}
+use Rattle.segment_record.specs.Record.{BookSegment, lookup_point}
 use Rattle.book.specs.Book.{lookup, is_some}
 use Rattle.journey.specs.Journey.{blank_name, JourneyValue}
 use Rattle.journey.specs.declared.Name.{Name}
@@ -19,16 +20,16 @@ abbrev pub record_of : List BookSegment → Name → Option BookSegment
 record_of book n = lookup n.nidc n.nidsp book
 
 abbrev pub length_on : Option BookSegment → ℕ
-length_on none = 0
-length_on (some s) = s.length
+length_on None = 0
+length_on (Some s) = s.length
 
 abbrev pub points_on : Option BookSegment → List BookPoint
-points_on none = []
-points_on (some s) = s.points
+points_on None = []
+points_on (Some s) = s.points
 
 abbrev pub zones_on : Option BookSegment → List Zone
-zones_on none = []
-zones_on (some s) = s.zones
+zones_on None = []
+zones_on (Some s) = s.zones
 
 abbrev pub booked : List BookSegment → Name → Bool
 booked book n = is_some (record_of book n)
@@ -68,12 +69,12 @@ segments_of book names = tabulate (length names) (segment_at book names)
 -- ---- points
 
 abbrev pub place_on : Option BookPoint → ℕ
-place_on none = 0
-place_on (some b) = b.place
+place_on None = 0
+place_on (Some b) = b.place
 
 abbrev pub reach_on : Option BookPoint → ℕ
-reach_on none = 0
-reach_on (some b) = b.reach
+reach_on None = 0
+reach_on (Some b) = b.reach
 
 -- "A point is placed if its segment is": its place from the journey's start and R come from the record's point b of its name
 unfoldable pub point_of : JourneyPoint → Segment → Option BookPoint → Point

@@ -1,9 +1,9 @@
 -- Document 01, "placed" and the rows 10 to 12 against a book, in its own words beside what computes it.
 use Rattle.std.specs.Prelude.{ℕ, ◌≤◌, ◌<◌, ◌≡◌, ◌↔◌, ◌⊎◌, List, true, length}
-use Rattle.std.proofs.Math.Option.{some}
+use Rattle.std.specs.Prelude.{Some}
 use Rattle.wire.specs.Judged.Judged.{refuse, accept}
 use Rattle.segment_record.specs.Record.{BookSegment}
-use Rattle.book.specs.Sentences.{Some, InBook, InRecord}
+use Rattle.book.specs.Sentences.{One, InBook, InRecord}
 use Rattle.journey.specs.Journey.{blank_journey_point, JourneyValue}
 use Rattle.journey.specs.declared.Name.{Name}
 use Rattle.journey_rows.specs.Sentences.{SegmentTwice, IndexBeyond, PointTwice, OneEnd, IndexFalls, PlacesFall}
@@ -16,7 +16,7 @@ Booked book n = InBook book n.nidc n.nidsp
 
 -- "11 .. a booked segment without the point": the book's record of a point's segment has no point of its name
 abbrev pub PointMissing : List BookSegment → JourneyValue → Type 0
-PointMissing book j = Some blank_journey_point (λ p. (g : BookSegment) × (record_at book j.names p ≡ some g) × (¬ InRecord g p.nidtp)) j.points
+PointMissing book j = One blank_journey_point (λ p. (g : BookSegment) × (record_at book j.names p ≡ Some g) × (¬ InRecord g p.nidtp)) j.points
 
 -- "10 segment twice"
 abbrev pub Ten : JourneyValue → Type 0

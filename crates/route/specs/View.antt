@@ -1,36 +1,26 @@
--- What the values of the code say: answers of a load, and of the book's bytes s.
-use Rattle.std.specs.Prelude.{ℕ, ◌+◌, ◌^◌, ◌<◌, ◌≤◌, ◌≡◌, List, [], map, Bool, true, false, length, get_or, replicate}
-use Rattle.std.proofs.Math.Option.{Option, none, some}
-use Rattle.wire.specs.Judged.{Judged, then_judge}
+-- What the values of the code say.
+use Rattle.std.specs.Prelude.{ℕ, ◌<◌, ◌≡◌, List, map, Bool, not, ◌&&◌, ◌||◌, length, get_or, eqb, if◌then◌else◌, Option}
+use Rattle.wire.specs.Lists.{twice}
+use Rattle.wire.specs.Judged.{Judged, then_judge, row}
 use Rattle.wire.specs.Judged.Judged.{refuse, accept}
-use Rattle.wire.specs.declared.Verdict.{Verdict}
-use Rattle.engine_value.specs.Engine.{max_segments, max_points, max_zones, blank_segment, blank_point, no_load, filled}
-use Rattle.segment_record.specs.Record.{BookPoint, BookSegment, max_length, max_reach, lookup_point}
-use Rattle.book.specs.Book.{lookup}
-use Rattle.segment_record.specs.View.{entry_view, blank_entry}
-use Rattle.segment_record.specs.declared.Entry.{Entry}
-use Rattle.journey.specs.Journey.{blank_head, JourneyValue}
+use Rattle.engine_value.specs.Engine.{max_segments, max_points, blank_segment, blank_point, filled}
+use Rattle.engine_value.specs.declared.Segment.{Segment}
+use Rattle.engine_value.specs.declared.Point.{Point}
+use Rattle.segment_record.specs.Record.{BookSegment, lookup_point}
+use Rattle.book.specs.Book.{is_some}
+use Rattle.journey.specs.Journey.{JourneyValue}
 use Rattle.journey.specs.declared.Name.{Name}
-use Rattle.route.specs.Placing.{record_of, points_on, segments_of, place_on, reach_on, points_of}
+use Rattle.journey.specs.declared.JourneyPoint.{JourneyPoint}
+use Rattle.journey_rows.specs.Rows.{index_beyond, nidtps, ends}
+use Rattle.route.specs.Limits.{record_view}
+use Rattle.route.specs.Placing.{record_of, points_on, name_at, segment_at, segments_of, point_of, points_of}
 use Rattle.route.specs.Table.{point_missing, checked}
 use Rattle.route.specs.Route.{LoadValue, load_value}
-use Rattle.route.specs.declared.Recorded.{Recorded}
-use Rattle.route.specs.declared.Placing.{Placing}
-use Rattle.route.specs.declared.Points.{Points}
 use Rattle.route.specs.declared.Loaded.{Loaded}
+use Rattle.route.specs.declared.placed.Placed.{Placed}
 
--- ---- a load
-
--- "Every refusal returns the number only"
-abbrev pub refused_load : ℕ → Loaded
-refused_load n =
-    record { verdict = Verdict.Refused n; load = no_load; points = replicate max_points blank_point; segments = replicate max_segments blank_segment; head = blank_head }
-
--- the one answer for each outcome
-abbrev pub load_held : Judged LoadValue → Loaded
-load_held (refuse n) = refused_load n
-load_held (accept v) =
-    record { verdict = Verdict.Accepted; load = v.route.load; points = v.route.points; segments = v.route.segments; head = v.head }
+abbrev pub loaded_view : Loaded → LoadValue
+loaded_view l = record { route = record { load = l.load; points = l.points; segments = l.segments }; head = l.head }
 
 -- the rows 10 to 12, and what is then loaded
 abbrev pub load_for : List BookSegment → JourneyValue → Judged LoadValue
@@ -38,51 +28,20 @@ load_for book v = then_judge (checked book v) (λ j. accept (load_value book j))
 
 -- ---- inner functions
 
--- the ranges of a record that placing relies on
-pub record Limits (g : BookSegment) : Type 0 where
-  pub long : g.length ≤ max_length
-  pub places : (t : ℕ) → place_on (lookup_point t g.points) ≤ max_length
-  pub reaches : (t : ℕ) → reach_on (lookup_point t g.points) ≤ max_reach
-  pub zones : length g.zones ≤ max_zones
-
-abbrev pub OnSome : {A : Type 0} → (A → Type 0) → Option A → Type 0
-OnSome P none = Unit {0}
-OnSome P (some a) = P a
-
--- each record that a look-up finds keeps to its ranges
-abbrev pub Sound : List BookSegment → Type 0
-Sound book = (c sp : ℕ) → OnSome Limits (lookup c sp book)
-
--- the record of the book that was found
-abbrev pub record_view : List ℕ → Recorded → Option BookSegment
-record_view s (Recorded.Record e) = some (entry_view s e)
-record_view s Recorded.Missing = none
-
--- an entry that counts only where it was found
-abbrev pub record_if : Entry → Bool → Recorded
-record_if e true = Recorded.Record e
-record_if e false = Recorded.Missing
-
--- the entry, blank where there is none: its length is then 0, and its lists are empty
-abbrev pub recorded_entry_view : Recorded → Entry
-recorded_entry_view (Recorded.Record e) = e
-recorded_entry_view Recorded.Missing = blank_entry
-
--- the points of the book's record of each segment of the journey
-abbrev pub records_view : List ℕ → Placing → List (List BookPoint)
-records_view s m = map (λ (e : Entry). (entry_view s e).points) m.entries
-
--- each place from the journey's start is a number of four bytes
-abbrev pub PlacesFit : List ℕ → Placing → Type 0
-PlacesFit s m = (k t : ℕ) → (get_or m.segments k blank_segment).start + place_on (lookup_point t (get_or (records_view s m) k [])) < 2 ^ 32
-
 -- the journey's segments by the book, and the records of those that are in it
-pub record PlacingRead (s : List ℕ) (book : List BookSegment) (names : List Name) (m : Placing) : Type 0 where
-  pub segments : m.segments ≡ filled max_segments blank_segment (segments_of book names)
-  pub records : (k : ℕ) → get_or (records_view s m) k [] ≡ get_or (map (λ (n : Name). points_on (record_of book n)) names) k []
-  pub fit : PlacesFit s m
+pub record PlacingRead (book : List BookSegment) (names : List Name) (m : List Placed) : Type 0 where
+  pub segments : map (λ (p : Placed). p.segment) m ≡ filled max_segments blank_segment (segments_of book names)
+  pub placed : (k : ℕ) (d : Placed) → k < length names → (get_or m k d).segment ≡ segment_at book names k
+  pub records : (k : ℕ) (d : Placed) → k < length names → record_view (get_or m k d).entry ≡ record_of book (name_at names k)
 
--- the journey's points by the book, and whether a booked segment lacks one
-pub record PointsRead (book : List BookSegment) (v : JourneyValue) (r : Points) : Type 0 where
-  pub points : r.points ≡ filled max_points blank_point (points_of book v)
-  pub missing : r.missing ≡ point_missing book v
+-- a point on its segment, by the book's record of it; 11 where that lacks the point
+abbrev pub point_on : JourneyPoint → Segment → Option BookSegment → Judged Point
+point_on p g r =
+    if g.booked && not (is_some (lookup_point p.nidtp (points_on r))) then refuse 11 else accept (point_of p g (lookup_point p.nidtp (points_on r)))
+
+-- the test of row 11, and the points of a journey that it does not refuse
+abbrev pub eleven : List BookSegment → JourneyValue → Bool
+eleven book j = index_beyond j || (twice eqb (nidtps j.points) || (not (eqb (ends j.points) 1) || point_missing book j))
+
+abbrev pub points_for : List BookSegment → JourneyValue → Judged (List Point)
+points_for book j = then_judge (row 11 (eleven book j)) (λ u. accept (filled max_points blank_point (points_of book j)))

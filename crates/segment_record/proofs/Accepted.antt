@@ -3,7 +3,7 @@ use Prim.Native.Nat.{ℕ, ◌≤◌}
 use mathlib.Core.Path.{◌≡◌, subst}
 use mathlib.Core.List.{List, [], ◌∷◌}
 use mathlib.Core.Bool.{Bool, true, false, cond}
-use mathlib.Core.Option.{some}
+use Rattle.std.specs.Prelude.{Some, find}
 use lib.ListN.{length}
 use lib.Dec.{eqb}
 use native.Mathlib.Omega.{arith}
@@ -14,7 +14,8 @@ use Rattle.wire.specs.Lists.{All}
 use Rattle.fields.specs.Parse.{field, free, bit_map, listed}
 use Rattle.fields.proofs.ReaderLaws.{field-inv}
 use Rattle.fields.proofs.Sure.{Sure, sure-on, sure_of, listed_all}
-use Rattle.segment_record.specs.Record.{BookPoint, BookSegment, max_length, max_record_points, max_reach, book_point, zone_record, segment_record, lookup_point}
+use Rattle.segment_record.specs.declared.BookPoint.{BookPoint}
+use Rattle.segment_record.specs.Record.{BookSegment, max_length, max_record_points, max_reach, book_point, zone_record, segment_record, lookup_point}
 
 pub record PointFits (len : ℕ) (p : BookPoint) : Type 0 where
   pub nidtp : p.nidtp ≤ max_nidtp
@@ -74,11 +75,14 @@ segment_fits l =
       zone_count = z.0;
     }))))))
 
--- what holds of all points holds of the one that is looked up
-pub all-point : (P : BookPoint → Type 0) (ps : List BookPoint) → All P ps → (t : ℕ) (p : BookPoint) → lookup_point t ps ≡ some p → P p
-all-point P [] h t p e = let z : ◌≡◌ {A = ℕ} 0 1 = cc in absurd (omega arith)
-all-point P (x ∷ xs) h t p e = go (eqb x.nidtp t) e (λ q. all-point P xs h.1 t p q)
+-- what holds of all holds of the one that is found
+pub all_found : {A : Type 0} (P : A → Type 0) (f : A → Bool) (l : List A) → All P l → (a : A) → find f l ≡ Some a → P a
+all_found P f [] h a e = absurd cc
+all_found P f (x ∷ xs) h a e = go (f x) e (λ q. all_found P f xs h.1 a q)
   where
-    go : (b : Bool) → cond b (some x) (lookup_point t xs) ≡ some p → (lookup_point t xs ≡ some p → P p) → P p
-    go true q ih = let w : x ≡ p = cc in subst P w h.0
+    go : (b : Bool) → cond b (Some x) (find f xs) ≡ Some a → (find f xs ≡ Some a → P a) → P a
+    go true q ih = let w : x ≡ a = cc in subst P w h.0
     go false q ih = ih q
+
+pub all-point : (P : BookPoint → Type 0) (ps : List BookPoint) → All P ps → (t : ℕ) (p : BookPoint) → lookup_point t ps ≡ Some p → P p
+all-point P ps h t p e = all_found P (λ q. eqb q.nidtp t) ps h p e

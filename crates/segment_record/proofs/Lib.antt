@@ -1,5 +1,5 @@
-pub mod Reading
-pub mod Positions
-pub mod ItemLaws
+pub mod Takes
+pub mod InArray
+pub mod Behind
 pub mod Accepted
 pub mod Anchors

@@ -1,10 +1,11 @@
 -- Document 01, "Book and journey": a segment record in bytes, each side of each range. Values are worked out from the paper.
 use Rattle.std.specs.Prelude.{ℕ, zero, suc, ◌≡◌, List, [], ◌∷◌, ◌++◌, map, Bool, true, false, length}
-use Rattle.std.proofs.Math.Option.{none, some}
+use Rattle.std.specs.Prelude.{Some, None}
 use Rattle.fields.specs.Parse.{Parse}
 use Rattle.fields.specs.Parse.Parse.{bad, good}
 use Rattle.engine_value.specs.declared.Zone.{Zone}
-use Rattle.segment_record.specs.Record.{BookPoint, BookSegment, book_point, zone_record, segment_record, lookup_point}
+use Rattle.segment_record.specs.declared.BookPoint.{BookPoint}
+use Rattle.segment_record.specs.Record.{BookSegment, book_point, zone_record, segment_record, lookup_point}
 
 -- whether it is read, and how many points and zones it then has
 abbrev pub taken : {A : Type 0} → Parse A → Bool
@@ -116,4 +117,4 @@ pub record Anchors : Type 0 where
       ∷ (0x00 ∷ 0x00 ∷ 0x01 ∷ 0x2B ∷ 0x00 ∷ 0x00 ∷ 0x01 ∷ 0x2D ∷ []) ∷ []
       ) ≡ true ∷ true ∷ false ∷ false ∷ []
   -- a record's point by its name
-  pub look_up : map (λ t. lookup_point t (point7001 ∷ point_last ∷ [])) (7001 ∷ 4294967294 ∷ 7002 ∷ []) ≡ some point7001 ∷ some point_last ∷ none ∷ []
+  pub look_up : map (λ t. lookup_point t (point7001 ∷ point_last ∷ [])) (7001 ∷ 4294967294 ∷ 7002 ∷ []) ≡ Some point7001 ∷ Some point_last ∷ None ∷ []

@@ -1,10 +1,10 @@
 -- Document 01, "Book and journey": a segment record, and the look-up of a point in it.
-use Rattle.std.specs.Prelude.{ℕ, List, [], ◌∷◌, eqb, if◌then◌else◌}
-use Rattle.std.proofs.Math.Option.{Option, none, some}
+use Rattle.std.specs.Prelude.{ℕ, List, [], ◌∷◌, Option, eqb, find}
 use Rattle.wire.specs.Numbers.{bit}
 use Rattle.fields.specs.Parse.{Reader, field, free, bit_map, give, listed, ◌>>=◌}
 use Rattle.engine_value.specs.Engine.{max_nidc, max_nidtp, max_zones}
 use Rattle.engine_value.specs.declared.Zone.{Zone}
+use Rattle.segment_record.specs.declared.BookPoint.{BookPoint}
 
 -- ---- ranges
 
@@ -21,12 +21,6 @@ abbrev pub max_reach : ℕ
 max_reach = 10000
 
 -- ---- layouts
-
--- a point of a record: its name, its place from the segment's start, and the reached distance R
-pub record BookPoint : Type 0 where
-  pub nidtp : ℕ
-  pub place : ℕ
-  pub reach : ℕ
 
 pub record BookSegment : Type 0 where
   pub nidc : ℕ
@@ -65,5 +59,4 @@ segment_record = do
 -- ---- look-ups
 
 abbrev pub lookup_point : ℕ → List BookPoint → Option BookPoint
-lookup_point t [] = none
-lookup_point t (p ∷ ps) = if eqb p.nidtp t then some p else lookup_point t ps
+lookup_point t ps = find (λ p. eqb p.nidtp t) ps

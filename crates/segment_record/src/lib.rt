@@ -1,14 +1,18 @@
 // A segment record of a book: its bytes, and look-ups in it.
 #![tactic(auto)]
 
-ghost use Rattle.std.specs.Prelude.{◌+◌, ◌*◌, min, ◌≡◌, [], ◌∷◌, length, drop};
-ghost use Rattle.fields.specs.Parse.{map_fits, many, listed};
-ghost use Rattle.segment_record.specs.Record.{segment_record, lookup_point};
-ghost use Rattle.segment_record.specs.View.{entry_view, blank_entry, point_view, zone_view, zones_view};
-ghost use Rattle.segment_record.specs.View.{item, item_size, most, ends_at, items_at, segment_at};
+ghost use Rattle.std.specs.Prelude.{◌≡◌, ◌<◌, ◌≤◌, ℕ, List, Bool, map, length, take, slice_index_or as get_or};
+ghost use Rattle.engine_value.specs.Engine.{blank_zone};
+ghost use Rattle.fields.specs.Parse.{Reader, listed};
+ghost use Rattle.fields.specs.View.{parsed_by};
+ghost use Rattle.segment_record.specs.Record.{max_record_points, segment_record, lookup_point, book_point, zone_record};
+ghost use Rattle.segment_record.specs.View.{entry_view, point_of, zone_of, point_fits, zone_fits, zones_view, Takes};
 
+use arrayvec::ArrayVec;
 use engine_value::{MAX_NIDC, MAX_NIDTP, MAX_ZONES, Zone};
-use fields::{Field, Width, read_field};
+use fields::{Bears, read_field, read_map};
+use std::array;
+use wire::{Number, bit};
 
 // "length (4, 1-16,777,214)"
 const MAX_LENGTH: u32 = 16777214;
@@ -17,281 +21,192 @@ const MAX_LENGTH: u32 = 16777214;
 pub const MAX_RECORD_POINTS: usize = 16;
 
 // "reached distance R (2, 0-10,000)"
-const MAX_REACH: u32 = 10000;
+const MAX_REACH: u16 = 10000;
 
-// A segment record that was read: its numbers, and where its lists stand in the book's bytes.
-#[derive(Clone, Copy)]
-pub struct Entry {
-    pub points_at: usize,
-    pub zones_at: usize,
+// A segment record that was read: its numbers, and the bytes of each of its points and zones.
+#[derive(Clone, Copy, Default)]
+pub struct Entry<'a> {
+    pub points: &'a [[u8; 10]],
+    pub zones: &'a [[u8; 8]],
     pub nidsp: u32,
     pub length: u32,
     pub nidc: u16,
-    pub points: u8,
-    pub zones: u8,
 }
 
-#[derive(Clone, Copy)]
-pub enum PointFound {
-    Found { place: u32, reach: u32 },
-    Missing,
+// A point of a record: its name, its place from the segment's start, and the reached distance R.
+#[derive(Clone, Copy, Default)]
+pub struct BookPoint {
+    pub nidtp: u32,
+    pub place: u32,
+    pub reach: u16,
 }
 
-// The inhibition zones of a record; those beyond the count are blank.
+// The inhibition zones of a record, as the engine keeps them; those beyond the count are blank.
 #[derive(Clone, Copy)]
 pub struct Zones {
-    pub count: u8,
+    pub count: u32,
     pub zones: [Zone; MAX_ZONES],
 }
 
-// The lists of a record.
-#[derive(Clone, Copy)]
-enum Kind {
-    Points,
-    Zones,
-}
+// A segment is named by NID_C and NID_SP together, a point by its NID_TP.
+impl<'a> Bears for Entry<'a> {
+    type Name = (u16, u32);
 
-// The position behind what was read.
-#[derive(Clone, Copy)]
-enum Ends {
-    At(usize),
-    Bad,
-}
+    ghost name = { λ e. (e.nidc, e.nidsp) };
 
-// How many items a list has, where the first stands, and the position behind the last.
-#[derive(Clone, Copy)]
-enum Items {
-    Read(u8, usize, usize),
-    Bad,
-}
-
-// A record and the position behind it.
-#[derive(Clone, Copy)]
-pub enum SegmentRead {
-    Record(Entry, usize),
-    Bad,
-}
-
-// The position behind a point whose fields are in their ranges.
-fn point_end(s: &[u8], at: usize, length: u32) -> Ends
-    ensures { result ≡ ends_at at (item Kind.Points length (drop at s.now)) (item_size Kind.Points) }
-{
-    let Field::Value(_, a) = read_field(s, at, Width::Four, 0, MAX_NIDTP) else {
-        return Ends::Bad;
-    };
-    let Field::Value(_, b) = read_field(s, a, Width::Four, 0, length) else {
-        return Ends::Bad;
-    };
-    let Field::Value(_, next) = read_field(s, b, Width::Two, 0, MAX_REACH) else {
-        return Ends::Bad;
-    };
-    Ends::At(next)
-}
-
-// The position behind a zone whose ends are in their ranges.
-fn zone_end(s: &[u8], at: usize, length: u32) -> Ends
-    ensures { result ≡ ends_at at (item Kind.Zones length (drop at s.now)) (item_size Kind.Zones) }
-{
-    let Field::Value(start, a) = read_field(s, at, Width::Four, 0, length) else {
-        return Ends::Bad;
-    };
-    let Field::Value(_, next) = read_field(s, a, Width::Four, start, length) else {
-        return Ends::Bad;
-    };
-    Ends::At(next)
-}
-
-fn item_end(s: &[u8], at: usize, kind: Kind, length: u32) -> Ends
-    ensures { result ≡ ends_at at (item kind length (drop at s.now)) (item_size kind) }
-{
-    match kind {
-        Kind::Points => point_end(s, at, length),
-        Kind::Zones => zone_end(s, at, length),
+    fn name(&self) -> (u16, u32) {
+        (self.nidc, self.nidsp)
     }
 }
 
-// The position behind n items.
-fn items_end(s: &[u8], at: usize, n: u32, kind: Kind, length: u32) -> Ends
-    ensures { result ≡ ends_at at (many n (item kind length) (drop at s.now)) (item_size kind * n) }
-{
-    let mut p = at;
-    let mut i: u32 = 0;
-    while i < n {
-        let Ends::At(next) = item_end(s, p, kind, length) else {
-            return Ends::Bad;
-        };
-        p = next;
-        i += 1;
-    }
-    Ends::At(p)
-}
+impl Bears for BookPoint {
+    type Name = u32;
 
-// The most items that a list has.
-fn most_of(kind: Kind) -> u32
-    ensures { result ≡ most kind }
-{
-    match kind {
-        Kind::Points => MAX_RECORD_POINTS as u32,
-        Kind::Zones => MAX_ZONES as u32,
+    ghost name = { λ p. p.nidtp };
+
+    fn name(&self) -> u32 {
+        self.nidtp
     }
 }
 
-// A list that stands only where its bit does.
-fn read_items(s: &[u8], at: usize, present: bool, kind: Kind, length: u32) -> Items
-    ensures { result ≡ items_at at (listed present (most kind) (item kind length) (drop at s.now)) (item_size kind) }
-{
-    if present {
-        let high = most_of(kind);
-        let Field::Value(n, p) = read_field(s, at, Width::One, 1, high) else {
-            return Items::Bad;
-        };
-        let Ends::At(next) = items_end(s, p, n, kind, length) else {
-            return Items::Bad;
-        };
-        Items::Read(n as u8, p, next)
-    } else {
-        Items::Read(0, at, at)
-    }
+// An item of a record's lists, of K bytes.
+trait ListItem<const K: usize>: Copy {
+    ghost value_of: { List ℕ → Self };
+
+    ghost fits: { ℕ → Self → Bool };
+
+    ghost reader: { ℕ → Reader Self };
+
+    fn of(bytes: &[u8; K]) -> Self
+        ensures { result ≡ value_of bytes.now };
+
+    // Its ranges, in a segment of that length.
+    fn fits(self, length: u32) -> bool
+        ensures { result ≡ fits length self };
 }
 
-// Bits 0 to 2 stand, 5 to 7 do not.
-fn segment_map(map: u32) -> bool
-    ensures { result ≡ map_fits (0 ∷ 1 ∷ 2 ∷ []) (5 ∷ 6 ∷ 7 ∷ []) map }
-{
-    if map / 1 % 2 != 1 {
-        return false;
-    }
-    if map / 2 % 2 != 1 {
-        return false;
-    }
-    if map / 4 % 2 != 1 {
-        return false;
-    }
-    fields::upper_clear(map)
-}
+impl ListItem<10> for BookPoint {
+    ghost value_of = { point_of };
 
-pub fn read_segment(s: &[u8], at: usize) -> SegmentRead
-    ensures { result ≡ segment_at at (segment_record (drop at s.now)) }
-{
-    let Field::Value(map, a) = read_field(s, at, Width::One, 0, 255) else {
-        return SegmentRead::Bad;
-    };
-    if !segment_map(map) {
-        return SegmentRead::Bad;
-    }
-    let Field::Value(nidc, b) = read_field(s, a, Width::Two, 0, MAX_NIDC) else {
-        return SegmentRead::Bad;
-    };
-    let Field::Value(nidsp, d) = read_field(s, b, Width::Four, 0, 4294967295) else {
-        return SegmentRead::Bad;
-    };
-    let Field::Value(length, p) = read_field(s, d, Width::Four, 1, MAX_LENGTH) else {
-        return SegmentRead::Bad;
-    };
-    let Items::Read(points, points_at, z) = read_items(s, p, map / 8 % 2 == 1, Kind::Points, length)
-    else {
-        return SegmentRead::Bad;
-    };
-    let Items::Read(zones, zones_at, next) = read_items(
-        s,
-        z,
-        map / 16 % 2 == 1,
-        Kind::Zones,
-        length,
-    ) else {
-        return SegmentRead::Bad;
-    };
-    SegmentRead::Record(
-        Entry {
-            nidc: nidc as u16,
-            nidsp: nidsp,
-            length: length,
-            points: points,
-            points_at: points_at,
-            zones: zones,
-            zones_at: zones_at,
-        },
-        next,
-    )
-}
+    ghost fits = { point_fits };
 
-pub fn blank_entry() -> Entry
-    ensures { result ≡ blank_entry }
-{
-    Entry {
-        nidc: 0,
-        nidsp: 0,
-        length: 0,
-        points: 0,
-        points_at: 0,
-        zones: 0,
-        zones_at: 0,
-    }
-}
+    ghost reader = { book_point };
 
-// The position k bytes further on, at most the end.
-pub fn after(s: &[u8], p: usize, k: usize) -> usize
-    ensures { result ≡ min (p + k) (length s.now) }
-{
-    if s.len() <= p {
-        return s.len();
-    }
-    if s.len() - p < k {
-        return s.len();
-    }
-    p + k
-}
-
-// Place and reached distance of a record's point.
-pub fn find_point(s: &[u8], e: Entry, nidtp: u32) -> PointFound
-    ensures { point_view nidtp result ≡ lookup_point nidtp (entry_view s.now e).points }
-{
-    let n = e.points;
-    let mut p = e.points_at;
-    let mut i: u8 = 0;
-    while i < n {
-        if wire::be32(s, p) == nidtp {
-            let a = after(s, p, 4);
-            let b = after(s, p, 8);
-            return PointFound::Found {
-                place: wire::be32(s, a),
-                reach: wire::be16(s, b) as u32,
-            };
+    fn of(bytes: &[u8; 10]) -> BookPoint {
+        BookPoint {
+            nidtp: u32::get(bytes, 0),
+            place: u32::get(bytes, 4),
+            reach: u16::get(bytes, 8),
         }
-        p = after(s, p, 10);
-        i += 1;
     }
-    PointFound::Missing
+
+    fn fits(self, length: u32) -> bool {
+        self.nidtp <= MAX_NIDTP && self.place <= length && self.reach <= MAX_REACH
+    }
 }
 
-// The zone of an index, blank where the record has none.
-fn zone_in(s: &[u8], e: Entry, k: u8) -> Zone
-    ensures { result ≡ zone_view s.now e k }
-{
-    if k < e.zones {
-        let a = after(s, e.zones_at, 8 * (k as usize));
-        let b = after(s, a, 4);
+impl ListItem<8> for Zone {
+    ghost value_of = { zone_of };
+
+    ghost fits = { zone_fits };
+
+    ghost reader = { zone_record };
+
+    fn of(bytes: &[u8; 8]) -> Zone {
         Zone {
-            start: wire::be32(s, a),
-            end: wire::be32(s, b),
+            start: u32::get(bytes, 0),
+            end: u32::get(bytes, 4),
         }
-    } else {
-        Zone { start: 0, end: 0 }
     }
+
+    fn fits(self, length: u32) -> bool {
+        self.start <= self.end && self.end <= length
+    }
+}
+
+// A list that stands only where its bit does: the bytes of each item, whose ranges are kept.
+#[tactic(auto, unfolding(fields::specs::Parse::listed, fields::specs::Parse::counted))]
+fn read_list<T: ListItem<K>, const K: usize>(
+    s: &[u8],
+    present: bool,
+    most: u32,
+    length: u32,
+) -> Option<(&[[u8; K]], &[u8])>
+    requires some { 0 < K }
+    requires few { K ≤ 16 }
+    requires takes { Takes K (T.fits length) T.value_of (T.reader length) }
+    ensures { parsed_by (λ b. map T.value_of b.now) result ≡ listed present most (T.reader length) s.now }
+{
+    if !present {
+        return Some((&[], s));
+    }
+    let (n, s) = read_field::<u8>(s, 1, most)?;
+    let (list, s) = s.split_at_checked(n as usize * K)?;
+    let (list, _) = list.as_chunks::<K>();
+    let fit = |x: &[u8; K]| -> bool
+        ensures { result ≡ T.fits length (T.value_of x.now) }
+    { T::of(x).fits(length) };
+    list.iter().all(fit).then_some((list, s))
+}
+
+#[tactic(auto, using(crate::proofs::Takes::point_takes, crate::proofs::Takes::zone_takes), unfolding(crate::specs::Record::segment_record))]
+pub fn read_segment(s: &[u8]) -> Option<(Entry, &[u8])>
+    ensures { parsed_by entry_view result ≡ segment_record s.now }
+{
+    let (map, s) = read_map(s, &[0, 1, 2], &[5, 6, 7])?;
+    let (nidc, s) = read_field(s, 0, MAX_NIDC)?;
+    let (nidsp, s) = read_field(s, 0, u32::MAX)?;
+    let (length, s) = read_field(s, 1, MAX_LENGTH)?;
+    let (points, s) = read_list::<BookPoint, 10>(s, bit(map, 3), MAX_RECORD_POINTS as u32, length)?;
+    let (zones, s) = read_list::<Zone, 8>(s, bit(map, 4), MAX_ZONES as u32, length)?;
+    Some((
+        Entry {
+            points,
+            zones,
+            nidsp,
+            length,
+            nidc,
+        },
+        s,
+    ))
+}
+
+// The point of a name.
+pub fn find_point(e: Entry, nidtp: u32) -> Option<BookPoint>
+    ensures { result ≡ lookup_point nidtp (entry_view e.entry).points }
+{
+    let points = e.points;
+    points
+        .iter()
+        .map(|x| BookPoint::of(x))
+        .find(|p| p.nidtp == nidtp)
+}
+
+// The points of a record; one that was read has at most 16.
+pub fn points_of(e: &Entry) -> ArrayVec<BookPoint, MAX_RECORD_POINTS>
+    ensures { result.items ≡ take max_record_points (entry_view e.now).points }
+{
+    let from = e.points;
+    let mut points = ArrayVec::new();
+    for x in &from[..MAX_RECORD_POINTS.min(from.len())] {
+        points.push(BookPoint::of(x));
+    }
+    points
 }
 
 // The zones of a record; one that was read has at most four.
-pub fn zones_of(s: &[u8], e: Entry) -> Zones
-    ensures { result ≡ zones_view s.now e }
+pub fn zones_of(e: Entry) -> Zones
+    ensures { result ≡ zones_view e.entry }
 {
-    let a = zone_in(s, e, 0);
-    let b = zone_in(s, e, 1);
-    let c = zone_in(s, e, 2);
-    let d = zone_in(s, e, 3);
-    let n = e.zones;
-    let zones = [a, b, c, d];
+    let from = e.zones;
+    let zone = |k: usize| -> Zone
+        ensures { result ≡ get_or (map zone_of from.entry.now) k blank_zone }
+    {
+        from.get(k)
+            .map_or(Zone { start: 0, end: 0 }, |x| Zone::of(x))
+    };
     Zones {
-        count: n,
-        zones: zones,
+        count: from.len().min(MAX_ZONES) as u32,
+        zones: array::from_fn(zone),
     }
 }

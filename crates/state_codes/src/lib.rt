@@ -1,36 +1,37 @@
 // The states, the ETCS mode and the lever by their codes, and rows 3 to 6 of the table of numbers, which go by state and kind.
 #![tactic(auto)]
 
-ghost use Rattle.std.specs.Prelude.{◌≡◌, ◌≤◌};
-ghost use Rattle.wire.specs.View.{verdict_view};
-ghost use Rattle.state_codes.specs.Codes.{code, state_at, is, mode_at, is_ad, lever_at, is_neutral, is_brake};
+ghost use Rattle.std.specs.Prelude.{◌≡◌};
+ghost use Rattle.wire.specs.View.{judged};
+ghost use Rattle.event.specs.View.{kind_number};
+ghost use Rattle.state_codes.specs.Codes.{code, state_at, mode_at, lever_at};
 ghost use Rattle.state_codes.specs.Numbers.{power_rows, state_row, state_rows};
 
-use event::{CONFIGURED, POWER_OFF, POWER_ON, PRESS};
-use wire::Verdict;
+use event::EventKind;
+use wire::Refusal;
 
 // The states of document 01, by their codes 0 to 7 in this order.
-#[derive(Clone, Copy)]
+#[derive(Clone, Copy, PartialEq, Eq)]
 pub enum State {
-    NP,
-    CO,
-    NA,
-    AV,
-    RE,
-    EG,
-    DE,
-    FA,
+    NP = 0,
+    CO = 1,
+    NA = 2,
+    AV = 3,
+    RE = 4,
+    EG = 5,
+    DE = 6,
+    FA = 7,
 }
 
 // The ETCS mode: 0 other, 1 AD.
-#[derive(Clone, Copy)]
+#[derive(Clone, Copy, PartialEq, Eq)]
 pub enum EtcsMode {
     Other,
     AD,
 }
 
 // The lever: 0 neutral, 1 traction, 2 brake.
-#[derive(Clone, Copy)]
+#[derive(Clone, Copy, PartialEq, Eq)]
 pub enum DriverLever {
     Neutral,
     Traction,
@@ -39,145 +40,89 @@ pub enum DriverLever {
 
 // ---- codes
 
-pub fn state_at(code: u8) -> State
-    ensures { result ≡ state_at code }
-{
-    match code {
-        0 => State::NP,
-        1 => State::CO,
-        2 => State::NA,
-        3 => State::AV,
-        4 => State::RE,
-        5 => State::EG,
-        6 => State::DE,
-        _ => State::FA,
+impl From<State> for u8 {
+    ghost from_gives = { λ s n. n ≡ code s };
+
+    fn from(s: State) -> u8 {
+        s as u8
     }
 }
 
-pub fn code_of(s: State) -> u8
-    ensures { (result ≡ code s) × (result ≤ 7) }
-{
-    match s {
-        State::NP => 0,
-        State::CO => 1,
-        State::NA => 2,
-        State::AV => 3,
-        State::RE => 4,
-        State::EG => 5,
-        State::DE => 6,
-        State::FA => 7,
+impl From<u8> for State {
+    ghost from_gives = { λ n s. s ≡ state_at n };
+
+    fn from(code: u8) -> State {
+        match code {
+            0 => State::NP,
+            1 => State::CO,
+            2 => State::NA,
+            3 => State::AV,
+            4 => State::RE,
+            5 => State::EG,
+            6 => State::DE,
+            _ => State::FA,
+        }
     }
 }
 
-pub fn mode_at(n: u8) -> EtcsMode
-    ensures { result ≡ mode_at n }
-{
-    if n == 1 {
-        EtcsMode::AD
-    } else {
-        EtcsMode::Other
+impl From<u8> for EtcsMode {
+    ghost from_gives = { λ n m. m ≡ mode_at n };
+
+    fn from(n: u8) -> EtcsMode {
+        if n == 1 {
+            EtcsMode::AD
+        } else {
+            EtcsMode::Other
+        }
     }
 }
 
-pub fn lever_at(n: u8) -> DriverLever
-    ensures { result ≡ lever_at n }
-{
-    if n == 0 {
-        return DriverLever::Neutral;
-    }
-    if n == 1 {
-        DriverLever::Traction
-    } else {
-        DriverLever::Brake
-    }
-}
+impl From<u8> for DriverLever {
+    ghost from_gives = { λ n l. l ≡ lever_at n };
 
-pub fn is_ad(m: EtcsMode) -> bool
-    ensures { result ≡ is_ad m }
-{
-    match m {
-        EtcsMode::Other => false,
-        EtcsMode::AD => true,
+    fn from(n: u8) -> DriverLever {
+        match n {
+            0 => DriverLever::Neutral,
+            1 => DriverLever::Traction,
+            _ => DriverLever::Brake,
+        }
     }
-}
-
-pub fn is_neutral(l: DriverLever) -> bool
-    ensures { result ≡ is_neutral l }
-{
-    match l {
-        DriverLever::Neutral => true,
-        DriverLever::Traction => false,
-        DriverLever::Brake => false,
-    }
-}
-
-pub fn is_brake(l: DriverLever) -> bool
-    ensures { result ≡ is_brake l }
-{
-    match l {
-        DriverLever::Neutral => false,
-        DriverLever::Traction => false,
-        DriverLever::Brake => true,
-    }
-}
-
-pub fn same(a: State, b: State) -> bool
-    ensures { result ≡ is a b }
-{
-    code_of(a) == code_of(b)
 }
 
 // ---- the places "power" and "state" of the table of numbers
 
-fn power_rows(s: State, kind: u8) -> Verdict
-    ensures { verdict_view result ≡ power_rows s kind }
+#[tactic(auto, unfolding(crate::specs::Numbers::power_rows))]
+fn power_rows(s: State, kind: EventKind) -> Result<(), Refusal>
+    ensures { judged result ≡ power_rows s (kind_number kind) }
 {
-    if same(s, State::NP) {
-        return if kind == POWER_ON {
-            Verdict::Accepted
-        } else {
-            Verdict::Refused(3)
-        };
+    match (s, kind) {
+        (State::NP, EventKind::PowerOn) => Ok(()),
+        (State::NP, _) => Err(Refusal::NoPower),
+        (_, EventKind::PowerOn) => Err(Refusal::Powered),
+        (State::FA, EventKind::PowerOff) => Ok(()),
+        (State::FA, _) => Err(Refusal::Fault),
+        _ => Ok(()),
     }
-    if kind == POWER_ON {
-        return Verdict::Refused(4);
-    }
-    if same(s, State::FA) {
-        return if kind == POWER_OFF {
-            Verdict::Accepted
-        } else {
-            Verdict::Refused(5)
-        };
-    }
-    Verdict::Accepted
 }
 
-fn state_row(s: State, kind: u8) -> Verdict
-    ensures { verdict_view result ≡ state_row s kind }
+#[tactic(auto, unfolding(crate::specs::Numbers::state_row))]
+fn state_row(s: State, kind: EventKind) -> Result<(), Refusal>
+    ensures { judged result ≡ state_row s (kind_number kind) }
 {
-    if kind == CONFIGURED {
-        return if same(s, State::CO) {
-            Verdict::Accepted
-        } else {
-            Verdict::Refused(6)
-        };
+    match (s, kind) {
+        (State::CO, EventKind::Configured) => Ok(()),
+        (_, EventKind::Configured) => Err(Refusal::State),
+        (State::RE, EventKind::Press) => Ok(()),
+        (_, EventKind::Press) => Err(Refusal::State),
+        _ => Ok(()),
     }
-    if kind == PRESS {
-        return if same(s, State::RE) {
-            Verdict::Accepted
-        } else {
-            Verdict::Refused(6)
-        };
-    }
-    Verdict::Accepted
 }
 
 // Both places, one after the other.
-pub fn state_rows(s: State, kind: u8) -> Verdict
-    ensures { verdict_view result ≡ state_rows s kind }
+#[tactic(auto, unfolding(crate::specs::Numbers::state_rows))]
+pub fn state_rows(s: State, kind: EventKind) -> Result<(), Refusal>
+    ensures { judged result ≡ state_rows s (kind_number kind) }
 {
-    match power_rows(s, kind) {
-        Verdict::Accepted => state_row(s, kind),
-        Verdict::Refused(n) => Verdict::Refused(n),
-    }
+    power_rows(s, kind)?;
+    state_row(s, kind)
 }

@@ -3,11 +3,11 @@
 
 ghost use Rattle.std.specs.Prelude.{◌≡◌, false, not, ◌&&◌, ◌||◌};
 ghost use Rattle.state_codes.specs.Codes.{is_ad, is_brake};
-ghost use Rattle.states.specs.States.{machine, T, N, U, from_re, from_eg, from_de, by_state, machine_after, wanted, given};
+ghost use Rattle.states.specs.States.{machine, N, U, from_re, from_eg, from_de, by_state, machine_after, wanted, given};
 ghost use Rattle.states.specs.ControlGroup.{values_in, machine_in, control_after};
 
 use engine_value::{Control, Inputs};
-use event::{Event, Row, row_of};
+use event::{Event, Row};
 use state_codes::{DriverLever, EtcsMode, State};
 use status_word::OperationalConditions;
 
@@ -34,20 +34,11 @@ fn u(v: Values) -> State
     ensures { result ≡ U v }
 {
     if !v.O {
-        return State::NA;
-    }
-    if !v.T {
-        return State::AV;
-    }
-    let lever = v.lever;
-    if !state_codes::is_neutral(lever) {
-        return State::AV;
-    }
-    let mode = v.mode;
-    if state_codes::is_ad(mode) {
-        State::AV
-    } else {
+        State::NA
+    } else if v.T && v.lever == DriverLever::Neutral && v.mode == EtcsMode::Other {
         State::RE
+    } else {
+        State::AV
     }
 }
 
@@ -55,21 +46,7 @@ fn u(v: Values) -> State
 fn engages(press: bool, v: Values) -> bool
     ensures { result ≡ (press && (v.O && (v.T && (N v && is_ad v.mode)))) }
 {
-    if !press {
-        return false;
-    }
-    if !v.O {
-        return false;
-    }
-    if !v.T {
-        return false;
-    }
-    let lever = v.lever;
-    if !state_codes::is_neutral(lever) {
-        return false;
-    }
-    let mode = v.mode;
-    state_codes::is_ad(mode)
+    press && v.O && v.T && ad_neutral(v)
 }
 
 fn at_rest(s: State) -> Machine
@@ -87,14 +64,10 @@ fn from_re(press: bool, v: Values) -> Machine
     if engages(press, v) {
         return at_rest(State::EG);
     }
-    let s = u(v);
-    if !press {
-        return at_rest(s);
-    }
-    let stays = state_codes::same(s, State::RE);
+    let state = u(v);
     Machine {
-        state: s,
-        press: stays,
+        state,
+        press: press && state == State::RE,
     }
 }
 
@@ -102,27 +75,19 @@ fn from_re(press: bool, v: Values) -> Machine
 fn leaves(reached: bool, v: Values) -> bool
     ensures { result ≡ (is_brake v.lever || (not (is_ad v.mode) || reached)) }
 {
-    let lever = v.lever;
-    let mode = v.mode;
-    if state_codes::is_brake(lever) {
-        true
-    } else if state_codes::is_ad(mode) {
-        reached
-    } else {
-        true
-    }
+    v.lever == DriverLever::Brake || v.mode != EtcsMode::AD || reached
 }
 
 fn from_eg(reached: bool, v: Values) -> State
     ensures { result ≡ from_eg reached v }
 {
     if leaves(reached, v) {
-        return u(v);
+        u(v)
+    } else if v.O && v.T {
+        State::EG
+    } else {
+        State::DE
     }
-    if !v.O {
-        return State::DE;
-    }
-    if v.T { State::EG } else { State::DE }
 }
 
 fn from_de(v: Values) -> State
@@ -136,24 +101,21 @@ fn by_state(s: State, press: bool, reached: bool, v: Values) -> Machine
     ensures { result ≡ by_state s press reached v }
 {
     match s {
-        State::NP => at_rest(State::NP),
-        State::CO => at_rest(State::CO),
-        State::NA => at_rest(u(v)),
-        State::AV => at_rest(u(v)),
+        State::NP | State::CO | State::FA => at_rest(s),
+        State::NA | State::AV => at_rest(u(v)),
         State::RE => from_re(press, v),
         State::EG => at_rest(from_eg(reached, v)),
         State::DE => at_rest(from_de(v)),
-        State::FA => at_rest(State::FA),
     }
 }
 
 // State and press after an event.
+#[tactic(auto, unfolding(crate::specs::States::machine_after))]
 fn machine_after(m: Machine, event: Event, reached: bool, v: Values) -> Machine
     ensures { result ≡ machine_after m event reached v }
 {
     let s = m.state;
-    let row = row_of(event);
-    match row {
+    match event.row() {
         Row::SwitchOn => at_rest(State::CO),
         Row::Configure => at_rest(u(v)),
         Row::SwitchOff => at_rest(State::NP),
@@ -168,78 +130,52 @@ fn machine_after(m: Machine, event: Event, reached: bool, v: Values) -> Machine
 fn ad_neutral(v: Values) -> bool
     ensures { result ≡ (is_ad v.mode && N v) }
 {
-    let mode = v.mode;
-    if !state_codes::is_ad(mode) {
-        return false;
-    }
-    let lever = v.lever;
-    state_codes::is_neutral(lever)
+    v.mode == EtcsMode::AD && v.lever == DriverLever::Neutral
 }
 
 fn wanted(s: State, v: Values) -> bool
     ensures { result ≡ wanted s v }
 {
     match s {
-        State::NP => false,
-        State::CO => false,
-        State::NA => false,
+        State::NP | State::CO | State::NA | State::FA => false,
         State::AV => ad_neutral(v),
-        State::RE => true,
-        State::EG => true,
-        State::DE => true,
-        State::FA => false,
+        State::RE | State::EG | State::DE => true,
     }
 }
 
 fn given(s: State, v: Values, before: bool) -> bool
     ensures { result ≡ given s v before }
 {
-    if !wanted(s, v) {
-        return false;
-    }
-    let mode = v.mode;
-    if before {
-        true
-    } else {
-        !state_codes::is_ad(mode)
-    }
+    wanted(s, v) && (before || v.mode != EtcsMode::AD)
 }
 
 // ---- the control group
 
-fn train_conditions(reports: u8) -> bool
-    ensures { result ≡ T reports }
-{
-    reports / 16 % 2 == 1
-}
-
 fn values_in(inputs: Inputs, conditions: OperationalConditions) -> Values
     ensures { result ≡ values_in inputs conditions }
 {
-    let o = status_word::all_nine(conditions);
-    let t = train_conditions(inputs.reports);
-    let lever = state_codes::lever_at(inputs.lever);
-    let mode = state_codes::mode_at(inputs.mode);
     Values {
-        O: o,
-        T: t,
-        lever: lever,
-        mode: mode,
+        O: conditions.all_nine(),
+        T: wire::bit(inputs.reports, 4),
+        lever: DriverLever::from(inputs.lever),
+        mode: EtcsMode::from(inputs.mode),
     }
 }
 
-fn machine_in(c: Control) -> Machine
-    ensures { result ≡ machine_in c }
-{
-    let s = state_codes::state_at(c.state);
-    Machine {
-        state: s,
-        press: c.press,
+impl From<Control> for Machine {
+    ghost from_gives = { λ c m. m ≡ machine_in c };
+
+    fn from(c: Control) -> Machine {
+        Machine {
+            state: State::from(c.state),
+            press: c.press,
+        }
     }
 }
 
 // The control group after an event, from the inputs with those of the event already in them;
 // `reached`: a point became reached in this event; `conditions`: those after it.
+#[tactic(auto, unfolding(crate::specs::ControlGroup::control_after))]
 pub fn control_after(
     inputs: Inputs,
     c: Control,
@@ -250,13 +186,10 @@ pub fn control_after(
     ensures { result ≡ control_after inputs c event reached conditions }
 {
     let v = values_in(inputs, conditions);
-    let m = machine_after(machine_in(c), event, reached, v);
-    let s = m.state;
-    let request = given(s, v, c.request);
-    let code = state_codes::code_of(s);
+    let m = machine_after(Machine::from(c), event, reached, v);
     Control {
-        state: code,
+        state: u8::from(m.state),
         press: m.press,
-        request: request,
+        request: given(m.state, v, c.request),
     }
 }

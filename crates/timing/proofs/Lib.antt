@@ -1,4 +1,3 @@
-pub mod Signed
 pub mod Laws
 pub mod Steps
 pub mod Rule

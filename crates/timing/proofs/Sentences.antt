@@ -1,28 +1,28 @@
 -- The sentences: tests of a difference, the load's search one step at a time, and the report that stands in.
+use Rattle.std.specs.Prelude.{Option, Some, None, is_some}
 use Prim.Native.Nat.{ℕ, zero, suc, ◌+◌, ◌<◌, ◌≤◌}
-use mathlib.Core.Path.{◌≡◌, refl, sym, ap, subst, ◌∙◌}
+use mathlib.Core.Path.{◌≡◌, refl, sym, subst, ◌∙◌}
 use mathlib.Core.Logic.{◌↔◌, ◌⊎◌, inl, inr}
 use mathlib.Core.List.{List}
 use mathlib.Core.Bool.{Bool, true, false, false≢true}
 use native.Mathlib.Omega.{arith}
 use native.Mathlib.Nat.{eq-or-lt_of_le}
 use lib.ListN.{length, get_or-eq_default}
-use lib.IntN.{pos, neg_ℤ}
+use lib.IntN.{pos, neg_ℤ, ◌-ℤ◌}
 use lib.Signed.{lt_z, le_z}
 use lib.Dec.{eqb, ltb, leb}
 use borrow.Author.Tests.{ltb-true, lt-ltb, leb-true, le-leb, eqb-true, eq-eqb, ltb-false}
+use Rattle.std.proofs.lemmas.Int.{ints}
 use Rattle.wire.proofs.ListLaws.{and_left, and_right}
 use Rattle.engine_value.specs.Engine.{Route, fresh_position}
 use Rattle.engine_value.specs.declared.Point.{Point}
 use Rattle.engine_value.specs.declared.Position.{Position}
-use Rattle.position.specs.Position.{point_count, point, placed, front, front_at, is_known, known}
-use Rattle.position.specs.declared.Front.{Front}
-use Rattle.position.specs.declared.Front.TheVariants.{Known, Unknown}
+use Rattle.position.specs.declared.Named.{Named}
+use Rattle.position.specs.Position.{point_count, point, placed, segment_named, front, front_at, known}
 use Rattle.timing.specs.Distance.{Report, back, distance, unskipped, margin, exceeds, stops_at, beyond, moving}
 use Rattle.timing.specs.Load.{unskipped_report, put_behind, target_from, target}
 use Rattle.timing.specs.History.{report_number, settles}
 use Rattle.timing.specs.Sentences.{Sentences}
-use Rattle.timing.proofs.Signed.{minus_minus, above, least}
 use Rattle.timing.proofs.Laws.{beyond_known}
 
 -- ---- d, without a sign
@@ -32,7 +32,10 @@ module _ (f length : ℕ) (p : Point) (driver : Bool) where
   far = back length p.alignment + p.place
 
   exceeds_is : exceeds f length p driver ≡ ltb (margin p driver + far) f
-  exceeds_is = ap (lt_z (pos (margin p driver))) (minus_minus f (back length p.alignment) p.place) ∙ above (margin p driver) f far
+  exceeds_is = above (margin p driver) f (back length p.alignment) p.place
+    where
+      above : (m f b k : ℕ) → lt_z (pos m) (pos f -ℤ pos b -ℤ pos k) ≡ ltb (m + (b + k)) f
+      above m f b k = grind (arith, ints)
 
   beyond_margin : (exceeds f length p driver ≡ true) ↔ (p.place + back length p.alignment + margin p driver < f)
   beyond_margin = (
@@ -41,7 +44,10 @@ module _ (f length : ℕ) (p : Point) (driver : Bool) where
   )
 
   at_least_is : le_z (neg_ℤ (pos p.reach)) (distance f length p) ≡ leb far (f + p.reach)
-  at_least_is = ap (le_z (neg_ℤ (pos p.reach))) (minus_minus f (back length p.alignment) p.place) ∙ least p.reach f far
+  at_least_is = least p.reach f (back length p.alignment) p.place
+    where
+      least : (r f b k : ℕ) → le_z (neg_ℤ (pos r)) (pos f -ℤ pos b -ℤ pos k) ≡ leb (b + k) (f + r)
+      least r f b k = grind (arith, ints)
 
   at_stop_lem : (speed : ℕ)
       → (stops_at f length speed p driver ≡ true)
@@ -94,16 +100,16 @@ module _ (j : Route) (r : Report) where
           two true e = ltb-true i k e
           two false e = absurd (false≢true (sym q ∙ h k (omega arith) (ltb-false i k e)))
 
-known_front : (f : Front) → is_known f ≡ true → (n : ℕ) × (f ≡ Known n)
-known_front (Known n) e = (n, refl)
-known_front Unknown e = absurd (false≢true e)
+known_front : (f : Option ℕ) → is_some f ≡ true → (n : ℕ) × (f ≡ Some n)
+known_front (Some n) e = (n, refl)
+known_front None e = absurd (false≢true e)
 
 module _ (j : Route) (x : Position) (length k : ℕ) where
   abbrev r : Report
   r = unskipped_report x length
 
   abbrev Said : Type 0
-  Said = (k < point_count j) × ((f : ℕ) × (front_at j x ≡ Known f) × ((i : ℕ) → i ≤ k → (placed j i ≡ true) × (exceeds f length (point j i) false ≡ true)))
+  Said = (k < point_count j) × ((f : ℕ) × (front_at j x ≡ Some f) × ((i : ℕ) → i ≤ k → (placed j i ≡ true) × (exceeds f length (point j i) false ≡ true)))
 
   load_behind : (k < target j x length) ↔ Said
   unfolding target
@@ -123,15 +129,19 @@ module _ (j : Route) (x : Position) (length k : ℕ) where
 
 -- ---- the report that stands in
 
+nowhere : (s : Option Named) → front s fresh_position ≡ None
+unfolding front
+nowhere None = refl
+nowhere (Some s) = refl
+
 stand_in : (l : List Report) (t : ℕ) → (t ≡ 0) ⊎ (length l < t)
     → ((j : Route) (k : ℕ) → settles j (report_number l t) k ≡ false) × (moving (report_number l t) ≡ false)
-unfolding front
-stand_in l zero h = (λ j k. refl, refl)
+stand_in l zero h = (λ j k. rw (nowhere (segment_named j fresh_position)), refl)
 stand_in l (suc t) (inl e) = absurd (omega arith)
 stand_in l (suc t) (inr h) =
     subst (λ q. ((j : Route) (k : ℕ) → settles j q k ≡ false) × (moving q ≡ false))
     (sym (get_or-eq_default l (unskipped_report fresh_position 0) (omega arith)))
-    (λ j k. refl, refl)
+    (λ j k. rw (nowhere (segment_named j fresh_position)), refl)
 
 pub sentences : Sentences
 sentences = record {

@@ -69,10 +69,9 @@ targeted n = progress n false
 abbrev stopped : ℕ → Progress
 stopped n = progress n true
 
--- what a report brings: the progress after it, the first point looked at, departed, reached, placed before and after
-abbrev brings : Progress → ℕ → Bool → Bool → Bool → Bool → Reported
-brings p from departed reached before after =
-    record { progress = p; from = from; departed = departed; reached = reached; placed_before = before; placed_after = after }
+-- what a report brings: the progress after it, the first point looked at, departed, reached
+abbrev brings : Progress → ℕ → Bool → Bool → Reported
+brings p from departed reached = record { progress = p; from = from; departed = departed; reached = reached }
 
 -- where each point stands by the rule, from the number of points that the load put behind and the reports since
 abbrev stand : ℕ → List Report → List Standing
@@ -149,12 +148,11 @@ pub record Anchors : Type 0 where
   -- "a point reached in this event"
   pub became : map (λ r. became_reached journey r (targeted 0)) (one 39850 0 ∷ one 39850 1 ∷ two 40150 0 ∷ []) ≡ true ∷ false ∷ true ∷ []
   pub became_stays : map (λ r. became_reached journey r (stopped 0)) (one 39850 0 ∷ two 40150 0 ∷ []) ≡ false ∷ false ∷ []
-  pub report_departs : report_of journey (two 10302 1) (stopped 0) ≡ brings (targeted 3) 1 true false true true
-  pub report_stays : report_of journey (two 10302 0) (stopped 0) ≡ brings (stopped 0) 0 false false true true
-  pub report_passes : report_of journey (two 50000 9) (targeted 3) ≡ brings (targeted 4) 3 false false true false
-  pub report_reaches : report_of journey (two 40150 0) (targeted 1) ≡ brings (stopped 3) 1 false true true true
-  pub no_report_lem : no_report journey (targeted 4) ∷ no_report journey (stopped 0) ∷ []
-      ≡ brings (targeted 4) 4 false false false false ∷ brings (stopped 0) 0 false false true true ∷ []
+  pub report_departs : report_of journey (two 10302 1) (stopped 0) ≡ brings (targeted 3) 1 true false
+  pub report_stays : report_of journey (two 10302 0) (stopped 0) ≡ brings (stopped 0) 0 false false
+  pub report_passes : report_of journey (two 50000 9) (targeted 3) ≡ brings (targeted 4) 3 false false
+  pub report_reaches : report_of journey (two 40150 0) (targeted 1) ≡ brings (stopped 3) 1 false true
+  pub no_report_lem : no_report (targeted 4) ∷ no_report (stopped 0) ∷ [] ≡ brings (targeted 4) 4 false false ∷ brings (stopped 0) 0 false false ∷ []
   pub reports_in_turn : run journey (targeted 0) (two 10302 1 ∷ two 40150 0 ∷ []) ≡ stopped 3
   -- "status (0 passed, 1 stopped, 2 departed, 5 driver skip, 6 skip revoked)"
   pub statuses : status_passed ∷ status_stopped ∷ status_departed ∷ status_skipped ∷ status_revoked ∷ [] ≡ 0 ∷ 1 ∷ 2 ∷ 5 ∷ 6 ∷ []

@@ -1,13 +1,11 @@
 -- d and margin, at a position report.
-use Rattle.std.specs.Prelude.{ℕ, ◌/◌, Bool, false, not, ◌&&◌, get_or, ℤ, pos, neg_ℤ, ◌-ℤ◌, eqb, ltb, if◌then◌else◌}
+use Rattle.std.specs.Prelude.{ℕ, ◌/◌, Option, Some, None, Bool, false, not, ◌&&◌, get_or, ℤ, pos, neg_ℤ, ◌-ℤ◌, eqb, ltb, if◌then◌else◌}
 use Rattle.std.specs.Int.Signed.{lt_z, le_z}
 use Rattle.engine_value.specs.Engine.{Route}
 use Rattle.engine_value.specs.declared.Point.{Point}
 use Rattle.engine_value.specs.declared.Position.{Position}
 use Rattle.engine_value.specs.declared.Engine.{Engine}
 use Rattle.position.specs.Position.{point, front_at}
-use Rattle.position.specs.declared.Front.{Front}
-use Rattle.position.specs.declared.Front.TheVariants.{Known, Unknown}
 
 -- A position report, with the train length and the driver skips as they stood at it.
 pub record Report : Type 0 where
@@ -36,9 +34,9 @@ abbrev pub margin : Point → Bool → ℕ
 margin p driver = if unskipped p driver then p.reach else 0
 
 -- what holds of the front, where the position is known
-abbrev pub at_front : Front → (ℕ → Bool) → Bool
-at_front Unknown test = false
-at_front (Known f) test = test f
+abbrev pub at_front : Option ℕ → (ℕ → Bool) → Bool
+at_front None test = false
+at_front (Some f) test = test f
 
 -- "d > margin"
 abbrev pub exceeds : ℕ → ℕ → Point → Bool → Bool

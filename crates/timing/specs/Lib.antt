@@ -7,3 +7,4 @@ pub mod History
 pub mod Rule
 pub mod Anchors
 pub mod Sentences
+pub mod View

@@ -41,7 +41,7 @@ reported j r p = if stays r p then p else looked_from j r (first_looked r p)
 abbrev pub became_reached : Route → Report → Progress → Bool
 became_reached j r p = not (stays r p) && (reported j r p).reached
 
--- all that a report tells; its packets 62 follow from these (`report_changes`). Beside them, what condition 4 asks before and after it
+-- all that a report tells; its packets 62 follow from these (`report_changes`)
 abbrev pub report_of : Route → Report → Progress → Reported
 report_of j r p =
     record {
@@ -49,14 +49,11 @@ report_of j r p =
       from = first_looked r p;
       departed = departs r p;
       reached = became_reached j r p;
-      placed_before = placed j p.next;
-      placed_after = placed j (reported j r p).next;
     }
 
 -- where there is none
-abbrev pub no_report : Route → Progress → Reported
-no_report j p =
-    record { progress = p; from = p.next; departed = false; reached = false; placed_before = placed j p.next; placed_after = placed j p.next }
+abbrev pub no_report : Progress → Reported
+no_report p = record { progress = p; from = p.next; departed = false; reached = false }
 
 -- one report after the other
 unfoldable pub run : Route → Progress → List Report → Progress

@@ -1,10 +1,9 @@
 -- Document 01's sentences on the load and on the reports of a list, each beside the function that computes it.
-use Rattle.std.specs.Prelude.{ℕ, ◌+◌, ◌≤◌, ◌<◌, ◌≡◌, ◌↔◌, ◌⊎◌, List, Bool, true, false, length}
+use Rattle.std.specs.Prelude.{ℕ, ◌+◌, ◌≤◌, ◌<◌, ◌≡◌, ◌↔◌, ◌⊎◌, Some, List, Bool, true, false, length}
 use Rattle.engine_value.specs.Engine.{Route}
 use Rattle.engine_value.specs.declared.Point.{Point}
 use Rattle.engine_value.specs.declared.Position.{Position}
 use Rattle.position.specs.Position.{point_count, point, placed, front_at}
-use Rattle.position.specs.declared.Front.TheVariants.{Known}
 use Rattle.timing.specs.Distance.{Report, back, unskipped, margin, exceeds, stops_at, moving}
 use Rattle.timing.specs.Load.{target}
 use Rattle.timing.specs.History.{report_number, settles}
@@ -23,7 +22,7 @@ pub record Sentences : Type 0 where
   pub load_behind : (j : Route) (x : Position) (length k : ℕ)
       → (k < target j x length)
       ↔ ((k < point_count j)
-      × ((f : ℕ) × (front_at j x ≡ Known f) × ((i : ℕ) → i ≤ k → (placed j i ≡ true) × (exceeds f length (point j i) false ≡ true))))
+      × ((f : ℕ) × (front_at j x ≡ Some f) × ((i : ℕ) → i ≤ k → (placed j i ≡ true) × (exceeds f length (point j i) false ≡ true))))
   -- the report that stands in where a list has none of that number settles no point and does not move
   pub stand_in : (l : List Report) (t : ℕ) → (t ≡ 0) ⊎ (length l < t)
       → ((j : Route) (k : ℕ) → settles j (report_number l t) k ≡ false) × (moving (report_number l t) ≡ false)

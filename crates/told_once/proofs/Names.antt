@@ -2,7 +2,7 @@
 use mathlib.Core.Path.{◌≡◌, refl, sym, ◌∙◌, ap, subst}
 use mathlib.Core.Bool.{Bool, true, false, not, ◌||◌, false≢true}
 use mathlib.Core.List.{List, [], ◌∷◌, map}
-use mathlib.Core.Option.{Option, none, some}
+use Rattle.std.specs.Prelude.{Option, Some, None}
 use Prim.Native.Nat.{ℕ, zero, suc, ◌≤◌, ◌<◌}
 use native.Mathlib.Omega.{arith}
 use lib.Dec.{eqb}
@@ -19,7 +19,7 @@ use Rattle.book.specs.Table.{book_of}
 use Rattle.journey.specs.Journey.{JourneyValue, journey_value}
 use Rattle.journey.specs.declared.Name as journey_name
 use Rattle.journey.specs.declared.JourneyPoint.{JourneyPoint}
-use Rattle.journey.proofs.Filling.{filled_at}
+use Rattle.route.proofs.Filling.{filled_at}
 use Rattle.journey_rows.specs.Rows.{index_beyond, nidtps, ends}
 use Rattle.route.specs.Placing.{point_of, point_at, points_of}
 use Rattle.route.specs.Table.{point_missing, checked, journey_of}
@@ -29,9 +29,6 @@ use Rattle.route.proofs.Ranges.{load_fits}
 use Rattle.position.specs.Position.{point, point_count}
 use Rattle.call_values.specs.Call.{Call}
 use Rattle.whole_list.specs.Values.{History, load_of_call, role_of_call, route_loaded, route_by}
-
-zero_one : ◌≡◌ {A = ℕ} 0 1 → ⊥
-zero_one e = omega arith
 
 -- ---- a list in which no number stands twice
 
@@ -64,9 +61,9 @@ checked_once book j v = go (ten j) (eleven book j) refl (twelve (points_of book 
 
     go : (a b : Bool) → eleven book j ≡ b → (c : Bool)
         → then_judge (row 10 a) (λ u. then_judge (row 11 b) (λ u. then_judge (row 12 c) (λ u. accept j))) ≡ accept v → (j ≡ v) × (double ≡ false)
-    go true b q c e = absurd (zero_one (cc))
-    go false true q c e = absurd (zero_one (cc))
-    go false false q true e = absurd (zero_one (cc))
+    go true b q c e = cc
+    go false true q c e = cc
+    go false false q true e = cc
     go false false q false e = (cc, tells q)
 
 -- the points of a load bear the journey's NID_TPs
@@ -99,7 +96,7 @@ load_once journey bytes v read = go (book_of bytes) (journey_value journey) read
   where
     distinct : (book : List BookSegment) (j : JourneyValue) → (q : Judged JourneyValue) → checked book j ≡ q
         → then_judge q (λ j. accept (load_value book j)) ≡ accept v → Distinct v.route
-    distinct book j (refuse n) p e = absurd (zero_one (cc))
+    distinct book j (refuse n) p e = cc
     distinct book j (accept w) p e =
         let c = checked_once book j w p in
         let same : load_value book w ≡ v = cc in
@@ -108,8 +105,8 @@ load_once journey bytes v read = go (book_of bytes) (journey_value journey) read
 
     go : (b : Judged (List BookSegment)) (q : Judged JourneyValue)
         → then_judge b (λ book. then_judge (then_judge q (checked book)) (λ j. accept (load_value book j))) ≡ accept v → Distinct v.route
-    go (refuse n) q e = absurd (zero_one (cc))
-    go (accept book) (refuse n) e = absurd (zero_one (cc))
+    go (refuse n) q e = cc
+    go (accept book) (refuse n) e = cc
     go (accept book) (accept j) e = distinct book j (checked book j) refl e
 
 -- ---- for every history
@@ -117,12 +114,12 @@ load_once journey bytes v read = go (book_of bytes) (journey_value journey) read
 none-loaded : Distinct no_route
 none-loaded i k a b q = absurd (omega arith)
 
-load-of : (c : Call) (l : LoadValue) → load_of_call c ≡ some l → Distinct l.route
+load-of : (c : Call) (l : LoadValue) → load_of_call c ≡ Some l → Distinct l.route
 unfolding load_of_call
 load-of c l = go (load_of c.journey c.book) refl
   where
-    go : (v : Judged LoadValue) → load_of c.journey c.book ≡ v → elim v [ refuse n ↦ none | accept k ↦ some k ] ≡ some l → Distinct l.route
-    go (refuse n) q e = absurd (zero_one (cc))
+    go : (v : Judged LoadValue) → load_of c.journey c.book ≡ v → elim v [ refuse n ↦ None | accept k ↦ Some k ] ≡ Some l → Distinct l.route
+    go (refuse n) q e = cc
     go (accept k) q e = let z : k ≡ l = cc in subst (λ (x : LoadValue). Distinct x.route) z (load_once c.journey c.book k q)
 
 pub one_point : (h : History) → Distinct (route_by h)
@@ -131,8 +128,8 @@ one_point [] = none-loaded
 one_point (c ∷ h) = go (role_of_call c) (one_point h)
   where
     by : (o : Option LoadValue) → load_of_call c ≡ o → Distinct (route_by h) → Distinct (route_loaded o (route_by h))
-    by none e d = d
-    by (some l) e d = load-of c l e
+    by None e d = d
+    by (Some l) e d = load-of c l e
 
     go : (r : Role) → Distinct (route_by h)
         → Distinct (elim r [

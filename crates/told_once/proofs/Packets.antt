@@ -2,7 +2,7 @@
 use mathlib.Core.Path.{◌≡◌, refl, sym, ◌∙◌, ap}
 use mathlib.Core.Bool.{Bool, true, false, cond}
 use mathlib.Core.List.{List, [], ◌∷◌, ◌++◌, map, append-nil, append_assoc}
-use mathlib.Core.Option.{Option, none, some}
+use Rattle.std.specs.Prelude.{Option, Some, None}
 use Prim.Native.Nat.{ℕ}
 use Rattle.wire.specs.Lists.{All, those}
 use Rattle.wire.specs.Judged.Judged.{accept}
@@ -19,8 +19,6 @@ use Rattle.packets.specs.declared.Packet.{Packet}
 use Rattle.traction.specs.Requests.{written_content}
 use Rattle.packets.proofs.RoundTrips.{read-written}
 use Rattle.position.specs.Skips.{stop_named}
-use Rattle.position.specs.declared.Found.{Found}
-use Rattle.position.specs.declared.Found.TheVariants.{At, Nothing}
 use Rattle.conditions.specs.Conditions.{end_ahead}
 use Rattle.timing.specs.Changes.{Change, when, report_changes}
 use Rattle.call_values.specs.Call.{Call}
@@ -76,13 +74,13 @@ changed-in j l (c ∷ changes) = ap (λ (m : List Told). marked j c ∷ m) (chan
 module _ (j : Route) (x : Position) where
   of_65 : (o : Option Head) → told_of_each (received j x o) ≡ []
   unfolding told_of_each jp_received
-  of_65 none = refl
-  of_65 (some d) = refl
+  of_65 None = refl
+  of_65 (Some d) = refl
 
   of_61 : (o : Option Requested) → told_of_each (traction_brakes j x o) ≡ []
   unfolding told_of_each traction_brake
-  of_61 none = refl
-  of_61 (some r) = refl
+  of_61 None = refl
+  of_61 (Some r) = refl
 
   of_68 : (due : Bool) (s : ℕ) (n : OperationalConditions) → told_of_each (when due (ato_status j x s n)) ≡ []
   unfolding told_of_each ato_status
@@ -152,10 +150,10 @@ quiet h c r q n = call-tells h c ∙ go r q n
     j : Route
     j = route_by (c ∷ h)
 
-    skipped : (f : Found) (on ahead : Bool) → those counts (map (changed j) (skip_change f on ahead)) ≡ []
-    skipped Nothing on ahead = refl
-    skipped (At k) true ahead = refl
-    skipped (At k) false ahead = refl
+    skipped : (f : Option ℕ) (on ahead : Bool) → those counts (map (changed j) (skip_change f on ahead)) ≡ []
+    skipped None on ahead = refl
+    skipped (Some k) true ahead = refl
+    skipped (Some k) false ahead = refl
 
     go : (r : Role) → role_of_call c ≡ r → Quiet r → those counts (map (changed j) (changes_by h c)) ≡ []
     go off q n = rw (q, changes_by)

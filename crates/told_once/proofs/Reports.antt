@@ -5,7 +5,8 @@ use mathlib.Core.List.{List, [], ◌∷◌, ◌++◌, map, append-nil, append_as
 use Prim.Native.Nat.{ℕ, zero, suc, ◌+◌, ◌-◌, ◌≤◌, ◌<◌}
 use native.Mathlib.Omega.{arith}
 use Rattle.wire.specs.Lists.{those}
-use Rattle.wire.proofs.ListLaws.{map-append}
+use Rattle.std.proofs.lemmas.List.{map-append}
+use Rattle.std.proofs.lemmas.List.Elements.{filter-append}
 use Rattle.engine_value.specs.Engine.{Route, progress}
 use Rattle.engine_value.specs.declared.Progress.{Progress}
 use Rattle.position.specs.Position.{point_count}
@@ -14,7 +15,7 @@ use Rattle.timing.specs.Report.{departs, first_looked, reported, became_reached}
 use Rattle.timing.specs.Changes.{Change, change, status_passed, status_stopped, status_departed, passings, when, report_changes}
 use Rattle.timing.proofs.Steps.{InRange, following-is, looked_range, reported_stays, reported_departs, reported_looks}
 use Rattle.told_once.specs.Recording.{Told, stops, passes}
-use Rattle.told_once.proofs.Story.{those-append, tell, Story, passing, stopping, departing}
+use Rattle.told_once.proofs.Story.{tell, Story, passing, stopping, departing}
 
 -- the packets 62 that are looked at
 abbrev pub counts : Told → Bool
@@ -119,7 +120,7 @@ module _ (j : Route) where
   all_append : (a b : List Change) → those counts (map (marked j) a) ≡ map (marked j) a → those counts (map (marked j) b) ≡ map (marked j) b
       → those counts (map (marked j) (a ++ b)) ≡ map (marked j) (a ++ b)
   all_append a b e f =
-      ap (those counts) (map-append (marked j) a b) ∙ those-append counts (map (marked j) a) (map (marked j) b)
+      ap (those counts) (map-append (marked j) a b) ∙ filter-append counts (map (marked j) a) (map (marked j) b)
       ∙ ap (λ (l : List Told). l ++ those counts (map (marked j) b)) e ∙ ap (λ (l : List Told). map (marked j) a ++ l) f
       ∙ sym (map-append (marked j) a b)
 

@@ -3,54 +3,39 @@ use mathlib.Core.Path.{◌≡◌, refl, sym, ◌∙◌, ap, subst}
 use mathlib.Core.Logic.{◌⊎◌, inl, inr}
 use mathlib.Core.Bool.{Bool, true, false, cond, false≢true}
 use mathlib.Core.List.{List, [], ◌∷◌, ◌++◌, map, append-nil}
-use Prim.Native.Nat.{ℕ, zero, suc, ◌+◌, ◌-◌, ◌≤◌}
+use Prim.Native.Nat.{ℕ, ◌+◌, ◌-◌, ◌≤◌}
 use native.Mathlib.Omega.{arith}
 use lib.Dec.{eqb}
 use Rattle.wire.specs.Lists.{those}
-use Rattle.wire.proofs.ListLaws.{map-append}
+use Rattle.std.specs.List.{range_with_len}
+use Rattle.std.proofs.lemmas.List.{map-append}
+use Rattle.std.proofs.lemmas.List.Elements.{filter-append}
+use Rattle.std.proofs.lemmas.List.FromFn.{map-range_with_len_more}
 use Rattle.engine_value.specs.Engine.{Route, progress}
 use Rattle.engine_value.specs.declared.Progress.{Progress}
 use Rattle.timing.specs.Changes.{status_passed, status_stopped, status_departed}
 use Rattle.told_once.specs.Recording.{Name, Told, stops, passes}
 use Rattle.told_once.specs.ToldOnce.{name_of, names_in, StoppedBefore, last_stops}
 
-zero_one : ◌≡◌ {A = ℕ} 0 1 → ⊥
-zero_one e = omega arith
-
 -- ---- one more at the end of a list
 
-pub those-append : {A : Type 0} (f : A → Bool) (a b : List A) → those f (a ++ b) ≡ those f a ++ those f b
-those-append f [] b = refl
-those-append {A} f (x ∷ a) b = go (f x) (those-append f a b)
-  where
-    go : (t : Bool) → those f (a ++ b) ≡ those f a ++ those f b
-        → cond t (x ∷ those f (a ++ b)) (those f (a ++ b)) ≡ cond t (x ∷ those f a) (those f a) ++ those f b
-    go true e = ap (λ (l : List A). x ∷ l) e
-    go false e = e
-
-tail_same : {A : Type 0} {x y : A} {l m : List A} → x ∷ l ≡ y ∷ m → l ≡ m
-tail_same e = cc
-
-head_same : {A : Type 0} {x y : A} {l m : List A} → x ∷ l ≡ y ∷ m → x ≡ y
-head_same e = cc
-
 pub not_empty : {A : Type 0} (a b : List A) (t : A) → [] ≡ a ++ (t ∷ b) → ⊥
-not_empty [] b t e = zero_one (cc)
-not_empty (x ∷ a) b t e = zero_one (cc)
+not_empty [] b t e = cc
+not_empty (x ∷ a) b t e = cc
 
 -- a list with one more, parted at t: t is that one, or stands in the list
 abbrev pub Parted : {A : Type 0} → List A → List A → List A → A → A → Type 0
 Parted {A} l a b x t = ((l ≡ a) × (x ≡ t) × (b ≡ [])) ⊎ ((c : List A) × (l ≡ a ++ (t ∷ c)) × (b ≡ c ++ (x ∷ [])))
 
 pub parted : {A : Type 0} (l a b : List A) (x t : A) → l ++ (x ∷ []) ≡ a ++ (t ∷ b) → Parted l a b x t
-parted [] [] b x t e = inl (refl, head_same e, sym (tail_same e))
-parted [] (y ∷ a) b x t e = absurd (not_empty a b t (tail_same e))
-parted (z ∷ l) [] b x t e = inr (l, ap (λ y. y ∷ l) (head_same e), sym (tail_same e))
-parted {A} (z ∷ l) (y ∷ a) b x t e = go (parted l a b x t (tail_same e))
+parted [] [] b x t e = inl (refl, cc, cc)
+parted [] (y ∷ a) b x t e = absurd (not_empty a b t (cc))
+parted (z ∷ l) [] b x t e = inr (l, cc, cc)
+parted {A} (z ∷ l) (y ∷ a) b x t e = go (parted l a b x t (cc))
   where
     go : Parted l a b x t → Parted (z ∷ l) (y ∷ a) b x t
-    go (inl (p, q, r)) = inl (ap (λ (m : List A). z ∷ m) p ∙ ap (λ w. w ∷ a) (head_same e), q, r)
-    go (inr (c, p, q)) = inr (c, ap (λ (m : List A). z ∷ m) p ∙ ap (λ w. w ∷ (a ++ (t ∷ c))) (head_same e), q)
+    go (inl (p, q, r)) = inl (cc, q, r)
+    go (inr (c, p, q)) = inr (c, cc, q)
 
 pub last_is : (b : Bool) (l : List Told) (t : Told) → last_stops b (l ++ (t ∷ [])) ≡ stops t
 unfolding last_stops
@@ -58,11 +43,6 @@ last_is b [] t = refl
 last_is b (x ∷ l) t = last_is (stops x) l t
 
 -- ---- the story
-
--- the n numbers from k on
-unfoldable pub numbers : ℕ → ℕ → List ℕ
-numbers k zero = []
-numbers k (suc n) = numbers k n ++ ((k + n) ∷ [])
 
 module _ (j : Route) where
   -- what a packet 62 of point k and a status tells
@@ -80,19 +60,19 @@ module _ (j : Route) where
 
   pub record Story (start : ℕ) (p : Progress) (told : List Told) : Type 0 where
     pub low : start ≤ p.next
-    pub names : names_in (those passes told) ≡ map (name_of j) (numbers start (p.next - start))
+    pub names : names_in (those passes told) ≡ map (name_of j) (range_with_len start (p.next - start))
     pub departures : Departures told
     pub follows : Follows told
     pub resting : p.reached ≡ true → (earlier : List Told) × (told ≡ earlier ++ (tell p.next status_stopped ∷ []))
     pub last : last_stops false told ≡ p.reached
 
   pub begins : (start : ℕ) → Story start (progress start false) []
-  unfolding numbers last_stops
+  unfolding last_stops
   begins start =
       let z : start - start ≡ 0 = omega arith in
       record {
         low = omega arith;
-        names = sym (ap (λ n. map (name_of j) (numbers start n)) z);
+        names = sym (ap (λ n. map (name_of j) (range_with_len start n)) z);
         departures = λ before t after e s. absurd (not_empty before after t e);
         follows = λ before t after e s. absurd (not_empty before after t e);
         resting = λ e. absurd (false≢true e);
@@ -125,17 +105,14 @@ module _ (j : Route) where
         go (inl (a, b, c)) = inl c
         go (inr (c, a, b)) = subst Then (sym b) (further c a (f before s c a q))
 
-    one_more : start ≤ k → map (name_of j) (numbers start (k - start)) ++ (name_of j k ∷ []) ≡ map (name_of j) (numbers start (k + 1 - start))
-    unfolding numbers
+    one_more : start ≤ k → map (name_of j) (range_with_len start (k - start)) ++ (name_of j k ∷ []) ≡ map (name_of j) (range_with_len start (k + 1 - start))
     one_more l =
-        let z : k + 1 - start ≡ suc (k - start) = omega arith in
-        let y : start + (k - start) ≡ k = omega arith in
-        sym (ap (λ n. map (name_of j) (numbers start n)) z ∙ map-append (name_of j) (numbers start (k - start)) _
-        ∙ ap (λ n. map (name_of j) (numbers start (k - start)) ++ (name_of j n ∷ [])) y)
+        let z : k + 1 - start ≡ k - start + 1 = omega arith in
+        sym (ap (λ n. map (name_of j) (range_with_len start n)) z ∙ map-range_with_len_more (name_of j) start (k - start) k (omega arith))
 
     names_more : (t : Told) → passes t ≡ true → names_in (those passes (told ++ (t ∷ []))) ≡ names_in (those passes told) ++ (t.name ∷ [])
     names_more t e =
-        ap names_in (those-append passes told (t ∷ [])) ∙ map-append (λ (x : Told). x.name) (those passes told) _
+        ap names_in (filter-append passes told (t ∷ [])) ∙ map-append (λ (x : Told). x.name) (those passes told) _
         ∙ ap (λ b. names_in (those passes told) ++ names_in (cond b (t ∷ []) [])) e
 
     pub passing : Story start (progress k false) told → Story start (progress (k + 1) false) (told ++ (tell k status_passed ∷ []))
@@ -151,7 +128,7 @@ module _ (j : Route) where
     pub stopping : Story start (progress k false) told → Story start (progress k true) (told ++ (tell k status_stopped ∷ []))
     stopping s = record {
       low = s.low;
-      names = ap names_in (those-append passes told (tell k status_stopped ∷ [])) ∙ ap names_in (append-nil (those passes told)) ∙ s.names;
+      names = ap names_in (filter-append passes told (tell k status_stopped ∷ [])) ∙ ap names_in (append-nil (those passes told)) ∙ s.names;
       departures = no_departure (tell k status_stopped) (λ e. omega arith) s.departures;
       follows = one_follows (tell k status_stopped) (λ e. absurd (false≢true (sym s.last ∙ e))) s.follows;
       resting = λ e. (told, refl);

@@ -7,9 +7,13 @@ use mathlib.Core.List.{List, [], ◌∷◌, ◌++◌, map, append-nil}
 use Prim.Native.Nat.{ℕ, zero, suc, ◌+◌, ◌-◌, min, ◌≤◌, ◌<◌}
 use native.Mathlib.Omega.{arith}
 use lib.Dec.{eqb, ltb, leb}
-use lib.ListN.{length}
+use lib.ListN.{length, length-map}
 use borrow.Author.Tests.{ltb-true, ltb-false, leb-true, leb-false, eqb-true}
 use Rattle.wire.specs.Lists.{any, those, tabulate}
+use Rattle.std.specs.List.{range_with_len}
+use Rattle.std.proofs.lemmas.List.{map-id}
+use Rattle.std.proofs.lemmas.List.Elements.{filter-append}
+use Rattle.std.proofs.lemmas.List.FromFn.{length-range_with_len, map-range_with_len_more}
 use Rattle.wire.proofs.ListLaws.{or-false, tabulate_more}
 use Rattle.engine_value.specs.Engine.{Route}
 use Rattle.engine_value.specs.declared.Progress.{Progress}
@@ -27,46 +31,35 @@ use Rattle.whole_list.proofs.TableChanges.{standing-reached}
 use Rattle.whole_list.proofs.Engaged.{stands_exactly}
 use Rattle.told_once.specs.Recording.{Name, Told, departs, passes}
 use Rattle.told_once.specs.ToldOnce.{name_of, indices, passed_since, StoppedLast, last_stops, standing_told, ToldOnce, InOrder}
-use Rattle.told_once.proofs.Story.{those-append, not_empty, Parted, parted, last_is, numbers, tell}
+use Rattle.told_once.proofs.Story.{not_empty, Parted, parted, last_is, tell}
 use Rattle.told_once.proofs.Calls.{StoryBy, story}
 use Rattle.told_once.proofs.Names.{one_point}
 
 -- ---- the numbers below n that are from s on and below m
 
-chosen : (f : ℕ → Bool) (s m n : ℕ) → ((k : ℕ) → k < n → f k ≡ (leb s k && ltb k m)) → those f (tabulate n (λ k. k)) ≡ numbers s (min m n - s)
-unfolding numbers
-chosen f s m zero e = let z : min m 0 - s ≡ 0 = omega arith in sym (ap (numbers s) z)
+range_more : (s n k : ℕ) → s + n ≡ k → range_with_len s (n + 1) ≡ range_with_len s n ++ (k ∷ [])
+range_more s n k e =
+    sym (map-id (range_with_len s (n + 1))) ∙ map-range_with_len_more (λ i. i) s n k e ∙ ap (λ l. l ++ (k ∷ [])) (map-id (range_with_len s n))
+
+chosen : (f : ℕ → Bool) (s m n : ℕ) → ((k : ℕ) → k < n → f k ≡ (leb s k && ltb k m)) → those f (tabulate n (λ k. k)) ≡ range_with_len s (min m n - s)
+chosen f s m zero e = let z : min m 0 - s ≡ 0 = omega arith in sym (ap (range_with_len s) z)
 chosen f s m (suc n) e =
-    ap (those f) (tabulate_more n (λ k. k)) ∙ those-append f (tabulate n (λ k. k)) (n ∷ [])
+    ap (those f) (tabulate_more n (λ k. k)) ∙ filter-append f (tabulate n (λ k. k)) (n ∷ [])
     ∙ ap (λ (l : List ℕ). l ++ those f (n ∷ [])) (chosen f s m n (λ k l. e k (omega arith)))
-    ∙ ap (λ b. numbers s (min m n - s) ++ cond b (n ∷ []) []) (e n (omega arith))
+    ∙ ap (λ b. range_with_len s (min m n - s) ++ cond b (n ∷ []) []) (e n (omega arith))
     ∙ go (leb s n) refl (ltb n m) refl
   where
-    one_less : min m (suc n) - s ≡ min m n - s → numbers s (min m n - s) ++ [] ≡ numbers s (min m (suc n) - s)
-    one_less z = append-nil (numbers s (min m n - s)) ∙ ap (numbers s) (sym z)
+    one_less : min m (suc n) - s ≡ min m n - s → range_with_len s (min m n - s) ++ [] ≡ range_with_len s (min m (suc n) - s)
+    one_less z = append-nil (range_with_len s (min m n - s)) ∙ ap (range_with_len s) (sym z)
 
-    go : (a : Bool) → leb s n ≡ a → (b : Bool) → ltb n m ≡ b → numbers s (min m n - s) ++ cond (a && b) (n ∷ []) [] ≡ numbers s (min m (suc n) - s)
+    go : (a : Bool) → leb s n ≡ a → (b : Bool) → ltb n m ≡ b → range_with_len s (min m n - s) ++ cond (a && b) (n ∷ []) [] ≡ range_with_len s (min m (suc n) - s)
     go true p true q =
         let l : s ≤ n = leb-true s n p in
         let h : n < m = ltb-true n m q in
-        let z : min m (suc n) - s ≡ suc (min m n - s) = omega arith in
-        let y : s + (min m n - s) ≡ n = omega arith in
-        ap (λ x. numbers s (min m n - s) ++ (x ∷ [])) (sym y) ∙ ap (numbers s) (sym z)
+        let z : min m (suc n) - s ≡ min m n - s + 1 = omega arith in
+        sym (ap (range_with_len s) z ∙ range_more s (min m n - s) n (omega arith))
     go true p false q = let h : m ≤ n = ltb-false n m q in one_less (omega arith)
     go false p b q = let l : n < s = leb-false s n p in one_less (omega arith)
-
-numbers-length : (s n : ℕ) → length (numbers s n) ≡ n
-unfolding numbers
-numbers-length s zero = refl
-numbers-length s (suc n) = go (numbers s n) ∙ ap suc (numbers-length s n)
-  where
-    go : (l : List ℕ) → length (l ++ ((s + n) ∷ [])) ≡ suc (length l)
-    go [] = refl
-    go (x ∷ l) = ap suc (go l)
-
-map-length : {A B : Type 0} (f : A → B) (l : List A) → length (map f l) ≡ length l
-map-length f [] = refl
-map-length f (x ∷ l) = ap suc (map-length f l)
 
 -- ---- where a point stands, by the progress
 
@@ -110,16 +103,16 @@ module _ (h : History) (told : List Told) (s : StoryBy h told) where
   since_is : (k : ℕ) → k < point_count j → passed_since h k ≡ (leb (behind_at_load h) k && ltb k p.next)
   since_is k l = ap (λ b. leb (behind_at_load h) k && b) (ap is_passed (sym (stands_at h k l)) ∙ passed_below p k)
 
-  those_passed : those (passed_since h) (indices j) ≡ numbers (behind_at_load h) (p.next - behind_at_load h)
+  those_passed : those (passed_since h) (indices j) ≡ range_with_len (behind_at_load h) (p.next - behind_at_load h)
   those_passed =
       let z : min p.next (point_count j) ≡ p.next = omega (arith, (in-range h).most) in
-      chosen (passed_since h) (behind_at_load h) p.next (point_count j) since_is ∙ ap (λ n. numbers (behind_at_load h) (n - behind_at_load h)) z
+      chosen (passed_since h) (behind_at_load h) p.next (point_count j) since_is ∙ ap (λ n. range_with_len (behind_at_load h) (n - behind_at_load h)) z
 
   first_ahead_lem : behind_at_load h + length (those passes told) ≡ p.next
   first_ahead_lem =
       let z : length (those passes told) ≡ p.next - behind_at_load h =
-      sym (map-length (λ (t : Told). t.name) (those passes told)) ∙ ap length s.names
-      ∙ map-length (name_of j) (numbers (behind_at_load h) (p.next - behind_at_load h)) ∙ numbers-length (behind_at_load h) (p.next - behind_at_load h) in
+      sym (length-map (those passes told) (λ (t : Told). t.name)) ∙ ap length s.names
+      ∙ length-map (range_with_len (behind_at_load h) (p.next - behind_at_load h)) (name_of j) ∙ length-range_with_len (behind_at_load h) (p.next - behind_at_load h) in
       omega (arith, s.low)
 
   told_standing : (k : ℕ) → standing_told (behind_at_load h) told k ≡ standing p k

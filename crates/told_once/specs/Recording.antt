@@ -8,7 +8,8 @@ use Rattle.packets.specs.Packets.{packet_of}
 use Rattle.packets.specs.declared.TimingPoint.{TimingPoint}
 use Rattle.packets.specs.declared.Packet.{Packet}
 use Rattle.timing.specs.Changes.{status_passed, status_stopped, status_departed, when}
-use Rattle.call_values.specs.Call.{Call, Accepted}
+use Rattle.call_values.specs.Call.{Call}
+use Rattle.call_values.specs.declared.Accepted.{Accepted}
 use Rattle.whole_list.specs.Values.{role_of_call}
 use Rattle.whole_list.specs.Calls.{Done, trace}
 use Rattle.whole_list.specs.Recorded.{recorded_by}

@@ -44,7 +44,7 @@ requests = record {
 }
 
 views : Views
-views = record { groups = refl; told = refl; answers = refl }
+views = record { groups = refl; told = refl }
 
 pub anchors : Anchors
 anchors = record { in_ranges = in_ranges; requests = requests; views = views }

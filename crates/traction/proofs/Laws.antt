@@ -1,10 +1,11 @@
--- There is no range beyond the last; no request, no packet; when range or Q_ATO_SupTB change; the engine's group holds what is remembered.
-use Rattle.std.specs.Prelude.{if◌then◌else◌}
-use mathlib.Core.Path.{◌≡◌, refl, sym, ap, ◌∙◌}
+-- The lowest range; no request, no packet; when range or Q_ATO_SupTB change; the engine's group holds what is remembered.
+use Rattle.std.specs.Prelude.{Option, Some, None, if◌then◌else◌}
+use mathlib.Core.Path.{◌≡◌, refl, sym, ap}
 use mathlib.Core.Logic.{◌≢◌, ◌↔◌, ◌⊎◌, inl, inr}
 use mathlib.Core.Bool.{Bool, true, false, not, ◌||◌, false≢true}
-use mathlib.Core.Option.{Option, none, some}
-use Prim.Native.Nat.{ℕ, zero, suc}
+use mathlib.Core.List.{List, [], ◌∷◌}
+use Prim.Native.Nat.{ℕ, zero, suc, ◌≤◌, ◌<◌}
+use lib.ListN.{length}
 use native.Mathlib.Omega.{arith}
 use lib.Dec.{eqb}
 use borrow.Author.Tests.{eqb-true, eqb-false}
@@ -14,55 +15,52 @@ use Rattle.event.specs.declared.Event.{Event}
 use Rattle.state_codes.specs.declared.State.{State}
 use Rattle.state_codes.specs.declared.State.TheVariants.{NP, CO, NA, AV, RE, EG, DE, FA}
 use Rattle.packets.specs.declared.Requested.{Requested}
-use Rattle.traction.specs.Ranges.{ranges, holds_at}
-use Rattle.traction.specs.Requests.{Remembered, driving, changed, content_if, written_content}
+use Rattle.traction.specs.Ranges.{Range, holds_at, lowest}
+use Rattle.traction.specs.Requests.{driving, changed, content_if, written_content}
+use Rattle.traction.specs.declared.Remembered.{Remembered}
 use Rattle.traction.specs.View.{remembered_in, traction_of}
 
-pub holds-none : (k size : ℕ) → (k ≡ 0 → ⊥) → (k ≡ 1 → ⊥) → (k ≡ 2 → ⊥) → (k ≡ 3 → ⊥) → (k ≡ 4 → ⊥) → false ≡ holds_at ranges k size
-holds-none zero size p q r s t = absurd (p refl)
-holds-none (suc zero) size p q r s t = absurd (q refl)
-holds-none (suc (suc zero)) size p q r s t = absurd (r refl)
-holds-none (suc (suc (suc zero))) size p q r s t = absurd (s refl)
-holds-none (suc (suc (suc (suc zero)))) size p q r s t = absurd (t refl)
-holds-none (suc (suc (suc (suc (suc k))))) size p q r s t = refl
-
-pub none_made : (b : Bool) → none ≡ content_if b none
-none_made true = refl
-none_made false = refl
+-- the lowest range that holds a size, as a search finds it
+pub lowest_is : (rs : List Range) (size k : ℕ) → k ≤ length rs → ((i : ℕ) → i < k → holds_at rs i size ≡ false) → (k < length rs → holds_at rs k size ≡ true)
+    → k ≡ lowest rs size
+lowest_is [] size k l b h = omega arith
+lowest_is (r ∷ rs) size zero l b h = rw (h (omega arith))
+lowest_is (r ∷ rs) size (suc k) l b h =
+    rw (b 0 (omega arith)) (ap suc (lowest_is rs size k (omega arith) (λ i m. b (suc i) (omega arith)) (λ m. h (omega arith))))
 
 -- an event that makes no request writes none
-pub not_written : (s : State) (event : Event) (before after : Option Remembered) → (carried event).traction ≡ none → written_content s event before after ≡ none
+pub not_written : (s : State) (event : Event) (before after : Option Remembered) → (carried event).traction ≡ None → written_content s event before after ≡ None
 not_written s event before after q = go (driving s) (changed before after) (carried event).traction q
   where
-    go : (a b : Bool) (o : Option TractionRequest) → o ≡ none → content_if b (if a then o else none) ≡ none
+    go : (a b : Bool) (o : Option TractionRequest) → o ≡ None → content_if b (if a then o else None) ≡ None
     go true true o q = ap (content_if true) q
     go true false o q = refl
     go false true o q = refl
     go false false o q = refl
 
 -- none before, or others after
-pub changed_exactly : (before after : Option Remembered) → (changed before after ≡ true) ↔ ((before ≡ none) ⊎ (after ≢ before))
-changed_exactly none after = ((λ q. inl refl), (λ q. refl))
-changed_exactly (some b) none = ((λ q. inr (λ e. none_some (sym e))), (λ q. refl))
+pub changed_exactly : (before after : Option Remembered) → (changed before after ≡ true) ↔ ((before ≡ None) ⊎ (after ≢ before))
+changed_exactly None after = ((λ q. inl refl), (λ q. refl))
+changed_exactly (Some b) None = ((λ q. inr (λ e. none_some (sym e))), (λ q. refl))
   where
-    none_some : some b ≡ none → ⊥
+    none_some : Some b ≡ None → ⊥
     none_some e = let z : ◌≡◌ {A = ℕ} 0 1 = cc in omega arith
-changed_exactly (some b) (some a) = go (eqb a.range b.range) refl (eqb a.suptb b.suptb) refl
+changed_exactly (Some b) (Some a) = go (eqb a.range b.range) refl (eqb a.suptb b.suptb) refl
   where
-    same : some a ≡ some b → a ≡ b
+    same : Some a ≡ Some b → a ≡ b
     same e = cc
 
-    none_some : some b ≡ none → ⊥
+    none_some : Some b ≡ None → ⊥
     none_some e = let z : ◌≡◌ {A = ℕ} 0 1 = cc in omega arith
 
-    go : (p : Bool) → eqb a.range b.range ≡ p → (q : Bool) → eqb a.suptb b.suptb ≡ q → ((not p || not q) ≡ true) ↔ ((some b ≡ none) ⊎ (some a ≢ some b))
+    go : (p : Bool) → eqb a.range b.range ≡ p → (q : Bool) → eqb a.suptb b.suptb ≡ q → ((not p || not q) ≡ true) ↔ ((Some b ≡ None) ⊎ (Some a ≢ Some b))
     go true i true j =
         let equal : a ≡ b = λ k. record { range = eqb-true a.range b.range i k; suptb = eqb-true a.suptb b.suptb j k } in
         ((λ e. absurd (false≢true e)), (λ d. absurd (no d equal)))
       where
-        no : (some b ≡ none) ⊎ (some a ≢ some b) → a ≡ b → ⊥
+        no : (Some b ≡ None) ⊎ (Some a ≢ Some b) → a ≡ b → ⊥
         no (inl e) s = none_some e
-        no (inr n) s = n (ap some s)
+        no (inr n) s = n (ap Some s)
     go true i false j = ((λ e. inr (λ s. eqb-false a.suptb b.suptb j (ap (λ (r : Remembered). r.suptb) (same s)))), (λ d. refl))
     go false i q j = ((λ e. inr (λ s. eqb-false a.range b.range i (ap (λ (r : Remembered). r.range) (same s)))), (λ d. refl))
 
@@ -85,23 +83,23 @@ driving_exactly s = (which s, is_driving)
 
 -- what is written, is the content of a request made in EG or DE that changes something
 module _ (s : State) (event : Event) (before after : Option Remembered) where
-  pub written_inv : (r : Requested) → written_content s event before after ≡ some r
-      → (driving s ≡ true) × (changed before after ≡ true) × ((x : TractionRequest) × ((carried event).traction ≡ some x))
+  pub written_inv : (r : Requested) → written_content s event before after ≡ Some r
+      → (driving s ≡ true) × (changed before after ≡ true) × ((x : TractionRequest) × ((carried event).traction ≡ Some x))
   written_inv r q = go (driving s) (changed before after) (carried event).traction q
     where
-      no : {A : Type 0} → none ≡ some r → A
+      no : {A : Type 0} → None ≡ Some r → A
       no e = let z : ◌≡◌ {A = ℕ} 0 1 = cc in absurd (omega arith)
 
-      go : (a b : Bool) (o : Option TractionRequest) → content_if b (if a then o else none) ≡ some r → (a ≡ true) × (b ≡ true) × ((x : TractionRequest) × (o ≡ some x))
-      go true true none q = no q
-      go true true (some x) q = (refl, refl, (x, refl))
+      go : (a b : Bool) (o : Option TractionRequest) → content_if b (if a then o else None) ≡ Some r → (a ≡ true) × (b ≡ true) × ((x : TractionRequest) × (o ≡ Some x))
+      go true true None q = no q
+      go true true (Some x) q = (refl, refl, (x, refl))
       go true false o q = no q
       go false true o q = no q
       go false false o q = no q
 
-  pub written_is : (x : TractionRequest) → driving s ≡ true → changed before after ≡ true → (carried event).traction ≡ some x → written_content s event before after ≡ some x.content
+  pub written_is : (x : TractionRequest) → driving s ≡ true → changed before after ≡ true → (carried event).traction ≡ Some x → written_content s event before after ≡ Some x.content
   written_is x a b q = rw (a, b, q)
 
 pub told_again : (m : Option Remembered) → remembered_in (traction_of m) ≡ m
-told_again none = refl
-told_again (some r) = refl
+told_again None = refl
+told_again (Some r) = refl

@@ -1,6 +1,5 @@
 -- Values worked out by hand from document 02, Q-1, which the definitions must give.
-use Rattle.std.specs.Prelude.{ℕ, ◌≡◌, Bool, true, false, List, [], ◌∷◌, map, replicate}
-use Rattle.std.proofs.Math.Option.{Option, none, some}
+use Rattle.std.specs.Prelude.{ℕ, ◌≡◌, Bool, true, false, Option, Some, None, List, [], ◌∷◌, map, replicate}
 use Rattle.engine_value.specs.declared.Traction.{Traction}
 use Rattle.event.specs.Kinds.{kinds}
 use Rattle.event.specs.declared.TractionRequest.{TractionRequest}
@@ -9,9 +8,8 @@ use Rattle.packets.specs.declared.Requested.{Requested}
 use Rattle.state_codes.specs.declared.State.{State}
 use Rattle.state_codes.specs.declared.State.TheVariants.{NP, CO, NA, AV, RE, EG, DE, FA}
 use Rattle.traction.specs.Ranges.{ranges, holds_at, lowest, range_after}
-use Rattle.traction.specs.Requests.{Remembered, remembered, requested, driving, made, forgets, remembered_after, changed, written_content}
-use Rattle.traction.specs.View.{remembered_in, traction_of, own_view}
-use Rattle.traction.specs.declared.Own.{Own}
+use Rattle.traction.specs.Requests.{remembered, requested, driving, made, forgets, remembered_after, changed, written_content}
+use Rattle.traction.specs.View.{remembered_in, traction_of}
 
 -- ---- the ranges
 
@@ -25,7 +23,7 @@ held_by k = map (holds_at ranges k) sizes
 -- the ranges of requests one after the other, from range k
 abbrev pub ranges_from : Option ℕ → List ℕ → List ℕ
 ranges_from o [] = []
-ranges_from o (n ∷ l) = range_after o n ∷ ranges_from (some (range_after o n)) l
+ranges_from o (n ∷ l) = range_after o n ∷ ranges_from (Some (range_after o n)) l
 
 pub record InRanges : Type 0 where
   -- "range 0 (0), 1 (1-27), 2 (23-77), 3 (73-95) or 4 (91-100)", and no sixth one
@@ -40,18 +38,18 @@ pub record InRanges : Type 0 where
       ≡ false ∷ false ∷ false ∷ false ∷ false ∷ false ∷ false ∷ false ∷ false ∷ false ∷ false ∷ true ∷ true ∷ true ∷ true ∷ false ∷ []
   pub range5 : held_by 5 ≡ replicate 16 false
   -- "the lowest that does", where none was before
-  pub first : map (range_after none) sizes ≡ 0 ∷ 1 ∷ 1 ∷ 1 ∷ 1 ∷ 2 ∷ 2 ∷ 2 ∷ 2 ∷ 3 ∷ 3 ∷ 3 ∷ 3 ∷ 4 ∷ 4 ∷ 5 ∷ []
+  pub first : map (range_after None) sizes ≡ 0 ∷ 1 ∷ 1 ∷ 1 ∷ 1 ∷ 2 ∷ 2 ∷ 2 ∷ 2 ∷ 3 ∷ 3 ∷ 3 ∷ 3 ∷ 4 ∷ 4 ∷ 5 ∷ []
   pub lowest_one : map (lowest ranges) (0 ∷ 25 ∷ 75 ∷ 92 ∷ []) ≡ 0 ∷ 1 ∷ 2 ∷ 3 ∷ []
   -- "It stays in the range it had while that range holds it, else takes the lowest that does": from each range
-  pub from_0 : map (range_after (some 0)) sizes ≡ 0 ∷ 1 ∷ 1 ∷ 1 ∷ 1 ∷ 2 ∷ 2 ∷ 2 ∷ 2 ∷ 3 ∷ 3 ∷ 3 ∷ 3 ∷ 4 ∷ 4 ∷ 5 ∷ []
-  pub from_1 : map (range_after (some 1)) sizes ≡ 0 ∷ 1 ∷ 1 ∷ 1 ∷ 1 ∷ 2 ∷ 2 ∷ 2 ∷ 2 ∷ 3 ∷ 3 ∷ 3 ∷ 3 ∷ 4 ∷ 4 ∷ 5 ∷ []
-  pub from_2 : map (range_after (some 2)) sizes ≡ 0 ∷ 1 ∷ 1 ∷ 2 ∷ 2 ∷ 2 ∷ 2 ∷ 2 ∷ 2 ∷ 3 ∷ 3 ∷ 3 ∷ 3 ∷ 4 ∷ 4 ∷ 5 ∷ []
-  pub from_3 : map (range_after (some 3)) sizes ≡ 0 ∷ 1 ∷ 1 ∷ 1 ∷ 1 ∷ 2 ∷ 2 ∷ 3 ∷ 3 ∷ 3 ∷ 3 ∷ 3 ∷ 3 ∷ 4 ∷ 4 ∷ 5 ∷ []
-  pub from_4 : map (range_after (some 4)) sizes ≡ 0 ∷ 1 ∷ 1 ∷ 1 ∷ 1 ∷ 2 ∷ 2 ∷ 2 ∷ 2 ∷ 3 ∷ 3 ∷ 4 ∷ 4 ∷ 4 ∷ 4 ∷ 5 ∷ []
+  pub from_0 : map (range_after (Some 0)) sizes ≡ 0 ∷ 1 ∷ 1 ∷ 1 ∷ 1 ∷ 2 ∷ 2 ∷ 2 ∷ 2 ∷ 3 ∷ 3 ∷ 3 ∷ 3 ∷ 4 ∷ 4 ∷ 5 ∷ []
+  pub from_1 : map (range_after (Some 1)) sizes ≡ 0 ∷ 1 ∷ 1 ∷ 1 ∷ 1 ∷ 2 ∷ 2 ∷ 2 ∷ 2 ∷ 3 ∷ 3 ∷ 3 ∷ 3 ∷ 4 ∷ 4 ∷ 5 ∷ []
+  pub from_2 : map (range_after (Some 2)) sizes ≡ 0 ∷ 1 ∷ 1 ∷ 2 ∷ 2 ∷ 2 ∷ 2 ∷ 2 ∷ 2 ∷ 3 ∷ 3 ∷ 3 ∷ 3 ∷ 4 ∷ 4 ∷ 5 ∷ []
+  pub from_3 : map (range_after (Some 3)) sizes ≡ 0 ∷ 1 ∷ 1 ∷ 1 ∷ 1 ∷ 2 ∷ 2 ∷ 3 ∷ 3 ∷ 3 ∷ 3 ∷ 3 ∷ 3 ∷ 4 ∷ 4 ∷ 5 ∷ []
+  pub from_4 : map (range_after (Some 4)) sizes ≡ 0 ∷ 1 ∷ 1 ∷ 1 ∷ 1 ∷ 2 ∷ 2 ∷ 2 ∷ 2 ∷ 3 ∷ 3 ∷ 4 ∷ 4 ∷ 4 ∷ 4 ∷ 5 ∷ []
   -- "27 coming from 20 stays in range 1, 28 moves to 2, 23 stays in 2, 22 returns to 1"
-  pub worked : ranges_from none (20 ∷ 27 ∷ 28 ∷ 23 ∷ 22 ∷ []) ≡ 1 ∷ 1 ∷ 2 ∷ 2 ∷ 1 ∷ []
+  pub worked : ranges_from None (20 ∷ 27 ∷ 28 ∷ 23 ∷ 22 ∷ []) ≡ 1 ∷ 1 ∷ 2 ∷ 2 ∷ 1 ∷ []
   -- the lowest also on a jump: 75 from range 1 and from range 4, 25 from range 3; 92 from 3 stays
-  pub jumps : range_after (some 1) 75 ∷ range_after (some 4) 75 ∷ range_after (some 3) 25 ∷ range_after (some 3) 92 ∷ [] ≡ 2 ∷ 2 ∷ 1 ∷ 3 ∷ []
+  pub jumps : range_after (Some 1) 75 ∷ range_after (Some 4) 75 ∷ range_after (Some 3) 25 ∷ range_after (Some 3) 92 ∷ [] ≡ 2 ∷ 2 ∷ 1 ∷ 3 ∷ []
 
 -- ---- what is remembered, and the packet
 
@@ -71,44 +69,43 @@ asked = request 0xE9 0x55
 pub record Requests : Type 0 where
   pub of : remembered 3 200 ≡ record { range = 3; suptb = 200 }
   -- "Its size without sign": 23 and −23, 100 and −100, 0, −1. "Q_ATO_SupTB": the third byte
-  pub sizes : map (requested none) (request 23 7 ∷ asked ∷ request 100 7 ∷ request 0x9C 7 ∷ request 0 7 ∷ request 0xFF 7 ∷ [])
+  pub sizes : map (requested None) (request 23 7 ∷ asked ∷ request 100 7 ∷ request 0x9C 7 ∷ request 0 7 ∷ request 0xFF 7 ∷ [])
       ≡ remembered 1 7 ∷ remembered 1 0x55 ∷ remembered 4 7 ∷ remembered 4 7 ∷ remembered 0 7 ∷ remembered 1 7 ∷ []
-  pub from_2 : requested (some (remembered 2 7)) asked ≡ remembered 2 0x55
+  pub from_2 : requested (Some (remembered 2 7)) asked ≡ remembered 2 0x55
   -- "In EG or DE": the states in the order of their codes
   pub in_state_lem : map driving states ≡ false ∷ false ∷ false ∷ false ∷ false ∷ true ∷ true ∷ false ∷ []
-  pub made_in : map (λ s. made s (Event.Traction asked)) states ≡ none ∷ none ∷ none ∷ none ∷ none ∷ some asked ∷ some asked ∷ none ∷ []
-  pub made_by : map (made EG) (Event.Mode 1 ∷ Event.Press ∷ Event.Traction asked ∷ []) ≡ none ∷ none ∷ some asked ∷ []
+  pub made_in : map (λ s. made s (Event.Traction asked)) states ≡ None ∷ None ∷ None ∷ None ∷ None ∷ Some asked ∷ Some asked ∷ None ∷ []
+  pub made_by : map (made EG) (Event.Mode 1 ∷ Event.Press ∷ Event.Traction asked ∷ []) ≡ None ∷ None ∷ Some asked ∷ []
   -- "entering EG forgets both": from each state but EG; no other state does, nor does leaving EG; power off does
   pub entering : map (λ s. forgets s (Event.Mode 1) EG) states ≡ true ∷ true ∷ true ∷ true ∷ true ∷ false ∷ true ∷ true ∷ []
   pub leaving : map (forgets EG (Event.Mode 1)) states ≡ replicate 8 false
   pub elsewhere : map (forgets RE (Event.Mode 1)) states ≡ false ∷ false ∷ false ∷ false ∷ false ∷ true ∷ false ∷ false ∷ []
   pub off : map (λ e. forgets AV e AV) kinds ≡ false ∷ false ∷ true ∷ replicate 11 false
   -- kind 14 in each state: "In CO, NA, AV and RE the event is accepted and changes nothing"
-  pub stored : map (λ s. remembered_after s (Event.Traction asked) s (some (remembered 4 7))) states
-      ≡ some (remembered 4 7) ∷ some (remembered 4 7) ∷ some (remembered 4 7) ∷ some (remembered 4 7) ∷ some (remembered 4 7)
-      ∷ some (remembered 1 0x55) ∷ some (remembered 1 0x55) ∷ some (remembered 4 7) ∷ []
-  pub stored_first : map (λ s. remembered_after s (Event.Traction asked) s none) states
-      ≡ none ∷ none ∷ none ∷ none ∷ none ∷ some (remembered 1 0x55) ∷ some (remembered 1 0x55) ∷ none ∷ []
+  pub stored : map (λ s. remembered_after s (Event.Traction asked) s (Some (remembered 4 7))) states
+      ≡ Some (remembered 4 7) ∷ Some (remembered 4 7) ∷ Some (remembered 4 7) ∷ Some (remembered 4 7) ∷ Some (remembered 4 7)
+      ∷ Some (remembered 1 0x55) ∷ Some (remembered 1 0x55) ∷ Some (remembered 4 7) ∷ []
+  pub stored_first : map (λ s. remembered_after s (Event.Traction asked) s None) states
+      ≡ None ∷ None ∷ None ∷ None ∷ None ∷ Some (remembered 1 0x55) ∷ Some (remembered 1 0x55) ∷ None ∷ []
   -- from EG to DE, to AV; into EG; power off
-  pub kept : map (λ s. remembered_after EG (Event.Reports 0) s (some (remembered 4 7))) (DE ∷ AV ∷ []) ≡ some (remembered 4 7) ∷ some (remembered 4 7) ∷ []
-  pub forgotten : remembered_after RE (Event.Mode 1) EG (some (remembered 4 7)) ∷ remembered_after EG Event.PowerOff NP (some (remembered 4 7)) ∷ [] ≡ none ∷ none ∷ []
+  pub kept : map (λ s. remembered_after EG (Event.Reports 0) s (Some (remembered 4 7))) (DE ∷ AV ∷ []) ≡ Some (remembered 4 7) ∷ Some (remembered 4 7) ∷ []
+  pub forgotten : remembered_after RE (Event.Mode 1) EG (Some (remembered 4 7)) ∷ remembered_after EG Event.PowerOff NP (Some (remembered 4 7)) ∷ [] ≡ None ∷ None ∷ []
   -- "on a change of range or of Q_ATO_SupTB": none before; the same; another range; the lowest and the highest bit of Q_ATO_SupTB; none after
-  pub changes : changed none (some (remembered 0 0)) ∷ changed (some (remembered 1 7)) (some (remembered 1 7)) ∷ changed (some (remembered 1 7)) (some (remembered 2 7))
-      ∷ changed (some (remembered 1 7)) (some (remembered 1 6)) ∷ changed (some (remembered 1 7)) (some (remembered 1 0x87)) ∷ changed (some (remembered 1 7)) none ∷ []
+  pub changes : changed None (Some (remembered 0 0)) ∷ changed (Some (remembered 1 7)) (Some (remembered 1 7)) ∷ changed (Some (remembered 1 7)) (Some (remembered 2 7))
+      ∷ changed (Some (remembered 1 7)) (Some (remembered 1 6)) ∷ changed (Some (remembered 1 7)) (Some (remembered 1 0x87)) ∷ changed (Some (remembered 1 7)) None ∷ []
       ≡ true ∷ false ∷ true ∷ true ∷ true ∷ true ∷ []
   -- "In EG or DE the packet is written", with the event's content
-  pub written_in : map (λ s. written_content s (Event.Traction asked) none (some (remembered 1 0x55))) states
-      ≡ none ∷ none ∷ none ∷ none ∷ none ∷ some (content 0x55) ∷ some (content 0x55) ∷ none ∷ []
-  pub unchanged : written_content EG (Event.Traction asked) (some (remembered 1 0x55)) (some (remembered 1 0x55)) ≡ none
-  pub not_asked : written_content EG (Event.Mode 1) none none ≡ none
+  pub written_in : map (λ s. written_content s (Event.Traction asked) None (Some (remembered 1 0x55))) states
+      ≡ None ∷ None ∷ None ∷ None ∷ None ∷ Some (content 0x55) ∷ Some (content 0x55) ∷ None ∷ []
+  pub unchanged : written_content EG (Event.Traction asked) (Some (remembered 1 0x55)) (Some (remembered 1 0x55)) ≡ None
+  pub not_asked : written_content EG (Event.Mode 1) None None ≡ None
 
--- the engine's group, and the answer of the code
+-- the engine's group
 pub record Views : Type 0 where
-  pub groups : map {B = Traction} traction_of (none ∷ some (remembered 3 200) ∷ [])
+  pub groups : map {B = Traction} traction_of (None ∷ Some (remembered 3 200) ∷ [])
       ≡ record { remembered = false; range = 0; suptb = 0; spare = 0 } ∷ record { remembered = true; range = 3; suptb = 200; spare = 0 } ∷ []
   pub told : map remembered_in (record { remembered = false; range = 3; suptb = 200; spare = 0 } ∷ record { remembered = true; range = 3; suptb = 200; spare = 0 } ∷ [])
-      ≡ none ∷ some (remembered 3 200) ∷ []
-  pub answers : map own_view (Own.Nothing ∷ Own.TractionBrake (content 9) ∷ []) ≡ none ∷ some (content 9) ∷ []
+      ≡ None ∷ Some (remembered 3 200) ∷ []
 
 pub record Anchors : Type 0 where
   pub in_ranges : InRanges

@@ -1,6 +1,5 @@
 -- Document 02, Q-1: the range of a traction request.
-use Rattle.std.specs.Prelude.{ℕ, zero, suc, Bool, false, ◌&&◌, List, [], ◌∷◌, leb, if◌then◌else◌}
-use Rattle.std.proofs.Math.Option.{Option, none, some}
+use Rattle.std.specs.Prelude.{ℕ, zero, suc, Bool, false, ◌&&◌, Option, Some, None, List, [], ◌∷◌, leb, if◌then◌else◌}
 
 -- the least and the greatest size that a range holds
 pub record Range : Type 0 where
@@ -30,5 +29,5 @@ lowest (r ∷ rs) size = if holds r size then 0 else suc (lowest rs size)
 
 -- "It stays in the range it had while that range holds it, else takes the lowest that does."
 abbrev pub range_after : Option ℕ → ℕ → ℕ
-range_after none size = lowest ranges size
-range_after (some k) size = if holds_at ranges k size then k else lowest ranges size
+range_after None size = lowest ranges size
+range_after (Some k) size = if holds_at ranges k size then k else lowest ranges size

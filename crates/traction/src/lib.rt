@@ -2,175 +2,149 @@
 #![tactic(auto)]
 
 ghost use Rattle.std.specs.Prelude.{◌≡◌};
-ghost use Rattle.std.proofs.Math.Option.{some};
-ghost use Rattle.event.specs.Kinds.{carried};
 ghost use Rattle.state_codes.specs.Codes.{state_at};
-ghost use Rattle.traction.specs.Ranges.{range, holds, ranges, holds_at, lowest, range_after};
-ghost use Rattle.traction.specs.Requests.{remembered, range_in, driving, forgets, with_request, remembered_after, changed, written_content};
-ghost use Rattle.traction.specs.View.{remembered_in, traction_of, own_view};
+ghost use Rattle.traction.specs.Ranges.{lowest, ranges, range_after, holds_at};
+ghost use Rattle.traction.specs.Requests.{requested, driving, made, forgets, remembered_after, changed, written_content};
+ghost use Rattle.traction.specs.View.{remembered_in, traction_of};
 
 use engine_value::Traction;
-use event::Event;
+use event::{Event, Role, TractionRequest};
 use packets::Requested;
 use state_codes::State;
 
-// What one kind of event alone writes: nothing, or a packet 61 with its content.
-#[derive(Clone, Copy)]
-pub enum Own {
-    Nothing,
-    TractionBrake(Requested),
+// Range and Q_ATO_SupTB of a request.
+#[derive(Clone, Copy, PartialEq, Eq)]
+pub struct Remembered {
+    pub range: u8,
+    pub suptb: u8,
 }
 
 // ---- the ranges
 
-fn within(size: u8, low: u8, high: u8) -> bool
-    ensures { result ≡ holds (range low high) size }
-{
-    (low <= size) & (size <= high)
-}
+// The least and the greatest size that each range holds.
+const RANGES: [(u8, u8); 5] = [(0, 0), (1, 27), (23, 77), (73, 95), (91, 100)];
 
 // Range k holds the size.
 fn holds(k: u8, size: u8) -> bool
     ensures { result ≡ holds_at ranges k size }
 {
-    match k {
-        0 => within(size, 0, 0),
-        1 => within(size, 1, 27),
-        2 => within(size, 23, 77),
-        3 => within(size, 73, 95),
-        4 => within(size, 91, 100),
-        _ => false,
-    }
+    RANGES
+        .get(k as usize)
+        .is_some_and(|&(low, high)| (low..=high).contains(&size))
 }
 
 // The lowest range that holds the size; 5 where none does.
 fn lowest(size: u8) -> u8
     ensures { result ≡ lowest ranges size }
 {
-    if holds(0, size) {
-        return 0;
-    }
-    if holds(1, size) {
-        return 1;
-    }
-    if holds(2, size) {
-        return 2;
-    }
-    if holds(3, size) {
-        return 3;
-    }
-    if holds(4, size) {
-        return 4;
-    }
-    5
+    (0..5).find(|k| holds(*k, size)).unwrap_or(5)
 }
 
 // The range of a request, from the one before.
-fn range_after(m: Traction, size: u8) -> u8
-    ensures { result ≡ range_after (range_in (remembered_in m)) size }
+fn range_after(before: Option<u8>, size: u8) -> u8
+    ensures { result ≡ range_after before size }
 {
-    if !m.remembered {
-        return lowest(size);
-    }
-    if holds(m.range, size) {
-        return m.range;
-    }
-    lowest(size)
+    before
+        .filter(|k| holds(*k, size))
+        .unwrap_or_else(|| lowest(size))
 }
 
 // ---- what is remembered
 
+// The engine's group has a flag with values beside it, for the C layout; here it is an Option. `From` may not join two types of other crates.
+fn remembered_in(t: Traction) -> Option<Remembered>
+    ensures { result ≡ remembered_in t }
+{
+    if t.remembered {
+        Some(Remembered {
+            range: t.range,
+            suptb: t.suptb,
+        })
+    } else {
+        None
+    }
+}
+
+fn traction_of(m: Option<Remembered>) -> Traction
+    ensures { result ≡ traction_of m }
+{
+    m.map_or(
+        engine_value::no_traction(),
+        |r| Traction {
+            remembered: true,
+            range: r.range,
+            suptb: r.suptb,
+            spare: 0,
+        },
+    )
+}
+
 fn driving(s: State) -> bool
     ensures { result ≡ driving s }
 {
-    state_codes::same(s, State::EG) | state_codes::same(s, State::DE)
+    s == State::EG || s == State::DE
+}
+
+// The request of an event that comes in that state.
+fn made(s: State, v: Event) -> Option<TractionRequest>
+    ensures { result ≡ made s v }
+{
+    if let Event::Traction(x) = v
+        && driving(s)
+    {
+        Some(x)
+    } else {
+        None
+    }
 }
 
 // Power off, or EG is entered.
 fn forgets(before: State, v: Event, after: State) -> bool
     ensures { result ≡ forgets before v after }
 {
-    if event::is_power_off(v) {
-        return true;
-    }
-    state_codes::same(after, State::EG) & !state_codes::same(before, State::EG)
+    matches!(v.role(), Role::Off) || (after == State::EG && before != State::EG)
 }
 
-fn remember(range: u8, suptb: u8) -> Traction
-    ensures { result ≡ traction_of (some (remembered range suptb)) }
+// A request's range and its Q_ATO_SupTB, after those of the request before.
+fn requested(m: Option<Remembered>, x: TractionRequest) -> Remembered
+    ensures { result ≡ requested m x }
 {
-    Traction {
-        remembered: true,
-        range: range,
-        suptb: suptb,
-        spare: 0,
+    Remembered {
+        range: range_after(m.map(|r| r.range), wire::magnitude(x.request)),
+        suptb: x.content.q_ato_suptb,
     }
-}
-
-fn kept(m: Traction) -> Traction
-    ensures { result ≡ traction_of (remembered_in m) }
-{
-    if m.remembered {
-        remember(m.range, m.suptb)
-    } else {
-        engine_value::no_traction()
-    }
-}
-
-fn with_request(m: Traction, v: Event) -> Traction
-    ensures { result ≡ traction_of (with_request (remembered_in m) (carried v).traction) }
-{
-    if let Event::Traction(x) = v {
-        let content = x.content;
-        let range = range_after(m, wire::magnitude(x.request));
-        return remember(range, content.q_ato_suptb);
-    }
-    kept(m)
 }
 
 // What is remembered after an event in the state `before`, which led to `after`.
-pub fn traction_after(before: u8, v: Event, after: u8, m: Traction) -> Traction
-    ensures { result ≡ traction_of (remembered_after (state_at before) v (state_at after) (remembered_in m)) }
+pub fn traction_after(before: u8, v: Event, after: u8, t: Traction) -> Traction
+    ensures { result ≡ traction_of (remembered_after (state_at before) v (state_at after) (remembered_in t)) }
 {
-    let s = state_codes::state_at(before);
-    if forgets(s, v, state_codes::state_at(after)) {
-        return engine_value::no_traction();
-    }
-    if driving(s) {
-        with_request(m, v)
+    let before = State::from(before);
+    let m = remembered_in(t);
+    let kept = made(before, v).map(|x| requested(m, x)).or(m);
+    if forgets(before, v, State::from(after)) {
+        engine_value::no_traction()
     } else {
-        kept(m)
+        traction_of(kept)
     }
 }
 
 // ---- the packet
 
 // Nothing was remembered, or range or Q_ATO_SupTB are others.
-fn changed(before: Traction, after: Traction) -> bool
-    ensures { result ≡ changed (remembered_in before) (remembered_in after) }
+fn changed(before: Option<Remembered>, after: Option<Remembered>) -> bool
+    ensures { result ≡ changed before after }
 {
-    if !before.remembered {
-        return true;
-    }
-    if !after.remembered {
-        return true;
-    }
-    (after.range != before.range) | (after.suptb != before.suptb)
+    before.is_none() || before != after
 }
 
-// The packet 61 of an event in that state.
-pub fn own_of(state: u8, v: Event, before: Traction, after: Traction) -> Own
-    ensures { own_view result ≡ written_content (state_at state) v (remembered_in before) (remembered_in after) }
+// The content of the packet 61 that an event in that state writes, if it does.
+pub fn content_written(state: u8, v: Event, before: Traction, after: Traction) -> Option<Requested>
+    ensures { result ≡ written_content (state_at state) v (remembered_in before) (remembered_in after) }
 {
-    if !driving(state_codes::state_at(state)) {
-        return Own::Nothing;
+    if changed(remembered_in(before), remembered_in(after)) {
+        made(State::from(state), v).map(|x| x.content)
+    } else {
+        None
     }
-    if !changed(before, after) {
-        return Own::Nothing;
-    }
-    if let Event::Traction(x) = v {
-        let content = x.content;
-        return Own::TractionBrake(content);
-    }
-    Own::Nothing
 }

@@ -1,9 +1,8 @@
 -- In every history the values that conditions and packets look at are within their ranges: each was read with its range, or is fresh.
-use Rattle.std.specs.Prelude.{if◌then◌else◌}
+use Rattle.std.specs.Prelude.{if◌then◌else◌, Option, Some, None}
 use mathlib.Core.Path.{◌≡◌, refl}
 use mathlib.Core.Bool.{Bool, true, false, false≢true}
 use mathlib.Core.List.{List, [], ◌∷◌}
-use mathlib.Core.Option.{Option, none, some}
 use Prim.Native.Nat.{ℕ, zero, suc, ◌≤◌, ◌<◌}
 use native.Mathlib.Omega.{arith}
 use lib.ListN.{get_or, replicate, take}
@@ -41,8 +40,8 @@ carried-in : (e : Event) (x : Position) → Fits e → PositionFits x → Positi
 carried-in e x h k = go (carried e).position (position_of e)
   where
     go : (o : Option Position) → OfPosition o e → PositionFits (newer o x)
-    go none q = k
-    go (some y) q = position_fits y (rw q at h)
+    go None q = k
+    go (Some y) q = position_fits y (rw q at h)
 
 fresh_in : PositionFits fresh_position
 fresh_in = record { nidc = omega arith; nidsp = omega arith; offset = omega arith; speed = omega arith }
@@ -59,12 +58,12 @@ position_in (c ∷ h) = go (is_off (role_of_call c)) _ (carried-in (event_of_cal
 -- ---- the load in force
 
 -- the load of a call, where it has one
-pub load-in : (c : Call) (l : LoadValue) → load_of_call c ≡ some l → LoadFits l
+pub load-in : (c : Call) (l : LoadValue) → load_of_call c ≡ Some l → LoadFits l
 unfolding load_of_call
 load-in c l = go (load_of c.journey c.book) refl
   where
-    go : (v : Judged LoadValue) → load_of c.journey c.book ≡ v → elim v [ refuse n ↦ none | accept k ↦ some k ] ≡ some l → LoadFits l
-    go (refuse n) q e = let z : ◌≡◌ {A = ℕ} 0 1 = cc in absurd (omega arith)
+    go : (v : Judged LoadValue) → load_of c.journey c.book ≡ v → elim v [ refuse n ↦ None | accept k ↦ Some k ] ≡ Some l → LoadFits l
+    go (refuse n) q e = cc
     go (accept k) q e = let z : k ≡ l = cc in rw (← z) (load_fits c.journey c.book k q)
 
 pub record RouteIn (j : Route) : Type 0 where
@@ -98,8 +97,8 @@ route-in [] = none_in
 route-in (c ∷ h) = go (role_of_call c) (route-in h)
   where
     by : (o : Option LoadValue) → load_of_call c ≡ o → RouteIn (route_by h) → RouteIn (route_loaded o (route_by h))
-    by none e k = k
-    by (some l) e k = loaded-in l (load-in c l e)
+    by None e k = k
+    by (Some l) e k = loaded-in l (load-in c l e)
 
     go : (r : Role) → RouteIn (route_by h)
         → RouteIn (elim r [ off ↦ no_route | load ↦ route_loaded (load_of_call c) (route_by h) | report ↦ route_by h | other ↦ route_by h | skip t on ↦ route_by h ])

@@ -1,6 +1,5 @@
 -- The history of accepted calls as a run of the states: engagement and AD request by their sentences.
-use Rattle.std.specs.Prelude.{if◌then◌else◌}
-use mathlib.Core.Option.{Option, none, some}
+use Rattle.std.specs.Prelude.{if◌then◌else◌, Option, Some, None}
 use mathlib.Core.Path.{◌≡◌, refl, sym, ◌∙◌, ap}
 use mathlib.Core.Logic.{◌↔◌}
 use mathlib.Core.Bool.{Bool, true, false, false≢true}
@@ -41,11 +40,8 @@ use Rattle.whole_list.specs.WholeList.{Requested}
 use Rattle.whole_list.proofs.FieldsReached.{newly}
 use Rattle.whole_list.proofs.TableRows.{event-is}
 
-zero_one : ◌≡◌ {A = ℕ} 0 1 → ⊥
-zero_one e = omega arith
-
 then_accepts : {A B : Type 0} (m : Judged A) (f : A → Judged B) (b : B) → then_judge m f ≡ accept b → (a : A) × (m ≡ accept a) × (f a ≡ accept b)
-then_accepts (refuse n) f b e = absurd (zero_one (cc))
+then_accepts (refuse n) f b e = cc
 then_accepts (accept a) f b e = (a, refl, e)
 
 -- ---- histories of accepted calls: no row of the table refuses a call after those before it
@@ -119,15 +115,15 @@ abbrev new_mode : Event → ℕ → ℕ
 new_mode e n = if is_off (role_of e) then 0 else newer ((carried e).number mode) n
 
 never : {A : Type 0} → Other ≡ AD → A
-never e = absurd (zero_one (cc))
+never e = cc
 
 mode-by : (e : Event) (n : ℕ) → mode_at n ≡ Other → mode_at (new_mode e n) ≡ AD → e ≡ Mode 1
 mode-by e n a b = go (is_off (role_of e)) ((carried e).number mode) (mode_of e) b
   where
     go : (f : Bool) (o : Option ℕ) → OfMode o e → mode_at (if f then 0 else newer o n) ≡ AD → e ≡ Mode 1
     go true o k b = never b
-    go false none k b = never (sym a ∙ b)
-    go false (some m) k b = k ∙ ap Mode (mode_AD m b)
+    go false None k b = never (sym a ∙ b)
+    go false (Some m) k b = k ∙ ap Mode (mode_AD m b)
 
 mode-report : (c : Call) (h : History) → (values_by h).mode ≡ Other → (values_by (c ∷ h)).mode ≡ AD → event_of_call c ≡ Mode 1
 unfolding values_by latest

@@ -1,5 +1,5 @@
 -- The whole engine as a function of the history, and that it shows what the rules show.
-use Rattle.std.specs.Prelude.{if◌then◌else◌}
+use Rattle.std.specs.Prelude.{Option, Some, None, IfSome, if◌then◌else◌}
 use mathlib.Core.Path.{◌≡◌, refl, sym, ◌∙◌, ap}
 use mathlib.Core.Bool.{Bool, true, false, not, ◌&&◌, ◌||◌}
 use mathlib.Core.List.{List, [], ◌∷◌, map}
@@ -11,8 +11,7 @@ use lib.Seq.{get_or-set_same, get_or-set_other}
 use borrow.Author.Tests.{eqb-true, eqb-false}
 use Rattle.wire.specs.Numbers.{flag}
 use Rattle.status_word.specs.Word.{conditions_of}
-use Rattle.engine_value.specs.Engine.{train_of, inputs_of, Route, no_skips, progress, blank_point}
-use Rattle.engine_value.specs.declared.Point.{Point}
+use Rattle.engine_value.specs.Engine.{train_of, inputs_of, Route, no_skips, progress}
 use Rattle.engine_value.specs.declared.Position.{Position}
 use Rattle.engine_value.specs.declared.Progress.{Progress}
 use Rattle.engine_value.specs.declared.Train.{Train}
@@ -23,9 +22,8 @@ use Rattle.event.specs.Kinds.{Role, off, load, report, other, skip}
 use Rattle.position.specs.Position.{point_count, placed}
 use Rattle.position.specs.Standing.{standing, is_passed, behind}
 use Rattle.timing.specs.Report.{run}
-use Rattle.position.specs.Skips.{stop_from, stop_named}
-use Rattle.position.specs.declared.Found.{Found}
-use Rattle.position.specs.declared.Found.TheVariants.{At, Nothing}
+use Rattle.position.specs.Skips.{stop_named}
+use Rattle.position.proofs.Laws.{stop_below}
 use Rattle.position.specs.declared.Standing.{Standing}
 use Rattle.timing.proofs.Steps.{InRange, started, run-range, target-most}
 use Rattle.timing.proofs.Rule.{as_the_rule}
@@ -39,9 +37,9 @@ use Rattle.whole_list.proofs.Decoded.{RouteIn, route-in}
 
 -- ---- the engine after a history
 
-abbrev pub skip_by : List Bool → Found → Bool → List Bool
-skip_by l Nothing on = l
-skip_by l (At k) on = set l k on
+abbrev pub skip_by : List Bool → Option ℕ → Bool → List Bool
+skip_by l None on = l
+skip_by l (Some k) on = set l k on
 
 abbrev pub skips_then : Role → Route → List Bool → List Bool
 skips_then off j l = no_skips
@@ -81,25 +79,20 @@ engine_of h = record {
 
 -- ---- driver skips
 
-abbrev pub Below : ℕ → Found → Type 0
-Below n Nothing = Unit {0}
-Below n (At k) = k < n
-
-stop-below : (l : List Point) (n k t m : ℕ) → k + n ≤ m → Below m (stop_from l n k t)
-unfolding stop_from
-stop-below l zero k t m h = tt
-stop-below l (suc n) k t m h = go ((get_or l k blank_point).stop && eqb (get_or l k blank_point).nidtp t) (stop-below l n (k + 1) t m (omega arith))
+pub stop-in : (j : Route) (t : ℕ) → IfSome (stop_named j t) (λ k. k < point_count j)
+stop-in j t = go (stop_named j t) (stop_below j t)
   where
-    go : (b : Bool) → Below m (stop_from l n (k + 1) t) → Below m (if b then At k else stop_from l n (k + 1) t)
-    go true i = omega arith
-    go false i = i
+    go : (f : Option ℕ) → ((k : ℕ) → f ≡ Some k → k < point_count j) → IfSome f (λ k. k < point_count j)
+    go None e = tt
+    go (Some k) e = e k refl
 
-pub stop-in : (j : Route) (t : ℕ) → Below (point_count j) (stop_named j t)
-stop-in j t = stop-below j.points (point_count j) 0 t (point_count j) (omega arith)
+in_array : (j : Route) (f : Option ℕ) → IfSome f (λ k. k < point_count j) → IfSome f (λ k. k < 64)
+in_array j None b = tt
+in_array j (Some k) b = omega arith
 
-skip_long : (l : List Bool) (f : Found) (on : Bool) → length l ≡ 64 → length (skip_by l f on) ≡ 64
-skip_long l Nothing on e = e
-skip_long l (At k) on e = length-set l k on ∙ e
+skip_long : (l : List Bool) (f : Option ℕ) (on : Bool) → length l ≡ 64 → length (skip_by l f on) ≡ 64
+skip_long l None on e = e
+skip_long l (Some k) on e = length-set l k on ∙ e
 
 then_long : (r : Role) (j : Route) (l : List Bool) → length l ≡ 64 → length (skips_then r j l) ≡ 64
 then_long off j l e = refl
@@ -118,9 +111,9 @@ none_skipped zero k = refl
 none_skipped (suc n) zero = refl
 none_skipped (suc n) (suc k) = none_skipped n k
 
-skip_at_lem : (l : List Bool) (f : Found) (on : Bool) (k : ℕ) → Below (length l) f → get_or (skip_by l f on) k false ≡ (if is_point f k then on else get_or l k false)
-skip_at_lem l Nothing on k b = refl
-skip_at_lem l (At i) on k b = go _ refl
+skip_at_lem : (l : List Bool) (f : Option ℕ) (on : Bool) (k : ℕ) → IfSome f (λ i. i < length l) → get_or (skip_by l f on) k false ≡ (if is_point f k then on else get_or l k false)
+skip_at_lem l None on k b = refl
+skip_at_lem l (Some i) on k b = go _ refl
   where
     go : (t : Bool) → eqb i k ≡ t → get_or (set l i on) k false ≡ (if eqb i k then on else get_or l k false)
     go true q = rw (q, ← eqb-true i k q) (get_or-set_same l i on false b)
@@ -136,7 +129,7 @@ then_skipped load j l f k n e = none_skipped 64 k
 then_skipped report j l f k n e = e
 then_skipped other j l f k n e = e
 then_skipped (skip t on) j l f k n e =
-    skip_at_lem l (stop_named j t) on k (rw n (stop-below j.points (point_count j) 0 t 64 (omega arith)))
+    skip_at_lem l (stop_named j t) on k (rw n (in_array j (stop_named j t) (stop-in j t)))
     ∙ ap (λ b. if is_point (stop_named j t) k then on else b) e
 
 pub skips-at : (h : History) (k : ℕ) → get_or (skips_of h) k false ≡ skipped_by h k

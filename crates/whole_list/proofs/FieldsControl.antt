@@ -2,21 +2,21 @@
 use mathlib.Core.Path.{◌≡◌, refl, sym, ◌∙◌, ap}
 use mathlib.Core.Bool.{Bool, false}
 use mathlib.Core.List.{◌∷◌}
-use mathlib.Core.Option.{Option}
+use Rattle.std.specs.Prelude.{Option}
 use Rattle.engine_value.specs.Engine.{with_control}
 use Rattle.engine_value.specs.declared.Control.{Control}
 use Rattle.event.specs.declared.Event.{Event}
 use Rattle.event.specs.Kinds.{Role, off, load, report, other, skip, row_of, role_of}
 use Rattle.event.proofs.Known.{OfRole, known}
 use Rattle.state_codes.specs.Codes.{code, state_at, mode_at, lever_at}
-use Rattle.conditions.specs.Conditions.{O}
 use Rattle.conditions.proofs.NineLaws.{O_ones}
 use Rattle.state_codes.proofs.CodeLaws.{state_code}
 use Rattle.states.specs.States.{machine, T, by_row, machine_after, given}
 use Rattle.states.specs.declared.Values.{Values}
 use Rattle.states.specs.declared.Machine.{Machine}
 use Rattle.state_codes.specs.declared.State.{State}
-use Rattle.traction.specs.Requests.{Remembered, remembered_after}
+use Rattle.traction.specs.Requests.{remembered_after}
+use Rattle.traction.specs.declared.Remembered.{Remembered}
 use Rattle.traction.specs.View.{remembered_in, traction_of}
 use Rattle.traction.proofs.Laws.{told_again}
 use Rattle.states.specs.ControlGroup.{values_in, machine_in, control_of, control_after}

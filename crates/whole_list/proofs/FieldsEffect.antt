@@ -1,10 +1,9 @@
 -- The effect of an event at the engine of a history, with the rows "book" to "skip" of the table, is by the rules.
-use Rattle.std.specs.Prelude.{if◌then◌else◌}
+use Rattle.std.specs.Prelude.{if◌then◌else◌, Option, Some, None, IfSome}
 use mathlib.Core.Path.{◌≡◌, refl, sym, ◌∙◌, ap, subst}
 use mathlib.Core.Bool.{Bool, true, false, ◌||◌}
 use mathlib.Core.List.{List, [], ◌∷◌, ◌++◌}
-use mathlib.Core.Option.{Option, none, some}
-use Prim.Native.Nat.{ℕ}
+use Prim.Native.Nat.{ℕ, ◌<◌}
 use lib.ListN.{get_or}
 use Rattle.wire.specs.Judged.{Judged, then_judge, row}
 use Rattle.wire.specs.Judged.Judged.{refuse, accept}
@@ -24,8 +23,6 @@ use Rattle.timing.specs.Load.{target}
 use Rattle.timing.specs.Report.{reported, became_reached, report_of, run}
 use Rattle.timing.specs.Changes.{Change, report_changes}
 use Rattle.position.specs.Skips.{stop_named, stop_at}
-use Rattle.position.specs.declared.Found.{Found}
-use Rattle.position.specs.declared.Found.TheVariants.{At, Nothing}
 use Rattle.timing.proofs.Steps.{run_snoc}
 use Rattle.state_codes.specs.Codes.{code}
 use Rattle.look_up.specs.LookUp.{look_up}
@@ -36,7 +33,7 @@ use Rattle.call_values.specs.Call.{Call}
 use Rattle.whole_list.specs.Values.{History, event_of_call, load_of_call, role_of_call, latest, number_by, position_by, length_by, route_loaded, route_by, skipped_by, report_at, reports_since, behind_at_load}
 use Rattle.whole_list.specs.Rules.{standing_by, state_by, machine_by, request_by, newly_reached, became_reached_by}
 use Rattle.whole_list.specs.Table.{head_of, head_of_call, skip_rows, kind_rows}
-use Rattle.whole_list.proofs.Fields.{Below, skip_by, skips_then, skips_of, progress_run, train_by, inputs_by, control_by, engine_of, stop-in, skips-at, stands_at}
+use Rattle.whole_list.proofs.Fields.{skip_by, skips_then, skips_of, progress_run, train_by, inputs_by, control_by, engine_of, stop-in, skips-at, stands_at}
 use Rattle.whole_list.proofs.FieldsStep.{skip_run, changes_run, report_is, became_is, target_is}
 
 -- ---- what is by the role of an event
@@ -49,14 +46,14 @@ abbrev value_then : {A : Type 0} → (Carried → Option A) → A → Role → C
 value_then f fresh q c a = until_off q fresh (newer (f c) a)
 
 abbrev load_then : Judged LoadValue → Option LoadValue
-load_then m = elim m [ refuse n ↦ none | accept l ↦ some l ]
+load_then m = elim m [ refuse n ↦ None | accept l ↦ Some l ]
 
 abbrev route_then : Role → Option LoadValue → Route → Route
 route_then r o j = elim r [ off ↦ no_route | load ↦ route_loaded o j | report ↦ j | other ↦ j | skip t on ↦ j ]
 
-abbrev skip_after : Found → Bool → JourneyAfter
-skip_after Nothing on = kept
-skip_after (At k) on = skip_set k on
+abbrev skip_after : Option ℕ → Bool → JourneyAfter
+skip_after None on = kept
+skip_after (Some k) on = skip_set k on
 
 abbrev journey_then : Role → Option LoadValue → Route → JourneyAfter
 journey_then r o j = elim r [ off ↦ cleared | load ↦ replaced (route_loaded o j) | report ↦ kept | other ↦ kept | skip t on ↦ skip_after (stop_named j t) on ]
@@ -97,7 +94,7 @@ module _ (h : History) (o : Option LoadValue) (t : ℕ) (r : distance.Report) (c
     progress = progress_then q;
     inputs = inputs_of (numbers_then q c);
     control = control_then h q;
-    loaded = elim q [ off ↦ none | load ↦ head_of o | report ↦ none | other ↦ none | skip t on ↦ none ];
+    loaded = elim q [ off ↦ None | load ↦ head_of o | report ↦ None | other ↦ None | skip t on ↦ None ];
     changes = elim q [ off ↦ [] | load ↦ [] | report ↦ changes | other ↦ [] | skip t on ↦ skip_run (stop_named (route_by h) t) on (progress_run h) ];
     reached = elim q [ off ↦ false | load ↦ false | report ↦ became | other ↦ false | skip t on ↦ false ];
   }
@@ -140,9 +137,9 @@ module _ (h : History) where
   route_after_lem other o = refl
   route_after_lem (skip t on) o = go (stop_named (route_by h) t)
     where
-      go : (f : Found) → route_after (engine_of h) (skip_after f on) ≡ route_by h
-      go Nothing = refl
-      go (At k) = refl
+      go : (f : Option ℕ) → route_after (engine_of h) (skip_after f on) ≡ route_by h
+      go None = refl
+      go (Some k) = refl
 
   skips_after_lem : (q : Role) (o : Option LoadValue) → skips_after (engine_of h) (journey_then q o (route_by h)) ≡ skips_then q (route_by h) (skips_of h)
   skips_after_lem off o = refl
@@ -151,9 +148,9 @@ module _ (h : History) where
   skips_after_lem other o = refl
   skips_after_lem (skip t on) o = go (stop_named (route_by h) t)
     where
-      go : (f : Found) → skips_after (engine_of h) (skip_after f on) ≡ skip_by (skips_of h) f on
-      go Nothing = refl
-      go (At k) = refl
+      go : (f : Option ℕ) → skips_after (engine_of h) (skip_after f on) ≡ skip_by (skips_of h) f on
+      go None = refl
+      go (Some k) = refl
 
 pub stored_is : (h : History) (c : Call) → stored (engine_of h) (effect_of h c) ≡ with_control (engine_of (c ∷ h)) (effect_of h c).control (engine_of h).traction
 unfolding route_by skips_of
@@ -174,15 +171,15 @@ stored_is h c =
 -- ---- kind by kind
 
 -- of a driver skip or its revocation, where the rows accept it
-abbrev skip_effect_by : History → Carried → Found → Bool → Effect
+abbrev skip_effect_by : History → Carried → Option ℕ → Bool → Effect
 skip_effect_by h c f on =
-    record { journey = skip_after f on; train = train_with (engine_of h) c; progress = progress_run h; inputs = inputs_with (engine_of h) c; control = control_by h; loaded = none; changes = skip_run f on (progress_run h); reached = false }
+    record { journey = skip_after f on; train = train_with (engine_of h) c; progress = progress_run h; inputs = inputs_with (engine_of h) c; control = control_by h; loaded = None; changes = skip_run f on (progress_run h); reached = false }
 
-by_skip : (h : History) (c : Carried) (f : Found) (on : Bool) → Below (point_count (route_by h)) f
+by_skip : (h : History) (c : Carried) (f : Option ℕ) (on : Bool) → IfSome f (λ k. k < point_count (route_by h))
     → skip_effect (engine_of h) c on (stop_at (skips_of h) f) ≡ then_judge (skip_rows h f on) (λ u. accept (skip_effect_by h c f on))
 unfolding skip_effect
-by_skip h c Nothing on l = refl
-by_skip h c (At k) on l = ap (λ b. then_judge (row 15 b) (λ u. accept (skipped_in (engine_of h) c k on))) same
+by_skip h c None on l = refl
+by_skip h c (Some k) on l = ap (λ b. then_judge (row 15 b) (λ u. accept (skipped_in (engine_of h) c k on))) same
   where
     same : (behind (standing (progress_run h) k) || same_bool (get_or (skips_of h) k false) on) ≡ (behind (standing_by h k) || same_bool (skipped_by h k) on)
     same = ap (λ s. behind s || same_bool (get_or (skips_of h) k false) on) (stands_at h k l) ∙ ap (λ b. behind (standing_by h k) || same_bool b on) (skips-at h k)
@@ -207,7 +204,7 @@ module _ (h : History) (t : ℕ) (r : distance.Report) (changes : List Change) (
       let p : reported (route_by h) (distance.report_from (engine_of h) x) (progress_run h) ≡ run (route_by h) start (reports_since h ++ (r ∷ [])) =
       ap (λ y. reported (route_by h) y (progress_run h)) (sym e) ∙ sym (run_snoc (route_by h) (reports_since h) r start) in
       let same : reported_in (engine_of h) c (report_of (route_by h) (distance.report_from (engine_of h) x) (progress_run h)) ≡ effect_by h (load_then (load_of journey book)) t r changes became report c =
-      λ i. record { journey = kept; train = train_with (engine_of h) c; progress = p i; inputs = inputs_with (engine_of h) c; control = control_by h; loaded = none; changes = sym f i; reached = sym g i } in
+      λ i. record { journey = kept; train = train_with (engine_of h) c; progress = p i; inputs = inputs_with (engine_of h) c; control = control_by h; loaded = None; changes = sym f i; reached = sym g i } in
       ap (λ y. then_judge (row 13 (offset_beyond (segment_named (route_by h) x) x)) (λ u. accept y)) same
 
   by_load : ((l : LoadValue) → load_of journey book ≡ accept l → t ≡ target l.route (position_by h) (length_by h)) → By Load
@@ -219,7 +216,7 @@ module _ (h : History) (t : ℕ) (r : distance.Report) (changes : List Change) (
       go (refuse n) e = refl
       go (accept l) e =
           let p = e l refl in
-          ap accept (λ i. record { journey = replaced l.route; train = train_by h; progress = progress (sym p i) false; inputs = inputs_by h; control = control_by h; loaded = some l.head; changes = []; reached = false })
+          ap accept (λ i. record { journey = replaced l.route; train = train_by h; progress = progress (sym p i) false; inputs = inputs_by h; control = control_by h; loaded = Some l.head; changes = []; reached = false })
 
   -- an event that only brings a value
   brought : (c : Carried) (l : LookedUp) → ByRole other c l

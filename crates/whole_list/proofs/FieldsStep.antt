@@ -1,12 +1,11 @@
 -- What an event does to the engine of a history, and the table's rows "book" to "skip", are by the rules.
-use Rattle.std.specs.Prelude.{if◌then◌else◌}
+use Rattle.std.specs.Prelude.{Option, Some, None, if◌then◌else◌}
 use mathlib.Core.Path.{◌≡◌, refl, sym, ◌∙◌, ap}
 use mathlib.Core.Bool.{Bool, true, false}
 use mathlib.Core.List.{List, [], ◌∷◌, ◌++◌, map}
 use Prim.Native.Nat.{ℕ, ◌<◌}
 use native.Mathlib.Omega.{arith}
 use lib.Dec.{leb}
-use lib.ListN.{length}
 use Rattle.wire.specs.Judged.Judged.{accept}
 use Rattle.engine_value.specs.Engine.{progress}
 use Rattle.engine_value.specs.declared.Position.{Position}
@@ -20,8 +19,6 @@ use Rattle.position.specs.Position.{point_count}
 use Rattle.timing.specs.Distance as distance
 use Rattle.position.specs.Standing.{standing}
 use Rattle.position.specs.Skips.{stop_named}
-use Rattle.position.specs.declared.Found.{Found}
-use Rattle.position.specs.declared.Found.TheVariants.{At, Nothing}
 use Rattle.timing.specs.Load.{target}
 use Rattle.timing.specs.Report.{reported, became_reached, run}
 use Rattle.timing.specs.Changes.{Change, change, status_skipped, status_revoked, report_changes}
@@ -133,9 +130,9 @@ module _ (c : Call) (h : History) (q : event_of_call c ≡ Load) (l : LoadValue)
 
 -- ---- the points that an event changes
 
-abbrev pub skip_run : Found → Bool → Progress → List Change
-skip_run Nothing on p = []
-skip_run (At k) on p = change k (if on then status_skipped else status_revoked) p ∷ []
+abbrev pub skip_run : Option ℕ → Bool → Progress → List Change
+skip_run None on p = []
+skip_run (Some k) on p = change k (if on then status_skipped else status_revoked) p ∷ []
 
 -- by the steps
 abbrev pub changes_run : History → Call → List Change
@@ -152,9 +149,9 @@ pub changes_by_lem : (h : History) (c : Call) → map (change_in (route_by (c �
 unfolding changes_by route_by
 changes_by_lem h c = go (role_of_call c) refl (known (event_of_call c)).role
   where
-    skipped : (f : Found) (on : Bool) → map (change_in (route_by h).load) (skip_run f on (progress_run h)) ≡ skip_change f on (end_ahead (route_by h).load (standing_by h))
-    skipped Nothing on = refl
-    skipped (At k) on =
+    skipped : (f : Option ℕ) (on : Bool) → map (change_in (route_by h).load) (skip_run f on (progress_run h)) ≡ skip_change f on (end_ahead (route_by h).load (standing_by h))
+    skipped None on = refl
+    skipped (Some k) on =
         ap (λ b. point_change k (if on then status_skipped else status_revoked) b ∷ [])
         (end_ext (route_by h) (standing (progress_run h)) (standing_by h) (route-in h) (stands_at h))
 

@@ -1,9 +1,9 @@
 -- Nothing ahead is recorded as passed: what a packet 62 of status 0 stands for.
+use Rattle.std.specs.Prelude.{Option, Some, None}
 use mathlib.Core.Path.{◌≡◌, refl, sym, ◌∙◌, ap, subst}
 use mathlib.Core.Logic.{◌⊎◌, inl, inr}
 use mathlib.Core.Bool.{Bool, true, false}
 use mathlib.Core.List.{List, [], ◌∷◌, ◌++◌, map, Memᴰ}
-use mathlib.Core.Option.{Option, none, some}
 use Prim.Native.Nat.{ℕ, ◌<◌}
 use native.Mathlib.Omega.{arith}
 use Rattle.wire.specs.Judged.{Judged}
@@ -21,8 +21,6 @@ use Rattle.packets.specs.declared.Packet.{Packet}
 use Rattle.position.specs.Position.{point, point_count}
 use Rattle.timing.specs.Changes.{status_passed, when, report_changes}
 use Rattle.position.specs.Skips.{stop_named}
-use Rattle.position.specs.declared.Found.{Found}
-use Rattle.position.specs.declared.Found.TheVariants.{At, Nothing}
 use Rattle.timing.proofs.Changes.{Behind, recorded_behind, index_below}
 use Rattle.journey.specs.declared.Head.{Head}
 use Rattle.conditions.specs.Conditions.{end_ahead}
@@ -42,9 +40,6 @@ use Rattle.whole_list.proofs.Requests.{in-append}
 use Rattle.whole_list.proofs.Fields.{progress_run, in-range}
 use Rattle.whole_list.proofs.FieldsStep.{route_kept, position_new, changes_is}
 use Rattle.whole_list.proofs.Readable.{packets_fit, read_as}
-
-zero_one : ◌≡◌ {A = ℕ} 0 1 → ⊥
-zero_one e = omega arith
 
 member : {A : Type 0} (x : A) (l : List A) → In x l → Memᴰ x l
 member x [] i = absurd i
@@ -90,12 +85,12 @@ module _ (c : Call) (h : History) (x : Position) (e : event_of_call c ≡ kind.P
 
 -- ---- the changes that a packet 62 of status 0 tells of
 
-skip_no : (f : Found) (on x : Bool) (d : PointChange) → In d (skip_change f on x) → d.status ≡ status_passed → ⊥
-skip_no Nothing on x d i s = i
-skip_no (At k) true x d (inl e) s = let z : ◌≡◌ {A = ℕ} 5 0 = sym (ap (λ (c : PointChange). c.status) e) ∙ s in omega arith
-skip_no (At k) true x d (inr i) s = i
-skip_no (At k) false x d (inl e) s = let z : ◌≡◌ {A = ℕ} 6 0 = sym (ap (λ (c : PointChange). c.status) e) ∙ s in omega arith
-skip_no (At k) false x d (inr i) s = i
+skip_no : (f : Option ℕ) (on x : Bool) (d : PointChange) → In d (skip_change f on x) → d.status ≡ status_passed → ⊥
+skip_no None on x d i s = i
+skip_no (Some k) true x d (inl e) s = let z : ◌≡◌ {A = ℕ} 5 0 = sym (ap (λ (c : PointChange). c.status) e) ∙ s in omega arith
+skip_no (Some k) true x d (inr i) s = i
+skip_no (Some k) false x d (inl e) s = let z : ◌≡◌ {A = ℕ} 6 0 = sym (ap (λ (c : PointChange). c.status) e) ∙ s in omega arith
+skip_no (Some k) false x d (inr i) s = i
 
 -- such a change is of a position report
 module _ (h : History) (c : Call) (d : PointChange) (i : In d (changes_by h c)) (s : d.status ≡ status_passed) where
@@ -120,21 +115,21 @@ module _ (h : History) (c : Call) (d : PointChange) (i : In d (changes_by h c)) 
 module _ (j : Route) (x : Position) (p : TimingPoint) where
   not_65 : (o : Option Head) → In (Packet.TimingPoint p) (received j x o) → ⊥
   unfolding jp_received
-  not_65 none q = q
-  not_65 (some d) (inl e) = zero_one (cc)
-  not_65 (some d) (inr q) = q
+  not_65 None q = q
+  not_65 (Some d) (inl e) = cc
+  not_65 (Some d) (inr q) = q
 
   not_68 : (due : Bool) (s : ℕ) (n : OperationalConditions) → In (Packet.TimingPoint p) (when due (ato_status j x s n)) → ⊥
   unfolding ato_status
-  not_68 true s n (inl e) = zero_one (cc)
+  not_68 true s n (inl e) = cc
   not_68 true s n (inr q) = q
   not_68 false s n q = q
 
   not_61 : (o : Option Requested) → In (Packet.TimingPoint p) (traction_brakes j x o) → ⊥
   unfolding traction_brake
-  not_61 none q = q
-  not_61 (some r) (inl e) = zero_one (cc)
-  not_61 (some r) (inr q) = q
+  not_61 None q = q
+  not_61 (Some r) (inl e) = cc
+  not_61 (Some r) (inr q) = q
 
   -- the values of a packet 62
   values_62 : (d : PointChange) → Packet.TimingPoint p ≡ timing_point j x d → (p.status ≡ d.status) × (p.nidtp ≡ (point j d.index).nidtp)

@@ -1,10 +1,9 @@
 -- Every packet of an accepted call is within its ranges: the reader takes its bytes and gives it back.
-use Rattle.std.specs.Prelude.{if◌then◌else◌}
+use Rattle.std.specs.Prelude.{if◌then◌else◌, Option, Some, None}
 use mathlib.Core.Path.{◌≡◌, refl, sym, ◌∙◌, ap, subst}
 use mathlib.Core.Logic.{inl, inr}
 use mathlib.Core.Bool.{Bool, true, false, ◌&&◌, ◌||◌}
 use mathlib.Core.List.{List, [], ◌∷◌, ◌++◌, map}
-use mathlib.Core.Option.{Option, none, some}
 use Prim.Native.Nat.{ℕ, zero, suc, ◌+◌, ◌≤◌}
 use native.Mathlib.Omega.{arith}
 use lib.Dec.{eqb, leb}
@@ -41,8 +40,6 @@ use Rattle.traction.proofs.Laws.{written_inv, written_is}
 use Rattle.position.specs.Position.{point, point_count, known}
 use Rattle.timing.specs.Changes.{status_stopped, when}
 use Rattle.position.specs.Skips.{stop_named}
-use Rattle.position.specs.declared.Found.{Found}
-use Rattle.position.specs.declared.Found.TheVariants.{At, Nothing}
 use Rattle.position.specs.declared.Standing.{Standing}
 use Rattle.position.specs.declared.Standing.TheVariants.{Unused, Targeted, Reached, Passed}
 use Rattle.conditions.specs.Conditions.{end_ahead}
@@ -123,13 +120,13 @@ module _ (j : Route) (x : Position) (r : Ranged j x) where
   all_62 [] p a = tt
   all_62 (c ∷ l) p a = (fits_62 c (p.points c.index) a.0, all_62 l p a.1)
 
-  all_65 : (o : Option Head) → ((h : Head) → o ≡ some h → HeadFits h) → All Fits (received j x o)
-  all_65 none k = tt
-  all_65 (some h) k = (fits_65 h (k h refl), tt)
+  all_65 : (o : Option Head) → ((h : Head) → o ≡ Some h → HeadFits h) → All Fits (received j x o)
+  all_65 None k = tt
+  all_65 (Some h) k = (fits_65 h (k h refl), tt)
 
-  all_61 : (o : Option Requested) → ((q : Requested) → o ≡ some q → ContentFits q) → All Fits (traction_brakes j x o)
-  all_61 none k = tt
-  all_61 (some q) k = (fits_61 q (k q refl), tt)
+  all_61 : (o : Option Requested) → ((q : Requested) → o ≡ Some q → ContentFits q) → All Fits (traction_brakes j x o)
+  all_61 None k = tt
+  all_61 (Some q) k = (fits_61 q (k q refl), tt)
 
   all_68 : (due : Bool) (s : ℕ) (c : OperationalConditions) → s ≤ 7 → ZerosAndOnes (conditions_view c) → All Fits (when due (ato_status j x s c))
   all_68 true s c h k = (fits_68 s c h k, tt)
@@ -161,10 +158,10 @@ changes_status e b a zero k = tt
 changes_status e b a (suc n) k =
     all_append StatusIn (change_at (b k) (a k) k (end_ahead e (standing_then b a k))) _ (change_status (b k) (a k) k (end_ahead e (standing_then b a k))) (changes_status e b a n (k + 1))
 
-skip_status_lem : (f : Found) (on x : Bool) → All StatusIn (skip_change f on x)
-skip_status_lem Nothing on x = tt
-skip_status_lem (At k) true x = (omega arith, tt)
-skip_status_lem (At k) false x = (omega arith, tt)
+skip_status_lem : (f : Option ℕ) (on x : Bool) → All StatusIn (skip_change f on x)
+skip_status_lem None on x = tt
+skip_status_lem (Some k) true x = (omega arith, tt)
+skip_status_lem (Some k) false x = (omega arith, tt)
 
 status_in_lem : (h : History) (c : Call) → All StatusIn (changes_by h c)
 unfolding changes_by
@@ -183,17 +180,17 @@ status_in_lem h c = go (role_of_call c)
     go other = tt
     go (skip t on) = skip_status_lem (stop_named (route_by h) t) on _
 
-head_in : (c : Call) (d : Head) → head_of_call c ≡ some d → HeadFits d
+head_in : (c : Call) (d : Head) → head_of_call c ≡ Some d → HeadFits d
 head_in c d = go (role_of_call c)
   where
-    no : {A : Type 0} → none ≡ some d → A
-    no e = let z : ◌≡◌ {A = ℕ} 0 1 = cc in absurd (omega arith)
+    no : {A : Type 0} → None ≡ Some d → A
+    no e = cc
 
-    by : (o : Option LoadValue) → load_of_call c ≡ o → head_of o ≡ some d → HeadFits d
-    by none q e = no e
-    by (some l) q e = let z : l.head ≡ d = cc in rw (← z) (load-in c l q).head
+    by : (o : Option LoadValue) → load_of_call c ≡ o → head_of o ≡ Some d → HeadFits d
+    by None q e = no e
+    by (Some l) q e = let z : l.head ≡ d = cc in rw (← z) (load-in c l q).head
 
-    go : (r : Role) → elim r [ off ↦ none | load ↦ head_of (load_of_call c) | report ↦ none | other ↦ none | skip t on ↦ none ] ≡ some d → HeadFits d
+    go : (r : Role) → elim r [ off ↦ None | load ↦ head_of (load_of_call c) | report ↦ None | other ↦ None | skip t on ↦ None ] ≡ Some d → HeadFits d
     go off e = no e
     go load e = by (load_of_call c) refl e
     go report e = no e
@@ -204,11 +201,11 @@ head_in c d = go (role_of_call c)
 
 module _ (h : History) (c : Call) where
   -- the content of a packet 61 is that of the event
-  content_in : (q : Requested) → written_content (state_by h) (event_of_call c) (traction_by h) (traction_by (c ∷ h)) ≡ some q → ContentFits q
+  content_in : (q : Requested) → written_content (state_by h) (event_of_call c) (traction_by h) (traction_by (c ∷ h)) ≡ Some q → ContentFits q
   content_in q e =
       let w = written_inv (state_by h) (event_of_call c) (traction_by h) (traction_by (c ∷ h)) q e in
       let x = w.2.0 in
-      let same : some x.content ≡ some q = sym (written_is (state_by h) (event_of_call c) (traction_by h) (traction_by (c ∷ h)) x w.0 w.1 w.2.1) ∙ e in
+      let same : Some x.content ≡ Some q = sym (written_is (state_by h) (event_of_call c) (traction_by h) (traction_by (c ∷ h)) x w.0 w.1 w.2.1) ∙ e in
       let z : x.content ≡ q = cc in
       let k : event_of_call c ≡ Event.Traction x = subst (λ (o : Option TractionRequest). OfTraction o (event_of_call c)) w.2.1 (traction-of (event_of_call c)) in
       subst ContentFits z (content-fits x (subst EventFits k (event-in c)))

@@ -1,9 +1,8 @@
 -- What an event writes is read again in memory, packet by packet; which packet 68 is the last one; and what it tells.
-use Rattle.std.specs.Prelude.{if◌then◌else◌}
+use Rattle.std.specs.Prelude.{if◌then◌else◌, Option, Some, None}
 use mathlib.Core.Path.{◌≡◌, refl, ◌∙◌, ap}
 use mathlib.Core.Bool.{Bool, true, false}
 use mathlib.Core.List.{List, [], ◌∷◌, ◌++◌, map}
-use mathlib.Core.Option.{Option, none, some}
 use Prim.Native.Nat.{ℕ, ◌≤◌}
 use native.Mathlib.Omega.{arith}
 use lib.ListN.{length, take, drop}
@@ -49,8 +48,8 @@ module _ (j : Route) (x : Position) where
   -- 65 and 62 are no 68
   newest_65 : (o : Option (List ℕ)) (h : Option Head) → newest o (bytes_of_each (received j x h)) ≡ o
   unfolding newest jp_received value_bytes
-  newest_65 o none = refl
-  newest_65 o (some h) = refl
+  newest_65 o None = refl
+  newest_65 o (Some h) = refl
 
   newest_62 : (o : Option (List ℕ)) (l : List PointChange) → newest o (bytes_of_each (map (timing_point j x) l)) ≡ o
   unfolding newest timing_point value_bytes
@@ -59,16 +58,16 @@ module _ (j : Route) (x : Position) where
 
   pub newest_61 : (o : Option (List ℕ)) (r : Option Requested) → newest o (bytes_of_each (traction_brakes j x r)) ≡ o
   unfolding newest traction_brake value_bytes
-  newest_61 o none = refl
-  newest_61 o (some r) = refl
+  newest_61 o None = refl
+  newest_61 o (Some r) = refl
 
-  newest_68 : (o : Option (List ℕ)) (due : Bool) (s : ℕ) (c : OperationalConditions) → newest o (bytes_of_each (when due (ato_status j x s c))) ≡ (if due then some (packet_bytes (ato_status j x s c)) else o)
+  newest_68 : (o : Option (List ℕ)) (due : Bool) (s : ℕ) (c : OperationalConditions) → newest o (bytes_of_each (when due (ato_status j x s c))) ≡ (if due then Some (packet_bytes (ato_status j x s c)) else o)
   unfolding newest ato_status value_bytes
   newest_68 o true s c = refl
   newest_68 o false s c = refl
 
   pub newest_is : (o : Option (List ℕ)) (loaded : Option Head) (changes : List PointChange) (own : List Packet) (before after : Status) → ((o : Option (List ℕ)) → newest o (bytes_of_each own) ≡ o)
-      → newest o (bytes_of_each (packets_of j x loaded changes own before after)) ≡ (if status_due before after then some (packet_bytes (ato_status j x after.state after.conditions)) else o)
+      → newest o (bytes_of_each (packets_of j x loaded changes own before after)) ≡ (if status_due before after then Some (packet_bytes (ato_status j x after.state after.conditions)) else o)
   unfolding packets_of
   newest_is o loaded changes own before after other =
       let last = when (status_due before after) (ato_status j x after.state after.conditions) in

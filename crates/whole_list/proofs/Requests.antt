@@ -1,10 +1,9 @@
 -- The requests of a history one after the other, and when a packet 61 stands among the packets of a call.
-use Rattle.std.specs.Prelude.{if◌then◌else◌}
+use Rattle.std.specs.Prelude.{if◌then◌else◌, Option, Some, None}
 use mathlib.Core.Path.{◌≡◌, refl, sym, ◌∙◌, ap, subst}
 use mathlib.Core.Logic.{◌↔◌, ◌⊎◌, inl, inr}
 use mathlib.Core.Bool.{Bool, true, false}
 use mathlib.Core.List.{List, [], ◌∷◌, ◌++◌, map}
-use mathlib.Core.Option.{Option, none, some}
 use Prim.Native.Nat.{ℕ}
 use native.Mathlib.Omega.{arith}
 use Rattle.engine_value.specs.Engine.{Route}
@@ -19,14 +18,15 @@ use Rattle.status_word.specs.declared.OperationalConditions.{OperationalConditio
 use Rattle.packets.specs.declared.Requested.{Requested}
 use Rattle.packets.specs.declared.Packet.{Packet}
 use Rattle.timing.specs.Changes.{when}
-use Rattle.traction.specs.Requests.{Remembered, made, forgets, with_request, remembered_after, written_content}
+use Rattle.traction.specs.Requests.{made, forgets, with_request, remembered_after, written_content}
+use Rattle.traction.specs.declared.Remembered.{Remembered}
 use Rattle.traction.proofs.Laws.{changed_exactly, driving_exactly, written_inv, written_is}
 use Rattle.call_values.specs.Packets.{PointChange, timing_point, jp_received, traction_brake, traction_brakes, ato_status, Status, status_due, received, packets_of}
 use Rattle.call_values.specs.Call.{Call}
 use Rattle.whole_list.specs.Values.{History, event_of_call, position_by, route_by}
 use Rattle.whole_list.specs.Rules.{state_by}
 use Rattle.whole_list.specs.Requests.{listed, requests_since, after_requests, traction_by}
-use Rattle.whole_list.specs.Table.{head_of_call, changes_by, own_by, status_by, packets_by}
+use Rattle.whole_list.specs.Table.{head_of_call, changes_by, status_by, packets_by}
 use Rattle.whole_list.specs.Recorded.{number_in, In}
 use Rattle.whole_list.specs.WholeList.{bytes_of_each, RequestWrites, Has61}
 use Rattle.whole_list.proofs.Recorded.{bytes-append}
@@ -35,8 +35,8 @@ use Rattle.whole_list.proofs.Recorded.{bytes-append}
 
 after_more : (l : List TractionRequest) (m : Option Remembered) (o : Option TractionRequest) → after_requests m (l ++ listed o) ≡ with_request (after_requests m l) o
 unfolding after_requests
-after_more [] m none = refl
-after_more [] m (some x) = refl
+after_more [] m None = refl
+after_more [] m (Some x) = refl
 after_more (y ∷ l) m o = after_more l _ o
 
 pub remembered-is : (h : History) (c : Call) → remembered_after (state_by h) (event_of_call c) (state_by (c ∷ h)) (traction_by h) ≡ traction_by (c ∷ h)
@@ -46,9 +46,9 @@ remembered-is h c = go (forgets (state_by h) (event_of_call c) (state_by (c ∷ 
     o : Option TractionRequest
     o = made (state_by h) (event_of_call c)
 
-    go : (b : Bool) → (if b then none else with_request (after_requests none (requests_since h)) o) ≡ after_requests none (if b then [] else requests_since h ++ listed o)
+    go : (b : Bool) → (if b then None else with_request (after_requests None (requests_since h)) o) ≡ after_requests None (if b then [] else requests_since h ++ listed o)
     go true = refl
-    go false = sym (after_more (requests_since h) none o)
+    go false = sym (after_more (requests_since h) None o)
 
 -- ---- packets 61 among others
 
@@ -90,9 +90,9 @@ other_number n p q e m k = sym m ∙ ap number_in (sym e) ∙ k
 module _ (j : Route) (x : Position) where
   none_65 : (o : Option Head) → Has61 (bytes_of_each (received j x o)) → ⊥
   unfolding jp_received value_bytes
-  none_65 none (p, i, n) = i
-  none_65 (some h) (p, inl e, n) = let z : ◌≡◌ {A = ℕ} 65 61 = other_number 65 p _ e refl n in omega arith
-  none_65 (some h) (p, inr i, n) = i
+  none_65 None (p, i, n) = i
+  none_65 (Some h) (p, inl e, n) = let z : ◌≡◌ {A = ℕ} 65 61 = other_number 65 p _ e refl n in omega arith
+  none_65 (Some h) (p, inr i, n) = i
 
   none_62 : (l : List PointChange) → Has61 (bytes_of_each (map (timing_point j x) l)) → ⊥
   unfolding timing_point value_bytes
@@ -106,13 +106,13 @@ module _ (j : Route) (x : Position) where
   none_68 true s n (p, inl e, m) = let z : ◌≡◌ {A = ℕ} 68 61 = other_number 68 p _ e refl m in omega arith
   none_68 true s n (p, inr i, m) = i
 
-  one_61 : (o : Option Requested) → Has61 (bytes_of_each (traction_brakes j x o)) ↔ ((r : Requested) × (o ≡ some r))
+  one_61 : (o : Option Requested) → Has61 (bytes_of_each (traction_brakes j x o)) ↔ ((r : Requested) × (o ≡ Some r))
   unfolding traction_brake value_bytes
-  one_61 none = ((λ h. absurd h.1), (λ h. let z : ◌≡◌ {A = ℕ} 0 1 = cc h.1 in absurd (omega arith)))
-  one_61 (some r) = ((λ h. (r, refl)), (λ h. (packet_bytes (traction_brake j x r), inl refl, refl)))
+  one_61 None = ((λ h. absurd h.1), (λ h. cc h.1))
+  one_61 (Some r) = ((λ h. (r, refl)), (λ h. (packet_bytes (traction_brake j x r), inl refl, refl)))
 
   has_61 : (loaded : Option Head) (changes : List PointChange) (o : Option Requested) (before after : Status)
-      → Has61 (bytes_of_each (packets_of j x loaded changes (traction_brakes j x o) before after)) ↔ ((r : Requested) × (o ≡ some r))
+      → Has61 (bytes_of_each (packets_of j x loaded changes (traction_brakes j x o) before after)) ↔ ((r : Requested) × (o ≡ Some r))
   unfolding packets_of
   has_61 loaded changes o before after = (λ h. first (has_append a (b ++ (w ++ d)) h), λ h. has_right a (b ++ (w ++ d)) (has_right b (w ++ d) (has_left w d ((one_61 o).1 h))))
     where
@@ -128,15 +128,15 @@ module _ (j : Route) (x : Position) where
       d : List Packet
       d = when (status_due before after) (ato_status j x after.state after.conditions)
 
-      third : Has61 (bytes_of_each w) ⊎ Has61 (bytes_of_each d) → (r : Requested) × (o ≡ some r)
+      third : Has61 (bytes_of_each w) ⊎ Has61 (bytes_of_each d) → (r : Requested) × (o ≡ Some r)
       third (inl h) = (one_61 o).0 h
       third (inr h) = absurd (none_68 (status_due before after) after.state after.conditions h)
 
-      second : Has61 (bytes_of_each b) ⊎ Has61 (bytes_of_each (w ++ d)) → (r : Requested) × (o ≡ some r)
+      second : Has61 (bytes_of_each b) ⊎ Has61 (bytes_of_each (w ++ d)) → (r : Requested) × (o ≡ Some r)
       second (inl h) = absurd (none_62 changes h)
       second (inr h) = third (has_append w d h)
 
-      first : Has61 (bytes_of_each a) ⊎ Has61 (bytes_of_each (b ++ (w ++ d))) → (r : Requested) × (o ≡ some r)
+      first : Has61 (bytes_of_each a) ⊎ Has61 (bytes_of_each (b ++ (w ++ d))) → (r : Requested) × (o ≡ Some r)
       first (inl h) = absurd (none_65 loaded h)
       first (inr h) = second (has_append b (w ++ d) h)
 
@@ -146,13 +146,13 @@ module _ (h : History) (c : Call) where
   abbrev written : Option Requested
   written = written_content (state_by h) (event_of_call c) (traction_by h) (traction_by (c ∷ h))
 
-  request_writes : ((r : Requested) × (written ≡ some r)) ↔ RequestWrites h c
+  request_writes : ((r : Requested) × (written ≡ Some r)) ↔ RequestWrites h c
   request_writes = (λ w. there w.0 w.1, back)
     where
-      event_of_lem : (x : TractionRequest) → (carried (event_of_call c)).traction ≡ some x → event_of_call c ≡ Event.Traction x
+      event_of_lem : (x : TractionRequest) → (carried (event_of_call c)).traction ≡ Some x → event_of_call c ≡ Event.Traction x
       event_of_lem x q = subst (λ (o : Option TractionRequest). OfTraction o (event_of_call c)) q (traction-of (event_of_call c))
 
-      there : (r : Requested) → written ≡ some r → RequestWrites h c
+      there : (r : Requested) → written ≡ Some r → RequestWrites h c
       there r q =
           let w = written_inv (state_by h) (event_of_call c) (traction_by h) (traction_by (c ∷ h)) r q in
           record {
@@ -162,7 +162,7 @@ module _ (h : History) (c : Call) where
             changed = (changed_exactly (traction_by h) (traction_by (c ∷ h))).0 w.1;
           }
 
-      back : RequestWrites h c → (r : Requested) × (written ≡ some r)
+      back : RequestWrites h c → (r : Requested) × (written ≡ Some r)
       back w = (
         w.request.content,
         written_is (state_by h) (event_of_call c) (traction_by h) (traction_by (c ∷ h)) w.request ((driving_exactly (state_by h)).1 w.in_state_lem)

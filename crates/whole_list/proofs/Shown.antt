@@ -1,15 +1,12 @@
 -- What an engine shows, by the history.
 use mathlib.Core.Path.{◌≡◌, refl, sym, ◌∙◌, ap}
-use mathlib.Core.Logic.{◌⊎◌, inl, inr}
 use mathlib.Core.Bool.{Bool, true, false}
-use mathlib.Core.List.{[], ◌∷◌, ◌++◌}
-use Prim.Native.Nat.{ℕ, zero, suc, ◌≤◌, ◌<◌}
+use Prim.Native.Nat.{ℕ, ◌≤◌, ◌<◌}
 use native.Mathlib.Omega.{arith}
-use native.Mathlib.Nat.{eq-or-lt_of_le}
-use lib.ListN.{length, get_or, length-append, get_or-append, get_or-eq_default}
-use lib.Seq.{get_or_at}
+use lib.ListN.{length, get_or, get_or-eq_default}
 use lib.Dec.{ltb}
 use borrow.Author.Tests.{ltb-true, ltb-false}
+use Rattle.std.proofs.lemmas.List.FromFn.{length-map-range_with_len, get_or-map-range_with_len}
 use Rattle.engine_value.specs.Engine.{max_points}
 use Rattle.engine_value.specs.declared.Engine.{Engine}
 use Rattle.status_word.specs.View.{conditions_number}
@@ -28,17 +25,11 @@ use Rattle.whole_list.proofs.FieldsControl.{conditions-in}
 module _ (e : Engine) where
   long : (n : ℕ) → length (standings_in e n) ≡ n
   unfolding standings_in
-  long zero = refl
-  long (suc n) = length-append (standings_in e n) (standing_in e n ∷ []) ∙ omega (arith, long n)
+  long n = length-map-range_with_len (standing_in e) 0 n
 
   at : (n k : ℕ) → k < n → get_or (standings_in e n) k 0 ≡ standing_in e k
   unfolding standings_in
-  at zero k l = absurd (omega arith)
-  at (suc n) k l = go (eq-or-lt_of_le {n = k} {m = n} (omega arith)) (at n k)
-    where
-      go : (k ≡ n) ⊎ (k < n) → (k < n → get_or (standings_in e n) k 0 ≡ standing_in e k) → get_or (standings_in e n ++ (standing_in e n ∷ [])) k 0 ≡ standing_in e k
-      go (inl z) ih = get_or_at (standings_in e n) (standing_in e n) [] 0 k (long n ∙ sym z) ∙ ap (standing_in e) (sym z)
-      go (inr z) ih = get_or-append (standings_in e n) (standing_in e n ∷ []) 0 k (omega (arith, long n)) ∙ ih z
+  at n k l = get_or-map-range_with_len (standing_in e) 0 n k k 0 l (omega arith)
 
 pub shown_by : (h : History) → ShownBy (shown_view (engine_of h)) h
 shown_by h = record {

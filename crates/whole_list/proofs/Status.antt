@@ -1,10 +1,9 @@
 -- The last packet 68 names the state and the conditions of the history: it does so after each accepted call, by what that call wrote.
-use Rattle.std.specs.Prelude.{if◌then◌else◌}
+use Rattle.std.specs.Prelude.{if◌then◌else◌, Option, Some}
 use mathlib.Core.Path.{◌≡◌, refl, sym, ◌∙◌, ap}
 use mathlib.Core.Logic.{◌≢◌}
 use mathlib.Core.Bool.{Bool, true, false, false≢true}
 use mathlib.Core.List.{List, [], ◌∷◌}
-use mathlib.Core.Option.{Option, some}
 use Prim.Native.Nat.{ℕ}
 use lib.Dec.{eqb}
 use borrow.Author.Tests.{eqb-true, ne_eqb}
@@ -55,14 +54,14 @@ unfolding conditions_by
 packet-tells h = status_tells (route_by h) (position_by h) (code (state_by h)) (conditions_by h) (ranged h) (code-most (state_by h)) (conditions_zeros _ _ _ _)
 
 module _ (o : Option (List ℕ)) (h : History) (c : Call) where
-  pub newest_by : newest o (bytes_of_each (packets_by h c)) ≡ (if status_due (status_by h) (status_by (c ∷ h)) then some (status_packet (c ∷ h)) else o)
+  pub newest_by : newest o (bytes_of_each (packets_by h c)) ≡ (if status_due (status_by h) (status_by (c ∷ h)) then Some (status_packet (c ∷ h)) else o)
   unfolding packets_by newest
   newest_by = newest_is (route_by (c ∷ h)) (position_by (c ∷ h)) o (head_of_call c) (changes_by h c) (own_by h c) (status_by h) (status_by (c ∷ h)) (λ o. newest_61 _ _ o (written_content (state_by h) (event_of_call c) (traction_by h) (traction_by (c ∷ h))))
 
 -- the last packet 68 names the state and the conditions of a history
 pub record Names (o : Option (List ℕ)) (h : History) : Type 0 where
   pub packet : List ℕ
-  pub is_last : o ≡ some packet
+  pub is_last : o ≡ Some packet
   pub tells : StatusPacket packet (code (state_by h)) (conditions_by h)
 
 named_now : (o : Option (List ℕ)) (h : History) (c : Call) → status_due (status_by h) (status_by (c ∷ h)) ≡ true → Names (newest o (bytes_of_each (packets_by h c))) (c ∷ h)

@@ -2,7 +2,7 @@
 use mathlib.Core.Path.{◌≡◌, refl, ◌∙◌, ap, subst}
 use mathlib.Core.Bool.{Bool}
 use mathlib.Core.List.{List, ◌∷◌}
-use mathlib.Core.Option.{Option}
+use Rattle.std.specs.Prelude.{Option}
 use lib.Dec.{ltb}
 use lib.ListN.{length}
 use Rattle.wire.specs.Judged.{Judged, then_judge, row}
@@ -17,7 +17,8 @@ use Rattle.state_codes.specs.Codes.{code, state_at}
 use Rattle.state_codes.proofs.CodeLaws.{state_code}
 use Rattle.state_codes.specs.Numbers.{power_rows, state_row}
 use Rattle.state_codes.specs.declared.State.{State}
-use Rattle.traction.specs.Requests.{Remembered, written_content}
+use Rattle.traction.specs.Requests.{written_content}
+use Rattle.traction.specs.declared.Remembered.{Remembered}
 use Rattle.traction.specs.View.{remembered_in}
 use Rattle.traction.proofs.Laws.{told_again}
 use Rattle.call.specs.Packets.{own_packets}

@@ -1,11 +1,10 @@
 -- THE CLAIM, for every list of calls.
 use mathlib.Core.Path.{◌≡◌, refl, sym, ◌∙◌, ap, subst}
 use mathlib.Core.Logic.{◌≢◌, ◌↔◌}
-use mathlib.Core.Bool.{Bool, true, false}
+use mathlib.Core.Bool.{Bool, false}
 use mathlib.Core.List.{List, [], ◌∷◌, ◌++◌, map}
-use mathlib.Core.Option.{Option, none, some}
+use Rattle.std.specs.Prelude.{Option, Some, None}
 use Prim.Native.Nat.{ℕ}
-use native.Mathlib.Omega.{arith}
 use lib.ListN.{length, drop}
 use lib.Seq.{drop-append_seam}
 use Rattle.wire.specs.Judged.{Judged, then_judge}
@@ -26,7 +25,8 @@ use Rattle.states.specs.States.{machine, by_row, machine_after}
 use Rattle.states.specs.declared.Values.{Values}
 use Rattle.state_codes.specs.declared.State.{State}
 use Rattle.state_codes.specs.declared.State.TheVariants.{NP, CO, EG}
-use Rattle.call_values.specs.Call.{Call, Accepted}
+use Rattle.call_values.specs.Call.{Call}
+use Rattle.call_values.specs.declared.Accepted.{Accepted}
 use Rattle.call.specs.Call.{Outcome, Step, conditions_in, judged, outcome_of, step_of}
 use Rattle.call.proofs.Rows.{memory_length}
 use Rattle.whole_list.specs.Values.{History, event_of_call, latest, route_by, reports_since, behind_at_load}
@@ -48,15 +48,12 @@ use Rattle.whole_list.proofs.Shown.{shown_by}
 use Rattle.whole_list.proofs.Passed as passed
 use Rattle.whole_list.proofs.Status.{Names, names_next, names_first}
 
-zero_one : ◌≡◌ {A = ℕ} 0 1 → ⊥
-zero_one e = omega arith
-
 -- the same number, or none
 same_number : (r : Judged Accepted) (t : Judged (Unit {0})) (m n : ℕ) → r ≡ refuse m → t ≡ refuse m → (r ≡ refuse n) ↔ (t ≡ refuse n)
 same_number r t m n a b = ((λ p. let z : m ≡ n = cc in b ∙ ap refuse z), (λ p. let z : m ≡ n = cc in a ∙ ap refuse z))
 
 no_number : (r : Judged Accepted) (t : Judged (Unit {0})) (x : Accepted) (u : Unit {0}) (n : ℕ) → r ≡ accept x → t ≡ accept u → (r ≡ refuse n) ↔ (t ≡ refuse n)
-no_number r t x u n a b = ((λ p. absurd (zero_one (cc))), (λ p. absurd (zero_one (cc))))
+no_number r t x u n a b = ((λ p. cc), (λ p. cc))
 
 -- ---- one call
 
@@ -112,12 +109,12 @@ module _ (h : History) (c : Call) where
 
 -- what is kept up, call by call: o is the last packet 68, a the last accepted answer
 abbrev pub Named : History → Option (List ℕ) → Type 0
-Named [] o = o ≡ none
+Named [] o = o ≡ None
 Named (c ∷ h) o = Names o (c ∷ h)
 
 abbrev pub Answered : History → Option Accepted → Type 0
-Answered [] a = a ≡ none
-Answered (c ∷ h) a = (x : Accepted) × (a ≡ some x) × (x.state ≡ code (state_by (c ∷ h)))
+Answered [] a = a ≡ None
+Answered (c ∷ h) a = (x : Accepted) × (a ≡ Some x) × (x.state ≡ code (state_by (c ∷ h)))
 
 pub record Kept (e : Engine) (h : History) (o : Option (List ℕ)) (a : Option Accepted) : Type 0 where
   pub seen : e ≡ engine_of h
@@ -132,17 +129,17 @@ first_state e r v a = go (row_of e) (kind_of e) (known e).row a
   where
     go : (w : Row) (n : ℕ) → OfRow w n e → power_rows NP n ≡ accept tt → (by_row (machine NP false) w r v).state ≡ CO
     go SwitchOn n k a = refl
-    go Configure n k a = absurd (zero_one (cc (rw k.1 at a)))
-    go SwitchOff n k a = absurd (zero_one (cc (rw k.1 at a)))
-    go Fail n k a = absurd (zero_one (cc (rw k.1 at a)))
-    go EngagePress n k a = absurd (zero_one (cc (rw k.1 at a)))
-    go ByState n k a = absurd (zero_one (cc (rw k at a)))
+    go Configure n k a = cc (rw k.1 at a)
+    go SwitchOff n k a = cc (rw k.1 at a)
+    go Fail n k a = cc (rw k.1 at a)
+    go EngagePress n k a = cc (rw k.1 at a)
+    go ByState n k a = cc (rw k at a)
 
 first_CO : (c : Call) → table_by [] c ≡ accept tt → state_by (c ∷ []) ≢ NP
 unfolding machine_by
 first_CO c e q =
     let z : state_by (c ∷ []) ≡ CO = first_state (event_of_call c) _ _ (power_accepts [] c e) in
-    zero_one (ap code (sym q ∙ z))
+    cc (sym q ∙ z)
 
 named_more : (h : History) (c : Call) (o : Option (List ℕ)) → table_by h c ≡ accept tt → Named h o → Named (c ∷ h) (newest o (bytes_of_each (packets_by h c)))
 named_more [] c o e n = names_first o c (first_CO c e)
@@ -178,8 +175,8 @@ fresh-is : fresh ≡ engine_of []
 unfolding latest route_by skips_of progress_run run reports_since behind_at_load machine_by request_by requests_since after_requests traction_by
 fresh-is = refl
 
-pub kept : (calls : List Call) → Kept (engine_after calls) (history_of calls) (last_status none (trace fresh calls)) (last_answer none (trace fresh calls))
-kept calls = keeps calls fresh [] none none (record { seen = fresh-is; good = tt; named = refl; answered = refl })
+pub kept : (calls : List Call) → Kept (engine_after calls) (history_of calls) (last_status None (trace fresh calls)) (last_answer None (trace fresh calls))
+kept calls = keeps calls fresh [] None None (record { seen = fresh-is; good = tt; named = refl; answered = refl })
 
 -- ---- 1
 code_EG : (s : State) → (code s ≡ 5) ↔ (s ≡ EG)
@@ -189,11 +186,11 @@ five_exactly : (h : History) → Good h → (n : ℕ) → n ≡ code (state_by h
 five_exactly h g n e =
     ((λ q. (engaged_exactly h g).0 ((code_EG (state_by h)).0 (sym e ∙ q))), (λ r. e ∙ (code_EG (state_by h)).1 ((engaged_exactly h g).1 r)))
 
-answered_state : (h : History) (o : Option Accepted) → Answered h o → (a : Accepted) → o ≡ some a → a.state ≡ code (state_by h)
-answered_state [] o s a e = absurd (zero_one (cc))
+answered_state : (h : History) (o : Option Accepted) → Answered h o → (a : Accepted) → o ≡ Some a → a.state ≡ code (state_by h)
+answered_state [] o s a e = cc
 answered_state (c ∷ h) o (b, q, w) a e = let z : a ≡ b = cc in ap (λ x. x.state) z ∙ w
 
-some-answer : (h : History) (o : Option Accepted) → Answered h o → h ≢ [] → (a : Accepted) × (o ≡ some a)
+some-answer : (h : History) (o : Option Accepted) → Answered h o → h ≢ [] → (a : Accepted) × (o ≡ Some a)
 some-answer [] o s n = absurd (n refl)
 some-answer (c ∷ h) o (b, q, w) n = (b, q)
 
@@ -212,11 +209,11 @@ claim_points e h q = record {
 }
 
 -- ---- 3
-named-before : (h : History) (o : Option (List ℕ)) → Named h o → h ≡ [] → o ≡ none
+named-before : (h : History) (o : Option (List ℕ)) → Named h o → h ≡ [] → o ≡ None
 named-before [] o n e = n
-named-before (c ∷ h) o n e = absurd (zero_one (cc))
+named-before (c ∷ h) o n e = cc
 
-named_since : (h : History) (o : Option (List ℕ)) → Named h o → h ≢ [] → (packet : List ℕ) × (o ≡ some packet) × StatusPacket packet (code (state_by h)) (conditions_by h)
+named_since : (h : History) (o : Option (List ℕ)) → Named h o → h ≢ [] → (packet : List ℕ) × (o ≡ Some packet) × StatusPacket packet (code (state_by h)) (conditions_by h)
 named_since [] o n e = absurd (e refl)
 named_since (c ∷ h) o n e = (n.packet, n.is_last, n.tells)
 
@@ -255,7 +252,7 @@ left e c n q = go (judged e c) q
   where
     go : (m : Judged Step) → (outcome_of e c.memory m).answer ≡ refuse n → (outcome_of e c.memory m).engine ≡ e
     go (refuse k) q = refl
-    go (accept s) q = absurd (zero_one (cc))
+    go (accept s) q = cc
 
 untraced : (calls : List Call) (e : Engine) (h : History)
     → (play e (accepted_calls e calls) ≡ play e calls) × (accepted_in h (trace e (accepted_calls e calls)) ≡ accepted_in h (trace e calls))

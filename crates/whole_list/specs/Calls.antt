@@ -1,11 +1,11 @@
 -- A list of calls in the order of time, and what comes of it.
-use Rattle.std.specs.Prelude.{List, [], ◌∷◌, ℕ}
-use Rattle.std.proofs.Math.Option.{Option, some}
+use Rattle.std.specs.Prelude.{List, [], ◌∷◌, ℕ, Option, Some}
 use Rattle.wire.specs.Judged.{Judged}
 use Rattle.wire.specs.Judged.Judged.{refuse, accept}
 use Rattle.engine_value.specs.Engine.{fresh}
 use Rattle.engine_value.specs.declared.Engine.{Engine}
-use Rattle.call_values.specs.Call.{Call, Accepted}
+use Rattle.call_values.specs.Call.{Call}
+use Rattle.call_values.specs.declared.Accepted.{Accepted}
 use Rattle.call.specs.Call.{step_of}
 use Rattle.whole_list.specs.Values.{History}
 
@@ -44,7 +44,7 @@ history_of calls = accepted_in [] (trace fresh calls)
 -- the last accepted answer
 abbrev pub later_answer : Judged Accepted → Option Accepted → Option Accepted
 later_answer (refuse n) o = o
-later_answer (accept a) o = some a
+later_answer (accept a) o = Some a
 
 unfoldable pub last_answer : Option Accepted → List Done → Option Accepted
 last_answer o [] = o

@@ -1,7 +1,6 @@
 -- The claim is not empty: lists of calls, refused ones among them: one that ends in EG, one that ends in DE, one with traction requests.
-use Rattle.std.specs.Prelude.{◌≡◌, true, false, List, [], ◌∷◌, ◌++◌, map, ℕ, length}
+use Rattle.std.specs.Prelude.{◌≡◌, true, false, List, [], ◌∷◌, ◌++◌, map, ℕ, length, Some, None}
 use Rattle.status_word.specs.View.{conditions_number}
-use Rattle.std.proofs.Math.Option.{none, some}
 use Rattle.wire.specs.Judged.{Judged}
 use Rattle.wire.specs.Judged.Judged.{refuse}
 use Rattle.engine_value.specs.Engine.{fresh}
@@ -9,7 +8,8 @@ use Rattle.position.specs.Standing.{standing}
 use Rattle.position.specs.declared.Standing.{Standing}
 use Rattle.position.specs.declared.Standing.TheVariants.{Targeted, Reached, Passed}
 use Rattle.state_codes.specs.Codes.{code}
-use Rattle.call_values.specs.Call.{Call, Accepted}
+use Rattle.call_values.specs.Call.{Call}
+use Rattle.call_values.specs.declared.Accepted.{Accepted}
 use Rattle.call.specs.Trials.{answered, plain, power_on, configured, reports, at, press, mode, plainly, trial_load}
 use Rattle.event.specs.declared.TractionRequest.{TractionRequest}
 use Rattle.traction.specs.Requests.{remembered}
@@ -57,13 +57,13 @@ pub record Example : Type 0 where
   pub ahead : stands driven 1 ≡ Targeted
   pub engaged : (engine_after driven).control.state ≡ 5
   pub accepted : length (history_of driven) ≡ 8
-  pub last_answer_lem : last_answer none (trace fresh driven) ≡ some (record { state = 5; request = true; bytes = 25 })
-  pub last_status_lem : last_status none (trace fresh driven) ≡ some (plainly 68 39900 0 (0x1F ∷ 0xF5 ∷ []))
+  pub last_answer_lem : last_answer None (trace fresh driven) ≡ Some (record { state = 5; request = true; bytes = 25 })
+  pub last_status_lem : last_status None (trace fresh driven) ≡ Some (plainly 68 39900 0 (0x1F ∷ 0xF5 ∷ []))
   -- 7002 is passed; the state is DE
   pub passed_too : stands finished 1 ≡ Passed
   pub degraded : (engine_after finished).control.state ≡ 6
   pub accepted_too : length (history_of finished) ≡ 9
-  pub last_status_too : last_status none (trace fresh finished) ≡ some (plainly 68 90001 500 (0x1F ∷ 0x36 ∷ []))
+  pub last_status_too : last_status None (trace fresh finished) ≡ Some (plainly 68 90001 500 (0x1F ∷ 0x36 ∷ []))
   -- the rules over the history say the same
   pub by_rule : standing_by (history_of stopped) 0 ≡ Reached
   pub by_rule_passed : standing_by (history_of finished) 1 ≡ Passed
@@ -76,6 +76,6 @@ pub record Example : Type 0 where
       ≡ answered 1 false 19 ∷ refuse 6 ∷ answered 1 false 48 ∷ answered 1 false 44 ∷ answered 1 false 19 ∷ answered 4 true 19 ∷ answered 4 true 0
       ∷ answered 4 true 0 ∷ answered 5 true 19 ∷ answered 5 true 22 ∷ answered 5 true 22 ∷ answered 5 true 0 ∷ answered 5 true 22 ∷ refuse 2 ∷ []
   pub since_EG : map (λ (x : TractionRequest). x.request) (requests_since (history_of pulling)) ≡ 20 ∷ 75 ∷ 0xB8 ∷ 0xB8 ∷ []
-  pub ranged : traction_by (history_of pulling) ≡ some (remembered 2 6)
+  pub ranged : traction_by (history_of pulling) ≡ Some (remembered 2 6)
   pub remembers : (engine_after pulling).traction ≡ record { remembered = true; range = 2; suptb = 6; spare = 0 }
-  pub none_left : map traction_by (history_of stopped ∷ history_of driven ∷ history_of entered ∷ []) ≡ none ∷ none ∷ none ∷ []
+  pub none_left : map traction_by (history_of stopped ∷ history_of driven ∷ history_of entered ∷ []) ≡ None ∷ None ∷ None ∷ []

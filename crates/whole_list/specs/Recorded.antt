@@ -1,10 +1,9 @@
 -- What stands recorded: the packets at the front of a call's memory, as that call left it.
-use Rattle.std.specs.Prelude.{List, [], ◌∷◌, ◌⊎◌, ◌≡◌, ℕ, take, get_or, eqb, if◌then◌else◌}
-use Rattle.std.proofs.Math.Option.{Option, some}
+use Rattle.std.specs.Prelude.{List, [], ◌∷◌, ◌⊎◌, ◌≡◌, ℕ, take, get_or, eqb, if◌then◌else◌, Option, Some}
 use Rattle.wire.specs.Judged.{Judged}
 use Rattle.wire.specs.Judged.Judged.{refuse, accept}
 use Rattle.packets.specs.Packets.{cut_packets}
-use Rattle.call_values.specs.Call.{Accepted}
+use Rattle.call_values.specs.declared.Accepted.{Accepted}
 use Rattle.whole_list.specs.Calls.{Done}
 
 -- the bytes that a call wrote
@@ -25,7 +24,7 @@ number_in p = get_or p 0 0
 -- the last packet 68 of a list, else the one before it
 unfoldable pub newest : Option (List ℕ) → List (List ℕ) → Option (List ℕ)
 newest o [] = o
-newest o (p ∷ l) = newest (if eqb (number_in p) 68 then some p else o) l
+newest o (p ∷ l) = newest (if eqb (number_in p) 68 then Some p else o) l
 
 -- the last packet 68 in the calls' memories
 unfoldable pub last_status : Option (List ℕ) → List Done → Option (List ℕ)

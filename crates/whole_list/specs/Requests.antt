@@ -1,14 +1,14 @@
 -- Document 02, Q-1: the range of the traction requests "as a fact of the events since EG", by the accepted calls alone. Nothing here is of crate `call`.
-use Rattle.std.specs.Prelude.{List, [], ◌∷◌, ◌++◌, if◌then◌else◌}
-use Rattle.std.proofs.Math.Option.{Option, none, some}
+use Rattle.std.specs.Prelude.{List, [], ◌∷◌, ◌++◌, if◌then◌else◌, Option, Some, None}
 use Rattle.event.specs.declared.TractionRequest.{TractionRequest}
-use Rattle.traction.specs.Requests.{Remembered, requested, made, forgets}
+use Rattle.traction.specs.Requests.{requested, made, forgets}
+use Rattle.traction.specs.declared.Remembered.{Remembered}
 use Rattle.whole_list.specs.Values.{History, event_of_call}
 use Rattle.whole_list.specs.Rules.{state_by}
 
 abbrev pub listed : {A : Type 0} → Option A → List A
-listed none = []
-listed (some x) = x ∷ []
+listed None = []
+listed (Some x) = x ∷ []
 
 -- the requests made in EG or DE since the last entry into EG, the first first; none since power off
 unfoldable pub requests_since : History → List TractionRequest
@@ -20,8 +20,8 @@ requests_since (c ∷ h) =
 -- does."
 unfoldable pub after_requests : Option Remembered → List TractionRequest → Option Remembered
 after_requests m [] = m
-after_requests m (x ∷ l) = after_requests (some (requested m x)) l
+after_requests m (x ∷ l) = after_requests (Some (requested m x)) l
 
 -- none where no request was made
 unfoldable pub traction_by : History → Option Remembered
-traction_by h = after_requests none (requests_since h)
+traction_by h = after_requests None (requests_since h)

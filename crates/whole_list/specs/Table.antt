@@ -1,6 +1,5 @@
 -- The packets of an accepted call and the table of numbers, by the rules: functions of the history and the call. Nothing here is of crate `call`.
-use Rattle.std.specs.Prelude.{Bool, true, false, ◌||◌, List, [], ◌∷◌, ◌++◌, ℕ, zero, suc, ◌+◌, length, ltb, leb, if◌then◌else◌}
-use Rattle.std.proofs.Math.Option.{Option, none, some}
+use Rattle.std.specs.Prelude.{Bool, ◌||◌, List, [], ◌∷◌, ◌++◌, ℕ, zero, suc, ◌+◌, length, ltb, leb, if◌then◌else◌, Option, Some, None}
 use Rattle.wire.specs.Judged.{Judged, then_judge, row, ◌>>=◌, ◌>>◌}
 use Rattle.wire.specs.Judged.Judged.{refuse, accept}
 use Rattle.engine_value.specs.declared.Load.{Load}
@@ -14,8 +13,6 @@ use Rattle.position.specs.Position.{point_count, segment_named}
 use Rattle.position.specs.Standing.{behind}
 use Rattle.timing.specs.Changes.{status_passed, status_stopped, status_departed, status_skipped, status_revoked}
 use Rattle.position.specs.Skips.{stop_named}
-use Rattle.position.specs.declared.Found.{Found}
-use Rattle.position.specs.declared.Found.TheVariants.{At, Nothing}
 use Rattle.position.specs.declared.Standing.{Standing}
 use Rattle.position.specs.declared.Standing.TheVariants.{Unused, Targeted, Reached, Passed}
 use Rattle.state_codes.specs.Codes.{code}
@@ -23,7 +20,8 @@ use Rattle.conditions.specs.Conditions.{end_ahead}
 use Rattle.state_codes.specs.Numbers.{power_rows, state_row}
 use Rattle.call_values.specs.Packets.{PointChange, point_change, Status, traction_brakes, packets_of}
 use Rattle.call_values.specs.Rows.{offset_beyond, same_bool}
-use Rattle.call_values.specs.Call.{Call, Accepted}
+use Rattle.call_values.specs.Call.{Call}
+use Rattle.call_values.specs.declared.Accepted.{Accepted}
 use Rattle.traction.specs.Requests.{written_content}
 use Rattle.whole_list.specs.Values.{History, event_of_call, load_of_call, role_of_call, position_by, route_by, skipped_by}
 use Rattle.whole_list.specs.Rules.{standing_by, conditions_by, state_by, request_by}
@@ -58,9 +56,9 @@ changes_from l before after zero k = []
 changes_from l before after (suc n) k = change_at (before k) (after k) k (end_ahead l (standing_then before after k)) ++ changes_from l before after n (k + 1)
 
 -- "5 driver skip, 6 skip revoked"
-abbrev pub skip_change : Found → Bool → Bool → List PointChange
-skip_change Nothing on ahead = []
-skip_change (At k) on ahead = point_change k (if on then status_skipped else status_revoked) ahead ∷ []
+abbrev pub skip_change : Option ℕ → Bool → Bool → List PointChange
+skip_change None on ahead = []
+skip_change (Some k) on ahead = point_change k (if on then status_skipped else status_revoked) ahead ∷ []
 
 -- "points that a load puts behind write none"
 unfoldable pub changes_by : History → Call → List PointChange
@@ -75,11 +73,11 @@ changes_by h c = elim (role_of_call c) [
 -- ---- the packets of the call c, accepted after the history h
 
 abbrev pub head_of : Option LoadValue → Option Head
-head_of none = none
-head_of (some l) = some l.head
+head_of None = None
+head_of (Some l) = Some l.head
 
 abbrev pub head_of_call : Call → Option Head
-head_of_call c = elim (role_of_call c) [ off ↦ none | load ↦ head_of (load_of_call c) | report ↦ none | other ↦ none | skip t on ↦ none ]
+head_of_call c = elim (role_of_call c) [ off ↦ None | load ↦ head_of (load_of_call c) | report ↦ None | other ↦ None | skip t on ↦ None ]
 
 abbrev pub status_by : History → Status
 status_by h = record { state = code (state_by h); conditions = conditions_by h; speed = (position_by h).speed }
@@ -97,9 +95,9 @@ answer_by h c = record { state = code (state_by (c ∷ h)); request = request_by
 -- ---- the table of numbers
 
 -- "14 no stop of that name; 15 point reached or passed, driver skip already given, or no driver skip to revoke"
-abbrev pub skip_rows : History → Found → Bool → Judged (Unit {0})
-skip_rows h Nothing on = refuse 14
-skip_rows h (At k) on = row 15 (behind (standing_by h k) || same_bool (skipped_by h k) on)
+abbrev pub skip_rows : History → Option ℕ → Bool → Judged (Unit {0})
+skip_rows h None on = refuse 14
+skip_rows h (Some k) on = row 15 (behind (standing_by h k) || same_bool (skipped_by h k) on)
 
 -- "7 to 12", "13 journey segment that is in the book, offset defined and beyond its length", 14 and 15
 unfoldable pub kind_rows : History → Call → Judged (Unit {0})

@@ -1,7 +1,6 @@
 -- The values that the rules read. A history is the list of the accepted calls, the latest first; only their event, journey and book are looked at,
 -- decoded by the layouts' own definitions. Nothing here is of crate `call`, the engine's meaning of a call.
-use Rattle.std.specs.Prelude.{Bool, false, List, [], ◌∷◌, ◌++◌, ℕ, eqb, if◌then◌else◌}
-use Rattle.std.proofs.Math.Option.{Option, none, some}
+use Rattle.std.specs.Prelude.{Bool, false, List, [], ◌∷◌, ◌++◌, ℕ, eqb, if◌then◌else◌, Option, Some, None}
 use Rattle.wire.specs.Judged.Judged.{refuse, accept}
 use Rattle.engine_value.specs.Engine.{Value, mode, lever, reports, train_length, Route, no_route, fresh_position}
 use Rattle.engine_value.specs.declared.Position.{Position}
@@ -13,8 +12,6 @@ use Rattle.route.specs.Route.{LoadValue, load_of}
 use Rattle.timing.specs.Distance as distance
 use Rattle.timing.specs.Load.{target}
 use Rattle.position.specs.Skips.{stop_named}
-use Rattle.position.specs.declared.Found.{Found}
-use Rattle.position.specs.declared.Found.TheVariants.{At, Nothing}
 use Rattle.call_values.specs.Call.{Call}
 
 abbrev pub History : Type 0
@@ -26,7 +23,7 @@ event_of_call c = elim (event_of c.event) [ refuse n ↦ PowerOn | accept e ↦ 
 
 -- the journey and its book, for a load
 unfoldable pub load_of_call : Call → Option LoadValue
-load_of_call c = elim (load_of c.journey c.book) [ refuse n ↦ none | accept l ↦ some l ]
+load_of_call c = elim (load_of c.journey c.book) [ refuse n ↦ None | accept l ↦ Some l ]
 
 abbrev pub role_of_call : Call → Role
 role_of_call c = role_of (event_of_call c)
@@ -57,8 +54,8 @@ length_by = number_by train_length
 
 -- "so does the load in force"
 abbrev pub route_loaded : Option LoadValue → Route → Route
-route_loaded none j = j
-route_loaded (some l) j = l.route
+route_loaded None j = j
+route_loaded (Some l) j = l.route
 
 unfoldable pub route_by : History → Route
 route_by [] = no_route
@@ -70,9 +67,9 @@ route_by (c ∷ h) = elim (role_of_call c) [
   | skip t on ↦ route_by h
 ]
 
-abbrev pub is_point : Found → ℕ → Bool
-is_point Nothing k = false
-is_point (At i) k = eqb i k
+abbrev pub is_point : Option ℕ → ℕ → Bool
+is_point None k = false
+is_point (Some i) k = eqb i k
 
 -- "A driver skip lasts until revoked, a load or power off." Of point k
 unfoldable pub skipped_by : History → ℕ → Bool

@@ -1,6 +1,5 @@
 -- THE CLAIM (demand 3): one statement over every list of calls, refused ones included, on one fresh engine. It assumes nothing.
-use Rattle.std.specs.Prelude.{◌≡◌, ◌≢◌, ◌↔◌, ◌⊎◌, true, List, [], ◌∷◌, ◌++◌, map, ℕ, ◌≤◌, ◌<◌, length, drop, get_or}
-use Rattle.std.proofs.Math.Option.{Option, none, some}
+use Rattle.std.specs.Prelude.{◌≡◌, ◌≢◌, ◌↔◌, ◌⊎◌, true, List, [], ◌∷◌, ◌++◌, map, ℕ, ◌≤◌, ◌<◌, length, drop, get_or, Option, Some, None}
 use Rattle.wire.specs.Judged.Judged.{refuse, accept}
 use Rattle.engine_value.specs.Engine.{route_in, fresh, max_points}
 use Rattle.engine_value.specs.declared.Position.{Position}
@@ -24,7 +23,8 @@ use Rattle.states.specs.States.{wanted}
 use Rattle.state_codes.specs.declared.EtcsMode.TheVariants.{Other}
 use Rattle.state_codes.specs.declared.State.TheVariants.{EG, DE}
 use Rattle.traction.specs.View.{traction_of}
-use Rattle.call_values.specs.Call.{Call, Accepted}
+use Rattle.call_values.specs.Call.{Call}
+use Rattle.call_values.specs.declared.Accepted.{Accepted}
 use Rattle.call.specs.Call.{Outcome, step_of, conditions_in}
 use Rattle.call.specs.View.{shown_view}
 use Rattle.call.specs.declared.Shown.{Shown}
@@ -38,8 +38,8 @@ use Rattle.whole_list.specs.Recorded.{bytes_written, packets_after, number_in, l
 -- 1. "Engaged is state 5, in the engine and in the last accepted answer": e is the engine, h the history, `last` the last accepted answer
 pub record EngagedExactly (e : Engine) (h : History) (last : Option Accepted) : Type 0 where
   pub in_engine : (e.control.state ≡ 5) ↔ Engaged h
-  pub in_answer : (a : Accepted) → last ≡ some a → (a.state ≡ 5) ↔ Engaged h
-  pub answered : h ≢ [] → (a : Accepted) × (last ≡ some a)
+  pub in_answer : (a : Accepted) → last ≡ Some a → (a.state ≡ 5) ↔ Engaged h
+  pub answered : h ≢ [] → (a : Accepted) × (last ≡ Some a)
 
 -- 2. the journey in force is that of the load in force, and each of its points stands where the history rule puts it
 pub record PointsStand (e : Engine) (h : History) : Type 0 where
@@ -59,8 +59,8 @@ pub record StatusPacket (packet : List ℕ) (state : ℕ) (conditions : Operatio
 -- 3. no packet 68 before the first accepted event; from then on "the last packet 68 names the present state and conditions", those of the rows
 -- and the rules for the history, and these are the engine's
 pub record StatusWritten (e : Engine) (h : History) (last : Option (List ℕ)) : Type 0 where
-  pub before : h ≡ [] → last ≡ none
-  pub since : h ≢ [] → (packet : List ℕ) × (last ≡ some packet) × StatusPacket packet (code (state_by h)) (conditions_by h)
+  pub before : h ≡ [] → last ≡ None
+  pub since : h ≢ [] → (packet : List ℕ) × (last ≡ Some packet) × StatusPacket packet (code (state_by h)) (conditions_by h)
   pub state : e.control.state ≡ code (state_by h)
   pub conditions : conditions_in e ≡ conditions_by h
 
@@ -69,7 +69,7 @@ pub record RequestWrites (h : History) (c : Call) : Type 0 where
   pub request : TractionRequest
   pub is_request : event_of_call c ≡ Traction request
   pub in_state_lem : (state_by h ≡ EG) ⊎ (state_by h ≡ DE)
-  pub changed : (traction_by h ≡ none) ⊎ (traction_by (c ∷ h) ≢ traction_by h)
+  pub changed : (traction_by h ≡ None) ⊎ (traction_by (c ∷ h) ≢ traction_by h)
 
 -- a packet 61 is among them
 abbrev pub Has61 : List (List ℕ) → Type 0
@@ -112,9 +112,9 @@ pub record ShownBy (s : Shown) (h : History) : Type 0 where
   pub no_point : (k : ℕ) → point_count (route_by h) ≤ k → get_or s.standings k 0 ≡ 0
 
 pub record WholeList (calls : List Call) : Type 0 where
-  pub engaged : EngagedExactly (engine_after calls) (history_of calls) (last_answer none (trace fresh calls))
+  pub engaged : EngagedExactly (engine_after calls) (history_of calls) (last_answer None (trace fresh calls))
   pub points : PointsStand (engine_after calls) (history_of calls)
-  pub status : StatusWritten (engine_after calls) (history_of calls) (last_status none (trace fresh calls))
+  pub status : StatusWritten (engine_after calls) (history_of calls) (last_status None (trace fresh calls))
   pub judged : (earlier : List Call) (c : Call) (later : List Call) → calls ≡ earlier ++ (c ∷ later)
       → JudgedByTable (engine_after earlier) (history_of earlier) c (step_of (engine_after earlier) c)
   pub request : (engine_after calls).control.request ≡ request_by (history_of calls)

@@ -4,8 +4,10 @@ use Rattle.wire.specs.Numbers.{number, bytes_of, bit, flag, magnitude, Bytes}
 use Rattle.wire.specs.Lists.{All, any, every, those, same_numbers, tabulate, sum, twice, falls, strictly_rises}
 use Rattle.wire.specs.Judged.{Judged, then_judge, row, ◌>>=◌, ◌>>◌}
 use Rattle.wire.specs.Judged.Judged.{refuse, accept}
-use Rattle.wire.specs.View.{verdict_view}
-use Rattle.wire.specs.declared.Verdict.{Verdict}
+use Rattle.std.specs.Prelude.{Result, Ok, Err}
+use Rattle.wire.specs.Refusals.{number_of}
+use Rattle.wire.specs.View.{judged as view}
+use Rattle.wire.specs.declared.Refusal.{Refusal}
 
 -- bits 0 to 8 of a number
 abbrev pub bits : ℕ → List Bool
@@ -78,7 +80,13 @@ pub record Rows : Type 0 where
   pub value : map (λ (p : Judged ℕ). p >>= λ n. accept (n + 1)) (refuse 9 ∷ accept 3 ∷ []) ≡ refuse 9 ∷ accept 4 ∷ []
   pub judged : map (λ (p : Judged ℕ). then_judge {B = ℕ} p refuse) (refuse 9 ∷ accept 3 ∷ []) ≡ refuse 9 ∷ refuse 3 ∷ []
   -- "For an answer that is an enum, a definition gives this paper's number"
-  pub verdicts : map verdict_view (Verdict.Accepted ∷ Verdict.Refused 12 ∷ []) ≡ accept tt ∷ refuse 12 ∷ []
+  pub verdicts : map (view {A = Unit {0}}) (Ok tt ∷ Err Refusal.Order ∷ []) ≡ accept tt ∷ refuse 12 ∷ []
+  -- "Numbers by place of checking", each number from 1 to 19 once and in order
+  pub all : map number_of (
+      Refusal.EventForm ∷ Refusal.EventRange ∷ Refusal.NoPower ∷ Refusal.Powered ∷ Refusal.Fault ∷ Refusal.State ∷ Refusal.BookForm ∷ Refusal.BookTwice
+      ∷ Refusal.JourneyForm ∷ Refusal.SegmentTwice ∷ Refusal.Points ∷ Refusal.Order ∷ Refusal.Beyond ∷ Refusal.NoStop ∷ Refusal.Skip ∷ Refusal.Output
+      ∷ Refusal.PacketLength ∷ Refusal.PacketNumber ∷ Refusal.PacketRange ∷ []
+      ) ≡ 1 ∷ 2 ∷ 3 ∷ 4 ∷ 5 ∷ 6 ∷ 7 ∷ 8 ∷ 9 ∷ 10 ∷ 11 ∷ 12 ∷ 13 ∷ 14 ∷ 15 ∷ 16 ∷ 17 ∷ 18 ∷ 19 ∷ []
 
 pub record Anchors : Type 0 where
   pub numbers : Numbers

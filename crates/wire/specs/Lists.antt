@@ -1,23 +1,12 @@
 -- What holds of the elements of a list.
-use Rattle.std.specs.Prelude.{ℕ, zero, suc, ◌+◌, List, [], ◌∷◌, Bool, true, false, cond, ◌&&◌, ◌||◌, eqb, ltb}
+use Rattle.std.specs.Prelude.{ℕ, zero, suc, ◌+◌, List, [], ◌∷◌, Bool, true, false, ◌&&◌, ◌||◌, eqb, ltb}
+use Rattle.std.specs.List.{AllByRecursion}
+-- it holds of each, as a test, and of one; those of which it holds
+pub use Rattle.std.specs.List.{list_all as every, list_any as any, filter as those}
 
+-- it holds of each, as a fact
 abbrev pub All : {A : Type 0} → (A → Type 0) → List A → Type 0
-All P [] = Unit {0}
-All P (x ∷ xs) = P x × All P xs
-
--- of one of them, of each of them
-abbrev pub any : {A : Type 0} → (A → Bool) → List A → Bool
-any f [] = false
-any f (x ∷ xs) = f x || any f xs
-
-abbrev pub every : {A : Type 0} → (A → Bool) → List A → Bool
-every f [] = true
-every f (x ∷ xs) = f x && every f xs
-
--- those of which it holds
-abbrev pub those : {A : Type 0} → (A → Bool) → List A → List A
-those f [] = []
-those f (x ∷ xs) = cond (f x) (x ∷ those f xs) (those f xs)
+All P l = AllByRecursion P l
 
 -- the same numbers in the same order
 abbrev pub same_numbers : List ℕ → List ℕ → Bool

@@ -1,8 +1,15 @@
--- What the code's answers stand for.
+-- What the code's answers stand for. "For an answer that is an enum, a definition gives this paper's number and values for each of its cases."
+use Rattle.std.specs.Prelude.{Result, Ok, Err}
 use Rattle.wire.specs.Judged.{Judged}
 use Rattle.wire.specs.Judged.Judged.{refuse, accept}
-use Rattle.wire.specs.declared.Verdict.{Verdict}
+use Rattle.wire.specs.Refusals.{number_of}
+use Rattle.wire.specs.declared.Refusal.{Refusal}
 
-abbrev pub verdict_view : Verdict → Judged (Unit {0})
-verdict_view Verdict.Accepted = accept tt
-verdict_view (Verdict.Refused n) = refuse n
+-- a value as `f` has it, or the number of the row that refuses
+abbrev pub judged_by : {A B : Type 0} → (A → B) → Result A Refusal → Judged B
+judged_by f (Ok a) = accept (f a)
+judged_by f (Err r) = refuse (number_of r)
+
+-- the same of the value as it is
+abbrev pub judged : {A : Type 0} → Result A Refusal → Judged A
+judged r = judged_by (λ a. a) r

@@ -9,11 +9,24 @@ pub fn read(mut declared: Declared, text: &str) -> Declared {
         if let Some((name, (_, value))) = constant.and_then(|(name, rest)| Some((name, rest.split_once(" = ")?))) {
             declared.add_constant(name, value.trim_end_matches(';'));
         }
+        if let Some((name, value)) = line.trim().strip_suffix(',').and_then(|line| line.split_once(" = ")) {
+            declared.add_constant(&snake(name), value);
+        }
     }
     let text = lines.join("\n");
     read_structs(&mut declared, &text);
     read_calls(&mut declared, &text);
     declared
+}
+
+/// The name of a constant for a variant with its number, `TimingPoint = 62,`: `Timing_Point`, and `NP` as it is.
+fn snake(name: &str) -> String {
+    let letters: Vec<char> = name.chars().collect();
+    let words = letters.iter().enumerate().map(|(i, letter)| match i.checked_sub(1) {
+        Some(before) if letter.is_uppercase() && letters[before].is_lowercase() => format!("_{letter}"),
+        _ => letter.to_string(),
+    });
+    words.collect()
 }
 
 /// One field a line: `pub standings: [u8; POINTS_MOST],`

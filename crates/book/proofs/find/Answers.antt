@@ -1,29 +1,15 @@
-use Prim.Native.Nat.{◌+◌}
-use mathlib.Core.Path.{◌≡◌}
-use lib.ListN.{drop}
-use native.Mathlib.Omega.{arith}
-use borrow.Author.Tests.{eq-eqb, ne_eqb}
-use Rattle.book.specs.View.{index_of}
-use Rattle.book.proofs.Entries.{number_step, number-end}
+use Rattle.std.proofs.Common.{rules, tests}
+use Rattle.std.specs.Prelude.{eqb, ◌&&◌}
+use Rattle.std.proofs.lemmas.Iterator.{YieldsList-from_slice}
+use Rattle.std.proofs.lemmas.Iterator.Search.{find_from_yields_List}
+use Rattle.segment_record.specs.declared.Entry.{Entry}
+use Rattle.segment_record.specs.Record.{BookSegment}
+use Rattle.segment_record.specs.View.{entry_view}
+use Rattle.book.proofs.Whole.{find-map}
 use Rattle.book.proofs.find.Goals as goal
-
-pub loop-i-init : goal.loop-i-init
-loop-i-init c = omega arith
-
-pub returns-then-keys-i : goal.returns-then-keys-i
-returns-then-keys-i c =
-    let a = c.args in
-    let w = c.loop-i in
-    let e : index_of a.k (drop w.i a.keys.now) ≡ 0 = rw (number_step a.keys.now w.i (omega arith), eq-eqb _ _ c.if-keys-i.true) in omega (arith, w.invariant)
-
-pub loop-i-preserved : goal.loop-i-preserved
-loop-i-preserved c =
-    let a = c.args in
-    let w = c.loop-i in
-    let e : index_of a.k (drop w.i a.keys.now) ≡ index_of a.k (drop (w.i + 1) a.keys.now) + 1 = rw (number_step a.keys.now w.i (omega arith), ne_eqb _ _ c.if-keys-i.false) in omega (arith, w.invariant)
 
 pub returns : goal.returns
 returns c =
     let a = c.args in
-    let w = c.loop-i in
-    let e : index_of a.k (drop w.i a.keys.now) ≡ 0 = rw (number-end a.keys.now w.i c.loop-i-test.false) in omega (arith, w.invariant)
+    let e = find_from_yields_List (λ (x : Entry). eqb x.nidc a.nidc && eqb x.nidsp a.nidsp) _ _ c.find.result c.find.ensures.ran (YieldsList-from_slice a.book.now.items cc) (λ x b q k. search (rules, tests)) in
+    rw (c.copied.ensures, e) (find-map entry_view (λ (g : BookSegment). eqb g.nidc a.nidc && eqb g.nidsp a.nidsp) a.book.now.items)

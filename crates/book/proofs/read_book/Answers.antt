@@ -1,50 +1,61 @@
-use Prim.Native.Nat.{min}
-use lib.ListN.{take}
-use mathlib.Core.Path.{subst, ◌∙◌, sym}
-use Rattle.book.specs.View.{CountedIn}
-use Rattle.book.specs.declared.Counted.{Counted}
-use Rattle.book.proofs.Whole.{book_bad, book_refused, book_many, book_fit, book_segment, book_point_lem, book_good}
-use Rattle.book.proofs.Entries.{few_points}
+use Rattle.std.proofs.Common.{◌≡◌, ◌∙◌, length, sym}
+use mathlib.Core.Bool.{or-true, or-false}
+use Rattle.std.proofs.lemmas.Result.{err_from_is_err_and}
+use Rattle.std.proofs.lemmas.List.{length-map, map_push}
+use Rattle.wire.specs.declared.Refusal.{Refusal}
+use Rattle.segment_record.specs.View.{entry_view}
+use Rattle.book.specs.View.{book_view}
+use Rattle.book.proofs.Whole.{begins, refused, shorter, goes_on, pushed, some_left, over_refused, segment_refused, point_refused, accepted}
 use Rattle.book.proofs.read_book.Goals as goal
-use Rattle.book.proofs.read_book.Goals.{In-Whole}
+use Rattle.book.proofs.read_book.Goals.{then-over-via-then-over, then-over-via-else-over+then-name_twice, then-over-via-else-over+else-name_twice+then-point_twice}
 
--- the records of a book that is read to its end
-all_read : (c : In-Whole) → CountedIn c.args.s.now c.read_records-all.result.first (Counted.Whole c.in-Whole.n)
-all_read c = subst (CountedIn c.args.s.now c.read_records-all.result.first) c.in-Whole.is c.read_records-all.ensures
+pub loop-rest-init : goal.loop-rest-init
+loop-rest-init c = rw c.new-book.ensures (begins c.args.s.now)
 
-pub returns-in_default : goal.returns-in_default
-returns-in_default c =
+pub returns-in_err-e : goal.returns-in_err-e
+returns-in_err-e c =
+    let l = some_left (length c.loop-rest.rest.now) c.loop-rest-test.ensures in
+    let p = err_from_is_err_and c.from_residual.result c.from_residual.ensures.1 in
+    let none = rw c.in_err-e.ensures.ok_part at c.read_segment.ensures in
+    let form = rw c.in_err-e.ensures.ok_part at c.in_err-e.ensures.value in
+    let row : c.in_err-e.field-0.0 ≡ Refusal.BookForm = cc in
+    rw (p.1, p.2, row) (refused c.args.s.now c.loop-rest.rest.now (book_view c.loop-rest.book) c.loop-rest.over c.loop-rest.invariant l none)
+
+pub loop-rest-smaller : goal.loop-rest-smaller
+loop-rest-smaller c =
+    let l = some_left (length c.loop-rest.rest.now) c.loop-rest-test.ensures in
+    let some = rw c.in_ok-e.ensures.ok_part at c.read_segment.ensures in
+    shorter c.loop-rest.rest.now (entry_view c.in_ok-e.e) c.in_ok-e.behind.now l some
+
+pub loop-rest-preserved : goal.loop-rest-preserved
+loop-rest-preserved c =
+    let l = some_left (length c.loop-rest.rest.now) c.loop-rest-test.ensures in
+    let some = rw c.in_ok-e.ensures.ok_part at c.read_segment.ensures in
+    let b = c.loop-rest.book in
+    let over = c.loop-rest.over in
+    let p = c.try_push.ensures in
+    let t = pushed c.try_push.result (length b.items) 40 _ _ p.variant p.ok p.err in
+    goes_on c.args.s.now c.loop-rest.rest.now (book_view b) over c.loop-rest.invariant (entry_view c.in_ok-e.e) c.in_ok-e.behind.now l some _ _
+    (λ h. let k = t.0 (rw length-map at h) in (rw k.0 (map_push entry_view b.items c.in_ok-e.e), rw (c.is_err-over.ensures.value, k.1) (or-false over)))
+    (λ h. let k = t.1 (rw length-map at h) in (rw k.0, rw (c.is_err-over.ensures.value, k.1) (or-true over)))
+
+pub returns-then-over : goal.returns-then-over
+returns-then-over c =
     let s = c.args.s.now in
-    rw c.refused.ensures (book_refused s 7 (book_bad s (subst (CountedIn s c.read_records-all.result.first) c.in_default.is c.read_records-all.ensures)))
-
-pub returns-then-n-gt-MAX_SEGMENTS : goal.returns-then-n-gt-MAX_SEGMENTS
-returns-then-n-gt-MAX_SEGMENTS c =
-    let s = c.args.s.now in
-    let g = all_read (goal.at.returns-then-n-gt-MAX_SEGMENTS c).In-Whole in
-    rw c.refused-then-n-gt-MAX_SEGMENTS.ensures (book_refused s 8 (book_many s _ g.0 g.1 g.2.count c.if-n-gt-MAX_SEGMENTS.true))
-
-pub returns-then-segment_twice : goal.returns-then-segment_twice
-returns-then-segment_twice c =
-    let s = c.args.s.now in
-    let g = all_read (goal.at.returns-then-segment_twice c).In-Whole in
-    let t = sym (c.segment_twice.ensures s) ∙ c.if-segment_twice.true in
-    rw c.refused-then-segment_twice.ensures (book_refused s 8 (book_segment s _ _ g.0 g.1 g.2 c.if-n-gt-MAX_SEGMENTS.false t))
-
-pub point_twice-requires : goal.point_twice-requires
-point_twice-requires c =
-    let g = all_read (goal.at.point_twice-requires c).In-Whole in
-    few_points c.args.s.now (take (min c.in-Whole.n 40) c.read_records-all.result.first) (book_fit _ _ _ g.0 g.1 g.2 c.if-n-gt-MAX_SEGMENTS.false)
-
-pub returns-then-point_twice : goal.returns-then-point_twice
-returns-then-point_twice c =
-    let s = c.args.s.now in
-    let g = all_read (goal.at.returns-then-point_twice c).In-Whole in
-    let t = sym (c.segment_twice.ensures s) ∙ c.if-segment_twice.false in
-    rw c.refused-then-point_twice.ensures (book_refused s 8 (book_point_lem s _ _ g.0 g.1 g.2 c.if-n-gt-MAX_SEGMENTS.false t (sym c.point_twice.ensures ∙ c.if-point_twice.true)))
+    let rest = c.loop-rest.rest.now in
+    let b = c.loop-rest.book.items in
+    let over = c.loop-rest.over in
+    let i = c.loop-rest.invariant in
+    let end = c.loop-rest-test.ensures in
+    elim c.then-over.branch [
+      | then-over-via-then-over w ↦ over_refused s rest b over i end w.if-over.true
+      | then-over-via-else-over+then-name_twice w ↦ segment_refused s rest b over i end (sym w.if-name_twice.true ∙ rw w.as_slice.ensures.value at w.name_twice.ensures)
+      | then-over-via-else-over+else-name_twice+then-point_twice w ↦
+          point_refused s rest b over i end w.if-over.false (sym w.if-point_twice.true ∙ rw w.as_slice-else-name_twice.ensures.value at w.point_twice.ensures)
+    ]
 
 pub returns : goal.returns
 returns c =
-    let s = c.args.s.now in
-    let g = all_read (goal.at.returns c).In-Whole in
-    let t = sym (c.segment_twice.ensures s) ∙ c.if-segment_twice.false in
-    book_good s _ _ g.0 g.1 g.2 c.if-n-gt-MAX_SEGMENTS.false t (sym c.point_twice.ensures ∙ c.if-point_twice.false)
+    accepted c.args.s.now c.loop-rest.rest.now c.loop-rest.book.items c.loop-rest.over c.loop-rest.invariant c.loop-rest-test.ensures c.if-over.false
+    (sym c.if-name_twice.false ∙ rw c.as_slice.ensures.value at c.name_twice.ensures)
+    (sym c.if-point_twice.false ∙ rw c.as_slice-else-name_twice.ensures.value at c.point_twice.ensures)

@@ -1,13 +1,10 @@
-use mathlib.Core.Path.{sym, ap, ◌∙◌}
-use borrow.Author.Tests.{not-false}
-use Rattle.position.specs.Position.{points_loaded}
-use Rattle.conditions.proofs.Laws.{none_left, one_left}
+use borrow.Author.Tests.{le-leb, lt-leb}
+use Rattle.engine_value.specs.View.{route_view}
+use Rattle.conditions.proofs.Laws.{profiles_is}
 use Rattle.conditions.proofs.profiles_there.Goals as goal
 
 pub returns-then-points_loaded-p : goal.returns-then-points_loaded-p
-returns-then-points_loaded-p c j l f = let s = c in
-    none_left j s.args.p (sym (ap (λ l. l.valid) l) ∙ not-false _ s.if-not-l.false) _ (s.points_loaded.ensures ∙ ap points_loaded l) c.if-points_loaded-p.true
+returns-then-points_loaded-p c = rw (profiles_is (route_view c.args.j) c.args.p, c.if-j.true, ← c.points_loaded.ensures, le-leb _ _ c.if-points_loaded-p.true)
 
 pub returns-else-points_loaded-p : goal.returns-else-points_loaded-p
-returns-else-points_loaded-p c j l f = let s = c in
-    f ∙ one_left j s.args.p (sym (ap (λ l. l.valid) l) ∙ not-false _ s.if-not-l.false) _ (s.points_loaded.ensures ∙ ap points_loaded l) c.if-points_loaded-p.false
+returns-else-points_loaded-p c = rw (profiles_is (route_view c.args.j) c.args.p, c.if-j.true, ← c.points_loaded.ensures, lt-leb _ _ c.if-points_loaded-p.false, c.point.ensures)

@@ -1,38 +1,31 @@
-use mathlib.Core.Path.{ap, ◌∙◌}
-use Rattle.wire.specs.declared.Verdict.{Verdict}
-use Rattle.event.specs.Kinds.{skip_given, carried}
-use Rattle.look_up.specs.declared.LookedUp.{LookedUp}
-use Rattle.effects.specs.View.{plain_effect}
-use Rattle.effects.proofs.Laws.{gives-number, index_below, skip-route, skip_14, skip_behind, skip_same, skip_taken, gives-skip}
+use Rattle.std.proofs.Common.{◌≡◌, ◌∙◌, refl, sym, ap, Some, rules, if◌then◌else◌}
+use Rattle.wire.specs.Judged.Judged.{accept}
+use Rattle.event.specs.Kinds.{carried}
+use Rattle.timing.specs.Changes.{status_skipped, status_revoked}
+use Rattle.event_packets.specs.View.{status_number}
+use Rattle.effects.proofs.Laws.{skip_behind, skip_same, skip_taken, skip_is}
 use Rattle.effects.proofs.skip.Goals as goal
+use Rattle.effects.proofs.skip.Goals.{then-is_behind-via-then-is_behind, then-is_behind-via-else-is_behind+then-stop-on, then-on, else-on}
 
-pub returns-in_default : goal.returns-in_default
-returns-in_default c = λ t on k p.
-    let a = c.args in
-    gives-number a.e _ 14 a.looked.before _ _ c.plain.ensures (skip-route a.e on a.looked.stop.at) (ap (λ (l : LookedUp). l.before) k)
-    (skip_14 a.e (carried a.v) on a.looked.stop c.in_default.is)
+pub returns-then-is_behind-clause-effect : goal.returns-then-is_behind-clause-effect
+returns-then-is_behind-clause-effect c = λ t k r.
+    let e = c.args.e.now in
+    let s = c.in_ok-stop.stop in
+    let found : c.args.looked.now.stop ≡ Some s = search rules in
+    elim c.then-is_behind.branch [
+      | then-is_behind-via-then-is_behind w ↦ skip_behind e (carried c.args.v) c.args.on _ s found (sym c.is_behind.ensures ∙ w.if-is_behind.true)
+      | then-is_behind-via-else-is_behind+then-stop-on w ↦ skip_same e (carried c.args.v) c.args.on _ s found w.if-stop-on.true
+    ]
 
-pub returns-then-is_behind : goal.returns-then-is_behind
-returns-then-is_behind c = λ t on k p.
-    let a = c.args in
-    let index = c.index_of-index.ensures (index_below a.e a.v a.looked _ k c.in-At.is) in
-    gives-number a.e _ 15 a.looked.before _ _ c.plain-then-is_behind.ensures (skip-route a.e on a.looked.stop.at) (ap (λ (l : LookedUp). l.before) k)
-    (skip_behind a.e (carried a.v) on a.looked.stop _ c.in-At.is (cc))
-
-pub returns-then-same : goal.returns-then-same
-returns-then-same c = λ t on k p.
-    let a = c.args in
-    let index = c.index_of-index.ensures (index_below a.e a.v a.looked _ k c.in-At.is) in
-    let given = ap skip_given p in
-    gives-number a.e _ 15 a.looked.before _ _ c.plain-then-same.ensures (skip-route a.e on a.looked.stop.at) (ap (λ (l : LookedUp). l.before) k)
-    (skip_same a.e (carried a.v) on a.looked.stop _ c.in-At.is (cc) (cc))
-
-pub returns : goal.returns
-returns c = λ t on k p.
-    let a = c.args in
-    let index = c.index_of-index.ensures (index_below a.e a.v a.looked _ k c.in-At.is) in
-    let given = ap skip_given p in
-    gives-skip a.e a.v t on a.looked.stop _ c.plain-f.result c.one_change-f.result p c.in-At.is
-    (c.plain-f.ensures ∙ ap (λ (l : LookedUp). plain_effect a.e Verdict.Accepted l.before) k)
-    (cc)
-    (skip_taken a.e (carried a.v) on a.looked.stop _ c.in-At.is (cc) (cc))
+pub returns-clause-effect : goal.returns-clause-effect
+returns-clause-effect c = λ t k r.
+    let e = c.args.e.now in
+    let s = c.in_ok-stop.stop in
+    let found : c.args.looked.now.stop ≡ Some s = search rules in
+    let status : status_number c.if-on.status ≡ (if c.args.on then status_skipped else status_revoked) =
+    elim c.if-on.branch [
+      | then-on w ↦ rw (w.status-is, w.if-on.true)
+      | else-on w ↦ rw (w.status-is, w.if-on.false)
+    ] in
+    ap accept (skip_is e c.args.v t c.args.on s.at _ c.if-on.status _ _ r refl status c.unchanged.ensures)
+    ∙ skip_taken e (carried c.args.v) c.args.on _ s found (sym c.is_behind.ensures ∙ c.if-is_behind.false) c.if-stop-on.false

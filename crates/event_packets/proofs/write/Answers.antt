@@ -1,14 +1,21 @@
-use Rattle.event_packets.proofs.Stored.{put_all}
+use Rattle.std.proofs.Common.{◌≡◌, ◌∙◌, ap, rules, arith}
+use Rattle.std.specs.Prelude.{option_map}
+use lib.Seq.{sets}
+use Rattle.engine_value.specs.Engine.{route_in}
+use Rattle.packets.specs.Packets.{joined}
+use Rattle.call_values.specs.Packets.{traction_brake, ato_status}
+use Rattle.event_packets.specs.View.{jp_received_view}
+use Rattle.event_packets.proofs.Stored.{changed, put_all, in_kinds}
 use Rattle.event_packets.proofs.write.Goals as goal
 
 pub returns : goal.returns
 returns c =
-    let s₆ = c in
-    let s₅ = s₆ in
-    let s₄ = s₅ in
-    let s₃ = s₄ in
-    let s₂ = s₃ in
-    let s₁ = s₂ in
-    let h = s₁ in
-    let a = h.args in
-    put_all a.e a.w _ h.header_of-header.ensures _ _ _ _ _ _ _ _ _ _ _ _ s₁.put_received-first.ensures s₂.put_first-passings.ensures s₃.put_passings-stopped.ensures s₄.put_stopped-own.ensures s₅.put_own-status.ensures s₆.put_status.ensures
+    let e = c.args.e.now in
+    let w = c.args.w.now in
+    let received : c.map-received.result ≡ option_map (jp_received_view e) w.received = search rules in
+    let first : c.map-first.result ≡ option_map (changed e) w.changes.first = search rules in
+    let last : c.map-last.result ≡ option_map (changed e) w.changes.last = search rules in
+    let requested : c.map-requested.result ≡ option_map (traction_brake (route_in e) e.train.position) w.requested = search rules in
+    let status : c.map-status.result ≡ option_map (ato_status (route_in e) e.train.position e.control.state) w.status = search rules in
+    put_all _ _ _ _ _ _ _ _ _ _ _ _ _ _ _ _ _ _ _ c.put-points.ensures c.put-at.ensures c.put_passed-at.ensures c.put-at-2.ensures c.put-at-3.ensures c.put.ensures
+    ∙ ap (λ ps. sets c.args.out.now 0 (joined ps)) (rw (received, first, last, requested, status) (in_kinds e w))

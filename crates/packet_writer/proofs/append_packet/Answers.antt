@@ -9,30 +9,25 @@ use Rattle.packets.proofs.PacketLaws.{written_19, written_16, written_all}
 use Rattle.packet_writer.proofs.WriterLaws.{appended, kept}
 use Rattle.packet_writer.proofs.append_packet.Goals as goal
 
-pub returns-then-size-room : goal.returns-then-size-room
-returns-then-size-room c =
+pub returns-then-not-fits : goal.returns-then-not-fits
+returns-then-not-fits c =
     let s = c.args in
-    let l = s.out.now in
-    let fits : packet_fits s.p ≡ true = cc in
-    let n = length-drop s.at l in
-    let room : size_of s.p ≤ length (drop s.at l) = omega arith in
-    let w = written_all s.p (drop s.at l) fits room in
-    (ap accept c.packet_size-size.ensures ∙ sym w.0, c.put_packet.ensures ∙ appended s.p s.at l room w.1)
-
-pub returns-else-size-room : goal.returns-else-size-room
-returns-else-size-room c =
-    let s = c.args in
-    let l = s.out.now in
-    let fits : packet_fits s.p ≡ true = cc in
-    let n = length-drop s.at l in
-    let short : length (drop s.at l) < size_of s.p = omega arith in
-    let w = written_16 s.p (drop s.at l) fits short in
-    (sym w.0, kept s.p s.at l w.1)
-
-pub returns-else-fits : goal.returns-else-fits
-returns-else-fits c =
-    let s = c.args in
-    let l = s.out.now in
     let beyond : packet_fits s.p ≡ false = cc in
-    let w = written_19 s.p (drop s.at l) beyond in
-    (sym w.0, kept s.p s.at l w.1)
+    let w = written_19 s.p (drop s.at s.out.now) beyond in
+    record { count = sym w.0; memory = kept s.p s.at s.out.now w.1 }
+
+pub returns-then-saturating_sub-size : goal.returns-then-saturating_sub-size
+returns-then-saturating_sub-size c =
+    let s = c.args in
+    let fits : packet_fits s.p ≡ true = cc in
+    let short : length (drop s.at s.out.now) < size_of s.p = rw length-drop (omega arith) in
+    let w = written_16 s.p (drop s.at s.out.now) fits short in
+    record { count = sym w.0; memory = kept s.p s.at s.out.now w.1 }
+
+pub returns : goal.returns
+returns c =
+    let s = c.args in
+    let fits : packet_fits s.p ≡ true = cc in
+    let room : size_of s.p ≤ length (drop s.at s.out.now) = rw length-drop (omega arith) in
+    let w = written_all s.p (drop s.at s.out.now) fits room in
+    record { count = ap accept c.size-size.ensures ∙ sym w.0; memory = c.put_packet.ensures ∙ appended s.p s.at s.out.now room w.1 }

@@ -1,13 +1,20 @@
+use Rattle.packets.specs.View.{packet_view}
+use Rattle.packets.specs.declared.Packet.{Packet}
+use Rattle.packet_writer.proofs.WriterLaws.{behind-header}
 use Rattle.packet_writer.proofs.put_front.Goals as goal
 
 pub returns-in-TimingPoint : goal.returns-in-TimingPoint
-returns-in-TimingPoint c = rw c.in-TimingPoint.is c.put_timing_point.ensures
+returns-in-TimingPoint c =
+    rw (c.put_timing_point.ensures, c.put_header.ensures, c.kind.ensures, c.header.ensures, c.in-TimingPoint.is) (behind-header (packet_view (Packet.TimingPoint c.in-TimingPoint.x)) c.args.out.now)
 
 pub returns-in-JpReceived : goal.returns-in-JpReceived
-returns-in-JpReceived c = rw c.in-JpReceived.is c.put_jp_received.ensures
+returns-in-JpReceived c =
+    rw (c.put_jp_received.ensures, c.put_header.ensures, c.kind.ensures, c.header.ensures, c.in-JpReceived.is) (behind-header (packet_view (Packet.JpReceived c.in-JpReceived.x)) c.args.out.now)
 
 pub returns-in-AtoStatus : goal.returns-in-AtoStatus
-returns-in-AtoStatus c = rw c.in-AtoStatus.is c.put_ato_status.ensures
+returns-in-AtoStatus c =
+    rw (c.put_ato_status.ensures, c.put_header.ensures, c.kind.ensures, c.header.ensures, c.in-AtoStatus.is) (behind-header (packet_view (Packet.AtoStatus c.in-AtoStatus.x)) c.args.out.now)
 
 pub returns-in-TractionBrake : goal.returns-in-TractionBrake
-returns-in-TractionBrake c = rw c.in-TractionBrake.is c.put_traction_brake.ensures
+returns-in-TractionBrake c =
+    rw (c.put_requested.ensures, c.put_header.ensures, c.kind.ensures, c.header.ensures, c.in-TractionBrake.is) (behind-header (packet_view (Packet.TractionBrake c.in-TractionBrake.x)) c.args.out.now)

@@ -1,32 +1,25 @@
-use mathlib.Core.Path.{◌≡◌, sym, ◌∙◌}
-use Rattle.wire.specs.Judged.Judged.{accept}
-use Rattle.book.specs.Table.{book_of}
-use Rattle.book.specs.View.{segments_view}
-use Rattle.book.proofs.Whole.{book_seen}
-use Rattle.journey.proofs.Rows.{journey_seen}
-use Rattle.route.proofs.Rows.{told-refused, book_refused, book_accepted, journey_refused, journey_accepted, no_book, no_journey, both}
+use Rattle.std.proofs.Common.{◌∙◌, sym}
+use Rattle.std.proofs.lemmas.Result.{err_from_is_err_and}
+use Rattle.book.specs.View.{book_view}
+use Rattle.journey.specs.View.{value_view}
 use Rattle.route.proofs.Accepted.{book-sound}
+use Rattle.route.proofs.Rows.{no_book, no_journey, both}
 use Rattle.route.proofs.load_route.Goals as goal
-use Rattle.route.proofs.load_route.Goals.{In_default}
 
--- a book that was read
-book_read : (c : In_default) → let s = c.args.book.now in book_of s ≡ accept (segments_view s c.read_book-b.result)
-book_read c = sym (book_seen _ _ c.read_book-b.ensures) ∙ book_accepted c.args.book.now c.read_book-b.result c.in_default.is
+pub returns-in_err-b : goal.returns-in_err-b
+returns-in_err-b c =
+    let p = err_from_is_err_and c.from_residual.result c.from_residual.ensures.1 in
+    rw (p.1, p.2) (sym (no_book c.args.journey.now c.args.book.now _ (sym c.in_err-b.ensures)))
 
-pub returns-in-Refused : goal.returns-in-Refused
-returns-in-Refused c =
-    let a = c.args in
-    told-refused _ _ _ c.refused.ensures (no_book a.journey.now a.book.now _ (sym (book_seen _ _ c.read_book-b.ensures) ∙ book_refused a.book.now c.read_book-b.result _ c.in-Refused.is))
+pub returns-in_err-j : goal.returns-in_err-j
+returns-in_err-j c =
+    let p = err_from_is_err_and c.from_residual-in_err-j.result c.from_residual-in_err-j.ensures.1 in
+    rw (p.1, p.2) (sym (no_journey c.args.journey.now c.args.book.now (book_view c.in_ok-b.b) _ (sym c.in_ok-b.ensures) (sym c.in_err-j.ensures)))
 
-pub returns-in-Refused-of_journey : goal.returns-in-Refused-of_journey
-returns-in-Refused-of_journey c =
-    let a = c.args in
-    told-refused _ _ _ c.refused-in-Refused-of_journey.ensures (no_journey a.journey.now a.book.now _ _ (book_read (goal.at.returns-in-Refused-of_journey c).In_default) (sym (journey_seen _ _ c.read_journey-j.ensures) ∙ journey_refused c.read_journey-j.result _ c.in-Refused-of_journey.is))
-
-pub place-requires : goal.place-requires
-place-requires c = book-sound c.args.book.now _ (book_read (goal.at.place-requires c).In_default)
+pub place_segments-requires : goal.place_segments-requires
+place_segments-requires c = book-sound c.args.book.now (book_view c.in_ok-b.b) (sym c.in_ok-b.ensures)
 
 pub returns : goal.returns
 returns c =
-    let a = c.args in
-    rw (both a.journey.now a.book.now _ _ (book_read (goal.at.returns c).In_default) (sym (journey_seen _ _ c.read_journey-j.ensures) ∙ journey_accepted c.read_journey-j.result c.in_default-of_journey.is)) c.place.ensures
+    c.place.ensures (book_view c.in_ok-b.b) c.place_segments.ensures
+    ∙ sym (both c.args.journey.now c.args.book.now (book_view c.in_ok-b.b) (value_view c.in_ok-j.j) (sym c.in_ok-b.ensures) (sym c.in_ok-j.ensures))

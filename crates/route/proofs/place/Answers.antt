@@ -1,81 +1,70 @@
--- The tests stand for those of the definitions, since the arrays hold the definitions' lists.
-use mathlib.Core.Path.{◌≡◌, sym, ap, ◌∙◌}
-use mathlib.Core.Bool.{false, not, ◌||◌}
-use lib.Dec.{eqb}
+use Rattle.std.proofs.Common.{◌≡◌, ◌∙◌, sym, ap, Bool, true, false, List, ◌<◌, length, get_or, take, map, arith, rules, tests}
+use Rattle.std.proofs.lemmas.List.{same_lists, get_or-map, length-map}
+use Rattle.std.proofs.lemmas.Result.{err_from_is_err_and}
+use Rattle.wire.specs.Judged.Judged.{accept}
 use Rattle.wire.specs.Lists.{falls, strictly_rises}
+use Rattle.engine_value.specs.Engine.{blank_point, filled}
+use Rattle.segment_record.specs.Record.{BookSegment}
+use Rattle.journey.specs.View.{value_view}
+use Rattle.journey.specs.declared.JourneyPoint.{JourneyPoint}
 use Rattle.journey_rows.specs.Rows.{indices, places}
-use Rattle.journey_rows.specs.declared.Seen.{Seen}
-use Prim.Native.Nat.{ℕ, min}
-use lib.ListN.{length, take, length-take}
-use native.Mathlib.Omega.{arith}
-use Rattle.book.specs.View.{segments_view}
-use Rattle.journey.specs.View.{points_view, value_view}
-use Rattle.journey.proofs.Left.{points_few}
 use Rattle.route.specs.Placing.{points_of}
-use Rattle.wire.proofs.ListLaws.{or-false, or-true-left, or-false-left}
-use Rattle.route.specs.View.{PointsRead}
-use Rattle.route.proofs.Rows.{ten, early, eleven, eleven_parts, twelve, twelve_same, row_10, row_11, row_12, no_row, told-refused, told-loaded}
+use Rattle.route.specs.View.{PlacingRead, eleven}
+use Rattle.route.proofs.Rows.{row_10, row_12, no_row, twelve, twelve_same}
+use Rattle.route.proofs.Placing.{segment_in, blank_placed, eleven_refuses, eleven_passes, loaded}
 use Rattle.route.proofs.place.Goals as goal
-use Rattle.route.proofs.place.Goals.{After-row_11-eleven, After-place_points-p, After-row_12-twelve}
+use Rattle.route.proofs.place.Goals.{After-index_falls, then-index_falls-via-then-index_falls, then-index_falls-via-else-index_falls+then-not-places_rise}
 
-early-is : (c : After-row_11-eleven) → early (value_view c.args.j) ≡ c.row_11-eleven.result
-early-is c = sym (c.row_11-eleven.ensures ∙ ap (λ (x : Seen). x.beyond || (x.twice || not (eqb x.ends 1))) c.scan-seen.ensures)
+pub returns-then-name_twice : goal.returns-then-name_twice
+returns-then-name_twice c = λ book h. sym (row_10 book (value_view c.args.j.now) (sym c.name_twice.ensures ∙ c.if-name_twice.true))
 
-points-are : (c : After-place_points-p) → PointsRead (segments_view c.args.s.now c.args.b) (value_view c.args.j) c.place_points-p.result
-points-are c = c.place_points-p.ensures _ c.place_segments-m.ensures
+pub returns-in_err-points : goal.returns-in_err-points
+returns-in_err-points c = λ book h.
+    let p = err_from_is_err_and c.from_residual.result c.from_residual.ensures.1 in
+    rw (p.1, p.2) (eleven_refuses book (value_view c.args.j.now) (sym c.name_twice.ensures ∙ c.if-name_twice.false) _ (c.in_err-points.ensures book h))
 
--- no row before 12 refuses
-ten-left : (c : After-place_points-p) → ten (value_view c.args.j) ≡ false
-ten-left c = sym c.name_twice-twice.ensures ∙ c.if-twice.false
+-- the points that row 11 leaves
+passed : (c : After-index_falls) (book : List BookSegment) → PlacingRead book c.args.j.now.names.items c.args.segments.now
+    → (eleven book (value_view c.args.j.now) ≡ false) × (c.in_ok-points.points ≡ filled 64 blank_point (points_of book (value_view c.args.j.now)))
+passed c book h = eleven_passes book (value_view c.args.j.now) c.in_ok-points.points (c.in_ok-points.ensures book h)
 
-eleven-is : (c : After-place_points-p) → early (value_view c.args.j) ≡ c.row_11-eleven.result
-    → eleven (segments_view c.args.s.now c.args.b) (value_view c.args.j) ≡ c.place_points-p.result.missing
-eleven-is c e = eleven_parts _ (value_view c.args.j) ∙ or-false-left _ _ (e ∙ c.if-eleven.false) ∙ sym (points-are c).missing
+-- row 12 over them
+order : (c : After-index_falls) (book : List BookSegment) → PlacingRead book c.args.j.now.names.items c.args.segments.now → (b : Bool)
+    → twelve (take (length c.args.j.now.points.items) c.in_ok-points.points) (value_view c.args.j.now) ≡ b → twelve (points_of book (value_view c.args.j.now)) (value_view c.args.j.now) ≡ b
+order c book h b e =
+    let s = c.as_slice-from.ensures in
+    sym (twelve_same book (value_view c.args.j.now) c.in_ok-points.points (passed c book h).1 (omega (arith, ap length s.value, s.fits))) ∙ e
 
-twelve-is : (c : After-row_12-twelve) → PointsRead (segments_view c.args.s.now c.args.b) (value_view c.args.j) c.place_points-p.result
-    → twelve (points_of (segments_view c.args.s.now c.args.b) (value_view c.args.j)) (value_view c.args.j) ≡ c.row_12-twelve.result
-twelve-is c r =
-    let l = points_view c.args.j in
-    let n = c.point_count-n in
-    let long : min n.result 64 ≡ length l = sym (length-take (min c.args.j.point_count 64) c.args.j.points ∙ omega (arith, n.ensures.0, n.ensures.1)) in
-    let ps = c.place_points-p.result.points in
-    sym (twelve_same (segments_view c.args.s.now c.args.b) (value_view c.args.j) ps r.points (points_few c.args.j))
-    ∙ sym (c.row_12-twelve.ensures ∙ ap (λ (x : Seen). x.falls || not (strictly_rises (places (take (min n.result 64) ps)))) c.scan-seen.ensures ∙ ap (λ (q : ℕ). falls (indices l) || not (strictly_rises (places (take q ps)))) long)
+index-is : (c : After-index_falls) (b : Bool) → c.index_falls.result ≡ b → falls (indices c.args.j.now.points.items) ≡ b
+index-is c b e = ap (λ (l : List JourneyPoint). falls (indices l)) (sym c.as_slice-from.ensures.value) ∙ sym c.index_falls.ensures ∙ e
 
-pub place_segments-m-requires : goal.place_segments-m-requires
-place_segments-m-requires c = c.requires
+rise-is : (c : After-index_falls) (r b : Bool) → r ≡ strictly_rises (places (take (length c.as_slice-from.result.now) c.in_ok-points.points)) → r ≡ b
+    → strictly_rises (places (take (length c.args.j.now.points.items) c.in_ok-points.points)) ≡ b
+rise-is c r b q e = ap (λ (l : List JourneyPoint). strictly_rises (places (take (length l) c.in_ok-points.points))) (sym c.as_slice-from.ensures.value) ∙ sym q ∙ e
 
-pub returns-then-twice : goal.returns-then-twice
-returns-then-twice c = told-refused _ 10 _ c.refused.ensures (row_10 _ (value_view c.args.j) (sym c.name_twice-twice.ensures ∙ c.if-twice.true))
-
-pub returns-then-eleven : goal.returns-then-eleven
-returns-then-eleven c =
-    let o = goal.at.returns-then-eleven c in
-    let b = segments_view c.args.s.now c.args.b in
-    let v = value_view c.args.j in
-    told-refused _ 11 _ c.refused-then-eleven.ensures
-    (row_11 b v (sym c.name_twice-twice.ensures ∙ c.if-twice.false) (eleven_parts b v ∙ or-true-left _ _ (early-is o.After-row_11-eleven ∙ c.if-eleven.true)))
-
-pub place_points-p-requires : goal.place_points-p-requires
-place_points-p-requires c =
-    ((or-false _ _ (early-is (goal.at.place_points-p-requires c).After-row_11-eleven ∙ c.if-eleven.false)).0, c.place_segments-m.ensures.fit)
-
-pub returns-then-p : goal.returns-then-p
-returns-then-p c =
-    let o = goal.at.returns-then-p c in
-    let read = o.After-place_points-p in
-    told-refused _ 11 _ c.refused-then-p.ensures (row_11 _ _ (ten-left read) (eleven-is read (early-is o.After-row_11-eleven) ∙ c.if-p.true))
-
-pub returns-then-twelve : goal.returns-then-twelve
-returns-then-twelve c =
-    let o = goal.at.returns-then-twelve c in
-    let read = o.After-place_points-p in
-    told-refused _ 12 _ c.refused-then-twelve.ensures
-    (row_12 _ _ (ten-left read) (eleven-is read (early-is o.After-row_11-eleven) ∙ c.if-p.false) (twelve-is o.After-row_12-twelve (points-are read) ∙ c.if-twelve.true))
+pub returns-then-index_falls : goal.returns-then-index_falls
+returns-then-index_falls c = λ book h.
+    let o = (goal.at.returns-then-index_falls c).After-index_falls in
+    let v = value_view c.args.j.now in
+    let t : twelve (take (length v.points) c.in_ok-points.points) v ≡ true =
+    elim c.then-index_falls.branch [
+      | then-index_falls-via-then-index_falls w ↦ rw (index-is o true w.if-index_falls.true)
+      | then-index_falls-via-else-index_falls+then-not-places_rise w ↦ rw (index-is o false w.if-index_falls.false, rise-is o _ false w.places_rise.ensures w.if-not-places_rise.true)
+    ] in
+    sym (row_12 book v (sym c.name_twice.ensures ∙ c.if-name_twice.false) (passed o book h).0 (order o book h true t))
 
 pub returns : goal.returns
-returns c =
-    let o = goal.at.returns c in
-    let read = o.After-place_points-p in
-    told-loaded (segments_view c.args.s.now c.args.b) (value_view c.args.j) _ _ _ (c.load_of-load.ensures c.scan-seen.ensures) (points-are read).points c.place_segments-m.ensures.segments
-    (no_row _ _ (ten-left read) (eleven-is read (early-is o.After-row_11-eleven) ∙ c.if-p.false) (twelve-is o.After-row_12-twelve (points-are read) ∙ c.if-twelve.false))
+returns c = λ book h.
+    let o = (goal.at.returns c).After-index_falls in
+    let v = value_view c.args.j.now in
+    let m = c.args.segments.now in
+    let t : twelve (take (length v.points) c.in_ok-points.points) v ≡ false = rw (index-is o false c.if-index_falls.false, rise-is o _ true c.places_rise.ensures c.if-not-places_rise.false) in
+    let segments : c.map.result ≡ map segment_in m =
+    same_lists c.map.result (map segment_in m) (c.map.ensures.items.long ∙ sym (length-map m segment_in ∙ c.told-segments)) (λ k d l.
+    let n : k < 40 = omega (arith, c.map.ensures.items.long, l) in
+    let i : k < length m = omega (arith, c.told-segments, n) in
+    let call = c.map.ensures.items.at k blank_placed d n in
+    let e : get_or c.map.result k d ≡ (get_or m k blank_placed).segment = search (rules, tests, call) in
+    e ∙ sym (get_or-map segment_in m k blank_placed d i)) in
+    ap accept (loaded book v c.load_of.result c.in_ok-points.points c.map.result c.load_of.ensures (passed o book h).1 (segments ∙ h.segments))
+    ∙ sym (no_row book v (sym c.name_twice.ensures ∙ c.if-name_twice.false) (passed o book h).0 (order o book h false t))

@@ -1,11 +1,9 @@
-use Prim.Native.Nat.{◌-◌}
-use Rattle.journey.specs.View.{points_view}
-use Rattle.route.specs.View.{records_view}
-use Rattle.route.proofs.Placed.{PlacedPoints}
+use Rattle.std.proofs.Common.{List}
+use Rattle.segment_record.specs.Record.{BookSegment}
+use Rattle.journey.specs.View.{value_view}
+use Rattle.route.specs.View.{PlacingRead}
+use Rattle.route.proofs.Placing.{Points}
 use Rattle.route.proofs.place_points.Given as goal
 
-abbrev pub invariant-loop-i : goal.invariant-loop-i
-invariant-loop-i l = PlacedPoints l.m.segments (records_view l.s l.m) (points_view l.j) l.i l.points l.missing
-
-abbrev pub decreases-loop-i : goal.decreases-loop-i
-decreases-loop-i l = l.n - l.i
+abbrev pub invariant-loop-k : goal.invariant-loop-k
+invariant-loop-k l = (book : List BookSegment) → PlacingRead book l.j.names.items l.segments → Points book (value_view l.j) l.k l.points

@@ -1,11 +1,6 @@
-use Prim.Native.Nat.{◌-◌}
-use Rattle.journey.specs.View.{names_view}
-use Rattle.book.specs.View.{segments_view}
-use Rattle.route.proofs.Placed.{Placed}
+use Rattle.book.specs.View.{book_view}
+use Rattle.route.proofs.Placing.{Placing}
 use Rattle.route.proofs.place_segments.Given as goal
 
-abbrev pub invariant-loop-i : goal.invariant-loop-i
-invariant-loop-i l = Placed l.s (segments_view l.s l.b) (names_view l.j) l.i l.segments l.entries l.placed l.start
-
-abbrev pub decreases-loop-i : goal.decreases-loop-i
-decreases-loop-i l = l.n - l.i
+abbrev pub invariant-loop-k : goal.invariant-loop-k
+invariant-loop-k l = Placing (book_view l.b) l.j.names.items l.k l.segments l.placed l.start

@@ -1,20 +1,22 @@
-use mathlib.Core.Path.{sym, ◌∙◌}
+use Rattle.std.proofs.Common.{◌≡◌, ℕ, ◌≤◌, ◌<◌, ◌∙◌, arith, rules, tests}
+use Rattle.std.specs.Prelude.{Option, Some, None, true, false, MatchOption}
+use Rattle.std.specs.Option.{unwrap_or}
+use Rattle.std.proofs.lemmas.Iterator.{first_from_Range}
+use Rattle.traction.specs.Ranges.{ranges, holds_at, lowest}
+use Rattle.traction.proofs.Laws.{lowest_is}
 use Rattle.traction.proofs.lowest.Goals as goal
 
-pub returns-then-holds : goal.returns-then-holds
-returns-then-holds c = rw (sym c.holds.ensures ∙ c.if-holds.true)
-
-pub returns-then-holds-2 : goal.returns-then-holds-2
-returns-then-holds-2 c = rw (sym c.holds.ensures ∙ c.if-holds.false, sym c.holds-2.ensures ∙ c.if-holds-2.true)
-
-pub returns-then-holds-3 : goal.returns-then-holds-3
-returns-then-holds-3 c = rw (sym c.holds.ensures ∙ c.if-holds.false, sym c.holds-2.ensures ∙ c.if-holds-2.false, sym c.holds-3.ensures ∙ c.if-holds-3.true)
-
-pub returns-then-holds-4 : goal.returns-then-holds-4
-returns-then-holds-4 c = rw (sym c.holds.ensures ∙ c.if-holds.false, sym c.holds-2.ensures ∙ c.if-holds-2.false, sym c.holds-3.ensures ∙ c.if-holds-3.false, sym c.holds-4.ensures ∙ c.if-holds-4.true)
-
-pub returns-then-holds-5 : goal.returns-then-holds-5
-returns-then-holds-5 c = rw (sym c.holds.ensures ∙ c.if-holds.false, sym c.holds-2.ensures ∙ c.if-holds-2.false, sym c.holds-3.ensures ∙ c.if-holds-3.false, sym c.holds-4.ensures ∙ c.if-holds-4.false, sym c.holds-5.ensures ∙ c.if-holds-5.true)
+of_first : (size : ℕ) (r : Option ℕ)
+    → MatchOption r ((k : ℕ) → 0 ≤ k → k < 5 → holds_at ranges k size ≡ false)
+    (λ i. (0 ≤ i) × (i < 5) × (holds_at ranges i size ≡ true) × ((k : ℕ) → 0 ≤ k → k < i → holds_at ranges k size ≡ false))
+    → unwrap_or r 5 ≡ lowest ranges size
+of_first size None f = lowest_is ranges size 5 (omega arith) (λ i l. f i (omega arith) l) (λ l. absurd (omega arith))
+of_first size (Some k) f = lowest_is ranges size k (omega arith) (λ i l. f.3 i (omega arith) l) (λ l. f.2)
 
 pub returns : goal.returns
-returns c = rw (sym c.holds.ensures ∙ c.if-holds.false, sym c.holds-2.ensures ∙ c.if-holds-2.false, sym c.holds-3.ensures ∙ c.if-holds-3.false, sym c.holds-4.ensures ∙ c.if-holds-4.false, sym c.holds-5.ensures ∙ c.if-holds-5.false)
+returns c =
+    c.unwrap_or.ensures
+    ∙ of_first c.args.size c.find.result
+    (first_from_Range _ _ _ _ (λ k. holds_at ranges k c.args.size ≡ true) (λ k. holds_at ranges k c.args.size ≡ false) c.find.ensures.ran
+    (λ x q k. search (rules, tests))
+    (λ x q k. (search rules, search (rules, tests))))

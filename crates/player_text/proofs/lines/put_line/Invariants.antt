@@ -1,12 +1,8 @@
 use mathlib.Core.Path.{◌≡◌}
-use Prim.Native.Nat.{◌-◌}
-use lib.ListN.{length, take}
-use Rattle.player_text.specs.Lines.{hex}
-use Rattle.player_text.specs.View.{Put}
+use lib.ListN.{drop}
+use Rattle.player_text.specs.Lines.{hex_line}
+use Rattle.player_text.specs.View.{appended}
 use Rattle.player_text.proofs.lines.put_line.Given as goal
 
-abbrev pub invariant-loop-i : goal.invariant-loop-i
-invariant-loop-i l = (l.i-end ≡ length l.s) × Put l.initial.text l.at (hex (take l.i l.s)) l.text l.next
-
-abbrev pub decreases-loop-i : goal.decreases-loop-i
-decreases-loop-i l = l.i-end - l.i
+abbrev pub invariant-loop-b : goal.invariant-loop-b
+invariant-loop-b g l = appended g.row.N l.text.items (hex_line (drop l.b-index l.s)) ≡ appended g.row.N l.initial.text.items (hex_line l.s)

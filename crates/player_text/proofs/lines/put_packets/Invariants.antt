@@ -1,13 +1,11 @@
-use Prim.Native.Nat.{ℕ, ◌-◌}
 use mathlib.Core.Path.{◌≡◌}
-use mathlib.Core.List.{List, ◌++◌}
-use lib.ListN.{length, drop}
+use lib.ListN.{length}
 use Rattle.player_text.specs.Lines.{packet_text}
-use Rattle.player_text.specs.View.{Put}
+use Rattle.player_text.specs.View.{appended}
 use Rattle.player_text.proofs.lines.put_packets.Given as goal
 
-abbrev pub invariant-loop-from : goal.invariant-loop-from
-invariant-loop-from l = (done : List ℕ) × Put l.initial.text l.at done l.text l.next × (done ++ packet_text (drop l.from l.s) ≡ packet_text l.s)
+abbrev pub invariant-loop-rest : goal.invariant-loop-rest
+invariant-loop-rest g l = appended g.row.N l.text.items (packet_text l.rest) ≡ appended g.row.N l.initial.text.items (packet_text l.s)
 
-abbrev pub decreases-loop-from : goal.decreases-loop-from
-decreases-loop-from l = length l.s - l.from
+abbrev pub decreases-loop-rest : goal.decreases-loop-rest
+decreases-loop-rest g l = length l.rest

@@ -1,4 +1,0 @@
-use Rattle.book.proofs.refused.Goals as goal
-
-pub returns : goal.returns
-returns c = rw c.blank_entry-blank.ensures

@@ -1,4 +1,0 @@
-use Rattle.effects.proofs.unchanged.Goals as goal
-
-pub returns : goal.returns
-returns c = rw c.no_changes-changes.ensures

@@ -1,7 +1,0 @@
-use Rattle.journey_rows.proofs.falls.Goals as goal
-
-pub returns-then-p : goal.returns-then-p
-returns-then-p c = rw c.if-p.true
-
-pub returns-else-p : goal.returns-else-p
-returns-else-p c = rw c.if-p.false

@@ -1,6 +1,0 @@
-use Rattle.layout.specs.Layout.{values_at}
-use Rattle.packet_reader.proofs.get_timing_point.Goals as goal
-
-pub returns : goal.returns
-unfolding values_at
-returns c = cc
