@@ -32,9 +32,9 @@ package Hollwern is
    --  The most bytes of a book that is not refused.
    Book_Bytes_Most : constant := 8_200;
    --  Bytes of stack that a load takes.
-   Stack_Load : constant := 53_248;
+   Stack_Load : constant := 30_720;
    --  Bytes of stack that any other call takes.
-   Stack_Other : constant := 9_216;
+   Stack_Other : constant := 2_048;
 
    --  Event kinds: the first byte of an event.
    Kind_Power_On : constant := 1;

@@ -58,8 +58,8 @@
  * and 128 bytes for memcpy and memset, rounded up to 1,024: a test of the repository reads them and fails where these
  * differ. A program that binds memcpy and memset only at their first use runs the dynamic linker on the same stack
  * then, some 3 KiB more where it was measured: bind them before (-Wl,-z,now or -static), or provide for it. */
-#define HOLLWERN_STACK_LOAD 53248
-#define HOLLWERN_STACK_OTHER 9216
+#define HOLLWERN_STACK_LOAD 30720
+#define HOLLWERN_STACK_OTHER 2048
 
 /* Event kinds: the first byte of an event. */
 #define HOLLWERN_KIND_POWER_ON 1

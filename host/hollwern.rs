@@ -33,9 +33,9 @@ pub const JOURNEY_BYTES_MOST: usize = 768;
 /// The most bytes of a book that is not refused.
 pub const BOOK_BYTES_MOST: usize = 8_200;
 /// Bytes of stack that a load takes.
-pub const STACK_LOAD: usize = 53_248;
+pub const STACK_LOAD: usize = 30_720;
 /// Bytes of stack that any other call takes.
-pub const STACK_OTHER: usize = 9_216;
+pub const STACK_OTHER: usize = 2_048;
 
 // Event kinds: the first byte of an event.
 pub const KIND_POWER_ON: u8 = 1;

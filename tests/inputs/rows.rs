@@ -11,7 +11,7 @@ pub struct Row {
     pub before: Vec<Call>,
     /// The call that is measured.
     pub call: Call,
-    /// How many times the engine's size it may copy. A load has no bound.
+    /// How many times the engine's size it may copy: once. A load has no bound.
     pub most: Option<usize>,
 }
 
@@ -41,8 +41,8 @@ pub fn traction() -> Call {
     Call::traction(50, TractionBrake::default())
 }
 
-fn bounded(name: &'static str, before: &[Call], call: Call, most: usize) -> Row {
-    Row { name, before: before.to_vec(), call, most: Some(most) }
+fn bounded(name: &'static str, before: &[Call], call: Call) -> Row {
+    Row { name, before: before.to_vec(), call, most: Some(1) }
 }
 
 fn load(name: &'static str, before: &[Call], profiles: &Profiles) -> Row {
@@ -53,19 +53,19 @@ pub fn rows() -> Vec<Row> {
     let largest = largest();
     let (first, last) = (ready(&largest, 0), ready(&largest, 39));
     let mut rows = vec![
-        bounded("report without change, segment 1", &first, at(0, 500, 0), 6),
-        bounded("report without change, segment 40", &last, at(39, 500, 0), 6),
-        bounded("power on", &[], Call::power_on(), 6),
-        bounded("configured", &first[..5], Call::configured(), 6),
-        bounded("fault", &first, Call::fault(), 6),
-        bounded("reports", &first, Call::reports(30), 6),
-        bounded("mode", &first, Call::mode(1), 6),
-        bounded("lever", &first, Call::lever(2), 6),
-        bounded("press", &first, Call::press(), 6),
-        bounded("train length", &first, Call::length(30), 6),
-        bounded("traction request", &engaged(&largest, 0), traction(), 6),
-        bounded("report that passes 64 points", &first, at(39, 9_000, 100), 7),
-        bounded("power off", &first, Call::power_off(), 8),
+        bounded("report without change, segment 1", &first, at(0, 500, 0)),
+        bounded("report without change, segment 40", &last, at(39, 500, 0)),
+        bounded("power on", &[], Call::power_on()),
+        bounded("configured", &first[..5], Call::configured()),
+        bounded("fault", &first, Call::fault()),
+        bounded("reports", &first, Call::reports(30)),
+        bounded("mode", &first, Call::mode(1)),
+        bounded("lever", &first, Call::lever(2)),
+        bounded("press", &first, Call::press()),
+        bounded("train length", &first, Call::length(30)),
+        bounded("traction request", &engaged(&largest, 0), traction()),
+        bounded("report that passes 64 points", &first, at(39, 9_000, 100)),
+        bounded("power off", &first, Call::power_off()),
     ];
     rows.extend(skips(&first));
     rows.extend(loads(&first, largest));
@@ -76,10 +76,10 @@ fn skips(ready: &[Call]) -> Vec<Row> {
     let point_63 = point_name(39, 0);
     let skipped = [ready, &[Call::skip(point_63)]].concat();
     vec![
-        bounded("driver skip of point 63", ready, Call::skip(point_63), 7),
-        bounded("its revocation", &skipped, Call::revoke(point_63), 7),
-        bounded("refused: skip of an unknown name", ready, Call::skip(99_999_999), 7),
-        bounded("refused: unknown kind", ready, Call::of(vec![255]), 5),
+        bounded("driver skip of point 63", ready, Call::skip(point_63)),
+        bounded("its revocation", &skipped, Call::revoke(point_63)),
+        bounded("refused: skip of an unknown name", ready, Call::skip(99_999_999)),
+        bounded("refused: unknown kind", ready, Call::of(vec![255])),
     ]
 }
 

@@ -22,7 +22,7 @@ const STACK_UNIT: usize = 1024;
 const CALLER: usize = 512;
 /// The functions that a load alone calls, by the beginning of their names. The compiler makes most of them part of
 /// their callers, so that the archive may have but one; any that it has must not count for other events.
-const OF_LOAD: [&str; 7] = ["engine::load_route", "effects::load", "segment_record::", "book::", "journey::", "journey_rows::", "route::"];
+const OF_LOAD: [&str; 7] = ["engine::load", "effects::load", "segment_record::", "book::", "journey::", "journey_rows::", "route::"];
 
 static COPIED: AtomicUsize = AtomicUsize::new(0);
 

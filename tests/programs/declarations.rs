@@ -12,7 +12,7 @@ use std::fmt::Debug;
 const CONSTANTS: [(&str, &str, &str); 16] = [
     ("VERSION_", "host", ""),
     ("KIND_", "event", ""),
-    ("STATUS_", "event_packets", ""),
+    ("STATUS_", "packets", ""),
     ("PACKET_", "packets", ""),
     ("REFUSED_", "wire", ""),
     ("STATE_", "state_codes", ""),

@@ -141,7 +141,7 @@ rises_later (x ∷ xs) =
 
 -- of what a function gives for each element
 module _ {A B : Type 0} (f : A → B) where
-  any_map : (g : B → Bool) (l : List A) → any g (map f l) ≡ any (λ x. g (f x)) l
+  pub any_map : (g : B → Bool) (l : List A) → any g (map f l) ≡ any (λ x. g (f x)) l
   any_map g [] = refl
   any_map g (x ∷ xs) = ap (λ (b : Bool). g (f x) || b) (any_map g xs)
 

@@ -30,6 +30,7 @@ use Rattle.segment_record.proofs.Behind.{Leaves, segment_leaves}
 use Rattle.book.specs.Book.{records}
 use Rattle.book.specs.Table.{same_segment, nidtp_twice, book_of}
 use Rattle.book.proofs.Accepted.{records_fit}
+use Rattle.book.proofs.Pairs.{any_map}
 
 -- ---- a test or a look-up in a list of values is one in the list
 
@@ -42,13 +43,9 @@ module _ {A B : Type 0} (f : A → B) where
       go true ih = refl
       go false ih = ih
 
-  pub any-map : (p : B → Bool) (xs : List A) → any (λ x. p (f x)) xs ≡ any p (map f xs)
-  any-map p [] = refl
-  any-map p (x ∷ xs) = rw (any-map p xs)
-
   pub twice-map : (same : B → B → Bool) (xs : List A) → twice (λ a b. same (f a) (f b)) xs ≡ twice same (map f xs)
   twice-map same [] = refl
-  twice-map same (x ∷ xs) = rw (any-map (λ y. same y (f x)) xs, twice-map same xs)
+  twice-map same (x ∷ xs) = rw (any_map f (λ y. same y (f x)) xs, twice-map same xs)
 
 -- ---- the loop
 
@@ -186,7 +183,7 @@ points_named kept = any (λ x. twice (λ (p q : BookPoint). eqb p.nidtp q.nidtp)
 module _ (s rest : List ℕ) (kept : List Entry) (over : Bool) (h : Held s rest (map entry_view kept) over) (end : true ≡ eqb (length rest) 0) where
   points_same : over ≡ false → points_named kept ≡ any nidtp_twice (map entry_view kept)
   points_same e =
-      any-map entry_view (λ g. twice (λ (p q : BookPoint). eqb p.nidtp q.nidtp) (take max_record_points g.points)) kept
+      sym (any_map entry_view (λ g. twice (λ (p q : BookPoint). eqb p.nidtp q.nidtp) (take max_record_points g.points)) kept)
       ∙ any_same SegmentFits _ nidtp_twice points_kept (map entry_view kept) (kept_fit s rest (map entry_view kept) over h (eqb-true (length rest) 0 (sym end)) e)
 
   answer : (o a b : Bool) → over ≡ o → a ≡ segments_named kept → b ≡ any nidtp_twice (map entry_view kept) → cond (o || (a || b)) (refuse 8) (accept (map entry_view kept)) ≡ book_of s

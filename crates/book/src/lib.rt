@@ -1,7 +1,7 @@
-// Books: segment records end to end, read and checked (7, 8), and look-ups in them.
+// Books: segment records end to end, read and checked (rows 7, 8), and look-ups in them.
 #![tactic(auto)]
 
-ghost use Rattle.std.specs.Prelude.{◌≡◌, map, option_map, take, eqb};
+ghost use Rattle.std.specs.Prelude.{◌≡◌, option_map, take, eqb};
 ghost use Rattle.wire.specs.Lists.{twice, any};
 ghost use Rattle.wire.specs.View.{judged_by};
 ghost use Rattle.segment_record.specs.declared.BookPoint.{BookPoint};
@@ -13,20 +13,20 @@ ghost use Rattle.book.specs.View.{book_view};
 
 use arrayvec::ArrayVec;
 use engine_value::MAX_SEGMENTS;
-use fields::name_twice;
+use fields::{Bears, name_twice};
 use segment_record::{Entry, points_of, read_segment};
 use wire::Refusal;
 
 // The records of a book in their order.
 pub type Book<'a> = ArrayVec<Entry<'a>, MAX_SEGMENTS>;
 
-// The record of a segment.
+// The record of a segment. NID_C and NID_SP each by itself: `Name` is journey's, on which book does not depend.
 pub fn find<'a>(book: &Book<'a>, nidc: u16, nidsp: u32) -> Option<Entry<'a>>
     ensures { option_map entry_view result ≡ lookup nidc nidsp (book_view book.now) }
 {
     book.as_slice()
         .iter()
-        .find(|e| e.nidc == nidc && e.nidsp == nidsp)
+        .find(|e| e.name() == (nidc, nidsp))
         .copied()
 }
 
@@ -40,7 +40,9 @@ fn point_twice(records: &[Entry]) -> bool
     records.iter().any(twice)
 }
 
-// The whole book: 7 for every record comes before 8.
+// The whole book: 7 for every record comes before 8. `inline(never)`, as at each step of a load: they take the same stack in turn.
+#[tactic(auto, using(crate::proofs::Whole::begins, crate::proofs::Whole::shorter, crate::proofs::Whole::some_left))]
+#[inline(never)]
 pub fn read_book(s: &[u8]) -> Result<Book, Refusal>
     ensures { judged_by book_view result ≡ book_of s.now }
 {

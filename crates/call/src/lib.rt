@@ -8,6 +8,7 @@ ghost use Rattle.call.specs.Shown.{standing_in, standings_in};
 ghost use Rattle.call.specs.View.{shown_view};
 
 use engine_value::{Engine, MAX_POINTS};
+use position::Standing;
 
 // What an engine shows: the state's code, whether AD is requested, the nine conditions as a number (condition 0 the least
 // significant bit), how many points the journey has, and where each stands: 0 not used, 1 targeted, 2 reached, 3 passed.
@@ -26,11 +27,12 @@ pub struct Shown {
 fn standing(e: &Engine, k: usize) -> u8
     ensures { result ≡ standing_in e.now k }
 {
-    if k < position::points_loaded(e.load) as usize {
-        u8::from(position::standing_of(e.progress, k as u8))
+    let s = if k < position::points_loaded(e.load) as usize {
+        position::standing_of(e.progress, k as u8)
     } else {
-        0
-    }
+        Standing::Unused
+    };
+    u8::from(s)
 }
 
 // Where each point stands.

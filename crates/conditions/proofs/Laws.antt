@@ -1,19 +1,17 @@
 -- Laws of the conditions' definitions, by case, for the proofs of the functions.
 use Rattle.std.specs.Prelude.{if◌then◌else◌}
-use mathlib.Core.Path.{◌≡◌, refl, ◌∙◌}
-use mathlib.Core.Bool.{Bool, true, false, ◌&&◌, ◌||◌}
+use mathlib.Core.Path.{◌≡◌, refl}
+use mathlib.Core.Bool.{Bool, true, false}
 use Prim.Native.Nat.{ℕ, zero, suc, ◌+◌, min, ◌≤◌, ◌<◌}
 use native.Mathlib.Omega.{arith}
-use lib.Dec.{eqb, ltb, leb}
-use borrow.Author.Tests.{le-leb, ltb-true, ltb-false, leb-true, leb-false}
+use lib.Dec.{eqb, ltb}
+use borrow.Author.Tests.{ltb-true, ltb-false}
 use mir.Val.{bool_byte}
 use Rattle.wire.specs.Numbers.{flag}
-use Rattle.engine_value.specs.Engine.{Route}
 use Rattle.engine_value.specs.declared.Progress.{Progress}
-use Rattle.position.specs.Position.{point_count, placed}
 use Rattle.position.specs.Standing.{standing, is_passed}
 use Rattle.position.specs.declared.Standing.TheVariants.{Targeted, Reached}
-use Rattle.conditions.specs.Conditions.{first_ahead, profiles_there}
+use Rattle.conditions.specs.Conditions.{first_ahead}
 
 -- ---- where a point stands, by the first point not passed
 
@@ -31,7 +29,7 @@ module _ (p : Progress) (k : ℕ) where
           next false = refl
 
 -- the first point not passed, of the n points from k on
-first_ahead_lem : (p : Progress) (n k : ℕ) → k ≤ p.next → first_ahead (standing p) n k ≡ min p.next (k + n)
+pub first_ahead_lem : (p : Progress) (n k : ℕ) → k ≤ p.next → first_ahead (standing p) n k ≡ min p.next (k + n)
 unfolding first_ahead
 first_ahead_lem p zero k h = omega arith
 first_ahead_lem p (suc n) k h = rw passed_is (go _ refl (λ q. first_ahead_lem p n (k + 1) q))
@@ -43,20 +41,6 @@ first_ahead_lem p (suc n) k h = rw passed_is (go _ refl (λ q. first_ahead_lem p
         let e : first_ahead (standing p) n (k + 1) ≡ min p.next (k + 1 + n) = f (omega arith) in
         rw (q, e) (omega arith)
     go false q f = let l : p.next ≤ k = ltb-false _ _ q in rw q (omega arith)
-
--- "4: first point not passed is placed, or none is left."
-pub profiles_is : (j : Route) (p : Progress) → profiles_there j (standing p) ≡ (j.load.valid && (leb (point_count j) p.next || placed j p.next))
-profiles_is j p = go _ refl
-  where
-    go : (b : Bool) → leb (point_count j) p.next ≡ b → profiles_there j (standing p) ≡ (j.load.valid && (leb (point_count j) p.next || placed j p.next))
-    go true q =
-        let h : point_count j ≤ p.next = leb-true _ _ q in
-        let e : first_ahead (standing p) (point_count j) 0 ≡ point_count j = first_ahead_lem p (point_count j) 0 (omega arith) ∙ omega arith in
-        rw (q, e, le-leb (point_count j) (point_count j) (omega arith))
-    go false q =
-        let h : p.next < point_count j = leb-false _ _ q in
-        let e : first_ahead (standing p) (point_count j) 0 ≡ p.next = first_ahead_lem p (point_count j) 0 (omega arith) ∙ omega arith in
-        rw (q, e, q)
 
 -- a test as a byte
 pub byte_is : (b : Bool) → bool_byte b ≡ flag b

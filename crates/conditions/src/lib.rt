@@ -7,7 +7,7 @@ ghost use Rattle.engine_value.specs.View.{route_view};
 ghost use Rattle.engine_value.specs.Engine.{route_in};
 ghost use Rattle.status_word.specs.Word.{conditions_of};
 ghost use Rattle.position.specs.Standing.{standing};
-ghost use Rattle.conditions.specs.Conditions.{end_ahead, last_ahead, profiles_there, too_far, located, route_conditions, nine, conditions};
+ghost use Rattle.conditions.specs.Conditions.{end_ahead, last_ahead, profiles_there, too_far, located, route_conditions_by, route_conditions, nine, conditions};
 
 use engine_value::{Engine, Load, Position, Progress, Route, UNDEFINED};
 use position::{Named, Place};
@@ -23,20 +23,24 @@ pub struct RouteConditions {
     pub outside: bool,
 }
 
+// Functions and no methods: Load, Place and Named are of crates below, whose specs/ do not have these definitions.
+
 // The End of Journey is neither reached nor passed, at a progress.
 pub fn end_ahead(l: Load, p: Progress) -> bool
     ensures { result ≡ end_ahead l (standing p) }
 {
-    l.valid && (p.next < l.ending || (p.next == l.ending && !p.reached))
+    l.valid && !position::standing_of(p, l.ending).is_behind()
 }
 
 fn last_ahead(l: Load, p: Progress) -> bool
     ensures { result ≡ last_ahead l (standing p) }
 {
-    l.valid && p.next <= position::points_loaded(l).saturating_sub(1)
+    let last = position::points_loaded(l).saturating_sub(1);
+    l.valid && !position::standing_of(p, last).is_passed()
 }
 
 // The first point not passed is placed, or none is left.
+#[tactic(auto, using(crate::proofs::Laws::first_ahead_lem))]
 fn profiles_there(j: Route, p: Progress) -> bool
     ensures { result ≡ profiles_there (route_view j.entry) (standing p) }
 {
@@ -57,16 +61,24 @@ fn located(s: Option<Named>, x: Position) -> bool
     x.offset != UNDEFINED && s.is_some_and(|s| !too_far(x, s))
 }
 
+// What the conditions look up, by the segment that the position names; `profiles` is condition 4.
+pub fn route_conditions_by(s: Option<Named>, x: Position, profiles: bool) -> RouteConditions
+    ensures { result ≡ route_conditions_by s x profiles }
+{
+    let located = located(s, x);
+    RouteConditions {
+        profiles,
+        located,
+        outside: !(located && s.is_some_and(|s| s.inside)),
+    }
+}
+
 // What the conditions look up.
 pub fn route_conditions(place: Place, p: Progress) -> RouteConditions
     ensures { result ≡ route_conditions (route_view place.entry.journey) place.entry.position (standing p) }
 {
-    let located = located(place.segment, place.position);
-    RouteConditions {
-        profiles: profiles_there(place.journey, p),
-        located,
-        outside: !(located && place.segment.is_some_and(|s| s.inside)),
-    }
+    let profiles = profiles_there(place.journey, p);
+    route_conditions_by(place.segment, place.position, profiles)
 }
 
 // The nine conditions, from what they look up.
@@ -87,7 +99,7 @@ pub fn conditions_of(l: Load, reports: u8, w: RouteConditions, p: Progress) -> O
     }
 }
 
-// The same of an engine.
+// The nine conditions of an engine.
 #[tactic(auto, unfolding(crate::specs::Conditions::conditions))]
 pub fn conditions(e: &Engine) -> OperationalConditions
     ensures { result ≡ conditions (route_in e.now) e.now.inputs.reports e.now.train.position (standing e.now.progress) }

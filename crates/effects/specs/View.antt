@@ -1,6 +1,6 @@
 -- What the code's answers stand for.
-use Rattle.std.specs.Prelude.{ℕ, ◌≡◌, Bool, false, if◌then◌else◌}
-use Rattle.std.specs.Prelude.{Option, Some, None, is_some, option_map}
+use Rattle.std.specs.Prelude.{ℕ, ◌≡◌, false, if◌then◌else◌}
+use Rattle.std.specs.Prelude.{Some, None, is_some, option_map}
 use Rattle.engine_value.specs.Engine.{progress}
 use Rattle.engine_value.specs.View.{route_view}
 use Rattle.engine_value.specs.declared.Engine.{Engine}
@@ -8,8 +8,7 @@ use Rattle.timing.specs.declared.Reported.{Reported}
 use Rattle.conditions.specs.declared.RouteConditions.{RouteConditions}
 use Rattle.look_up.specs.LookUp.{route_conditions_in}
 use Rattle.event_packets.specs.View.{changes_view}
-use Rattle.event_packets.specs.declared.PointStatus.{PointStatus}
-use Rattle.event_packets.specs.declared.Change.{Change}
+use Rattle.packets.specs.declared.PointStatus.{PointStatus}
 use Rattle.event_packets.specs.declared.Changes.{Changes}
 use Rattle.event_packets.specs.declared.Received.{Received}
 use Rattle.call_values.specs.Packets.{country}

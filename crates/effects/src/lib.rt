@@ -5,21 +5,19 @@ ghost use Rattle.std.specs.Prelude.{◌≡◌, ℕ, IfOk};
 ghost use Rattle.wire.specs.View.{judged_by};
 ghost use Rattle.engine_value.specs.declared.Engine as engine;
 ghost use Rattle.position.specs.Standing.{standing, behind};
-ghost use Rattle.event.specs.declared.Event as event;
 ghost use Rattle.event.specs.Kinds.{other, report, skip, load, role_of, carried};
-ghost use Rattle.look_up.specs.LookUp.{look_up};
 ghost use Rattle.call_values.specs.Rows.{offset_beyond};
-ghost use Rattle.call.specs.Effect as model;
 ghost use Rattle.call.specs.Effect.{route_after, train_with, inputs_with, values_only, power_off, position_effect, loaded_in, skip_effect};
 ghost use Rattle.route.specs.View.{loaded_view};
-ghost use Rattle.effects.specs.View.{no_changes, reported_changes, unchanged, journey_view, effect_view, Beside};
+ghost use Rattle.effects.specs.View.{reported_changes, unchanged, journey_view, effect_view, Beside};
 
 use conditions::RouteConditions;
 use engine_value::{Control, Engine, Inputs, Load, Position, Progress, Route, Train, UNDEFINED};
 use event::Event;
-use event_packets::{Change, Changes, PointStatus, Received};
-use look_up::LookedUp;
-use position::{Named, Place, Standing};
+use event_packets::{Change, Changes, Received};
+use look_up::Occurrence;
+use packets::PointStatus;
+use position::{Named, Place};
 use route::Loaded;
 use timing::Reported;
 use wire::Refusal;
@@ -39,15 +37,15 @@ impl<'a> JourneyAfter<'a> {
         ensures { result ≡ (route_after e.now (journey_view self.entry)).load }
     {
         match self {
-            JourneyAfter::Kept => e.load,
-            JourneyAfter::Cleared => engine_value::no_load(),
+            JourneyAfter::Cleared => Load::default(),
             JourneyAfter::Replaced(j) => j.load,
-            JourneyAfter::SkipSet { at: _, on: _ } => e.load,
+            JourneyAfter::Kept | JourneyAfter::SkipSet { .. } => e.load,
         }
     }
 }
 
 // The groups with the event's values, the packet 65 of a journey that was loaded, the points that changed, and conditions 4, 6 and 7 after it.
+// `Beside` is said of it in the contracts: as its ghost field it would need the engine here, lent, and nothing could be stored there meanwhile.
 #[derive(Clone, Copy)]
 pub struct Effect<'a> {
     pub journey: JourneyAfter<'a>,
@@ -86,10 +84,11 @@ fn unchanged<'a>(e: &Engine, after: RouteConditions) -> Effect<'a>
 
 // ---- the values that an event brings
 
-fn train_with(e: &Engine, v: Event) -> Train
-    ensures { result ≡ train_with e.now (carried v) }
+fn train_with(o: &Occurrence) -> Train
+    ensures { result ≡ train_with o.now.engine.now (carried o.now.event) }
 {
-    match v {
+    let e = o.engine;
+    match o.event {
         Event::Length(length) => Train { length, ..e.train },
         Event::PositionReport(position) => Train {
             position,
@@ -99,10 +98,11 @@ fn train_with(e: &Engine, v: Event) -> Train
     }
 }
 
-fn inputs_with(e: &Engine, v: Event) -> Inputs
-    ensures { result ≡ inputs_with e.now (carried v) }
+fn inputs_with(o: &Occurrence) -> Inputs
+    ensures { result ≡ inputs_with o.now.engine.now (carried o.now.event) }
 {
-    match v {
+    let e = o.engine;
+    match o.event {
         Event::Reports(reports) => Inputs {
             reports,
             ..e.inputs
@@ -113,22 +113,22 @@ fn inputs_with(e: &Engine, v: Event) -> Inputs
     }
 }
 
-// An event that brings values, or nothing.
+// An event that brings values, or nothing. `beside` supposes its role, as below: each function another one, so that no type says it for all.
 #[tactic(auto, unfolding(timing::specs::Changes::passings))]
-pub fn values<'a>(e: &Engine, v: Event, looked: &LookedUp) -> Effect<'a>
-    ensures effect { effect_view result ≡ values_only e.now (carried v) }
-    ensures beside { looked.now ≡ look_up e.now v → role_of v ≡ other → Beside e.now result }
+pub fn values<'a>(o: &Occurrence) -> Effect<'a>
+    ensures effect { effect_view result ≡ values_only o.now.engine.now (carried o.now.event) }
+    ensures beside { role_of o.now.event ≡ other → Beside o.now.engine.now result }
 {
     Effect {
-        train: train_with(e, v),
-        inputs: inputs_with(e, v),
-        ..unchanged(e, looked.before)
+        train: train_with(o),
+        inputs: inputs_with(o),
+        ..unchanged(o.engine, o.looked.before)
     }
 }
 
 // ---- the position report
 
-// 13: an offset beyond the length of the segment that the position names.
+// Row 13: an offset beyond the length of the segment that the position names.
 #[tactic(auto, unfolding(call_values::specs::Rows::offset_beyond))]
 fn offset_beyond(s: Option<Named>, x: Position) -> bool
     ensures { result ≡ offset_beyond s x }
@@ -164,20 +164,21 @@ fn changes_of(index: u8, t: Reported) -> Changes
 
 // A position report.
 #[tactic(auto, unfolding(call::specs::Effect::position_effect), using(crate::proofs::Laws::report_changes, crate::proofs::Laws::then_some))]
-pub fn report<'a>(e: &Engine, v: Event, looked: &LookedUp) -> Result<Effect<'a>, Refusal>
-    ensures effect { looked.now ≡ look_up e.now v → judged_by effect_view result ≡ position_effect e.now (carried v) looked.now }
-    ensures beside { looked.now ≡ look_up e.now v → role_of v ≡ report → IfOk result (λ f. Beside e.now f) }
+pub fn report<'a>(o: &Occurrence) -> Result<Effect<'a>, Refusal>
+    ensures effect { judged_by effect_view result ≡ position_effect o.now.engine.now (carried o.now.event) o.now.looked }
+    ensures beside { role_of o.now.event ≡ report → IfOk result (λ f. Beside o.now.engine.now f) }
 {
-    let train = train_with(e, v);
-    if offset_beyond(looked.segment, train.position) {
+    let e = o.engine;
+    let train = train_with(o);
+    if offset_beyond(o.looked.segment, train.position) {
         return Err(Refusal::Beyond);
     }
-    let t = looked.report;
+    let t = o.looked.report;
     let place = Place::new(e.route(), train.position);
     let after = conditions::route_conditions(place, t.progress);
     Ok(Effect {
         train,
-        inputs: inputs_with(e, v),
+        inputs: inputs_with(o),
         progress: t.progress,
         changes: changes_of(e.progress.next, t),
         ..unchanged(e, after)
@@ -190,19 +191,17 @@ pub fn report<'a>(e: &Engine, v: Event, looked: &LookedUp) -> Result<Effect<'a>,
 fn is_behind(p: Progress, k: u8) -> bool
     ensures { result ≡ behind (standing p k) }
 {
-    matches!(
-        position::standing_of(p, k),
-        Standing::Reached | Standing::Passed
-    )
+    position::standing_of(p, k).is_behind()
 }
 
 // A driver skip, or its revocation.
-#[tactic(auto, unfolding(call::specs::Effect::skip_effect))]
-pub fn skip<'a>(e: &Engine, v: Event, on: bool, looked: &LookedUp) -> Result<Effect<'a>, Refusal>
-    ensures effect { (t : ℕ) → looked.now ≡ look_up e.now v → role_of v ≡ skip t on → judged_by effect_view result ≡ skip_effect e.now (carried v) on looked.now.stop }
-    ensures beside { (t : ℕ) → looked.now ≡ look_up e.now v → role_of v ≡ skip t on → IfOk result (λ f. Beside e.now f) }
+#[tactic(auto, unfolding(call::specs::Effect::skip_effect, timing::specs::Changes::passings), using(crate::proofs::Laws::carries_skip))]
+pub fn skip<'a>(o: &Occurrence, on: bool) -> Result<Effect<'a>, Refusal>
+    ensures effect { (t : ℕ) → role_of o.now.event ≡ skip t on → judged_by effect_view result ≡ skip_effect o.now.engine.now (carried o.now.event) on o.now.looked.stop }
+    ensures beside { (t : ℕ) → role_of o.now.event ≡ skip t on → IfOk result (λ f. Beside o.now.engine.now f) }
 {
-    let stop = looked.stop.ok_or(Refusal::NoStop)?;
+    let e = o.engine;
+    let stop = o.looked.stop.ok_or(Refusal::NoStop)?;
     if is_behind(e.progress, stop.at) || stop.skipped == on {
         return Err(Refusal::Skip);
     }
@@ -222,7 +221,7 @@ pub fn skip<'a>(e: &Engine, v: Event, on: bool, looked: &LookedUp) -> Result<Eff
             first: Some(change),
             ..NO_CHANGES
         },
-        ..unchanged(e, looked.before)
+        ..unchanged(e, o.looked.before)
     })
 }
 
@@ -234,10 +233,6 @@ pub fn power_off<'a>() -> Effect<'a>
     ensures effect { effect_view result ≡ power_off }
     ensures beside { (e : engine.Engine) → Beside e result }
 {
-    let progress = Progress {
-        next: 0,
-        reached: false,
-    };
     let after = RouteConditions {
         profiles: false,
         located: false,
@@ -245,10 +240,10 @@ pub fn power_off<'a>() -> Effect<'a>
     };
     Effect {
         journey: JourneyAfter::Cleared,
-        train: engine_value::fresh_train(),
-        progress,
-        inputs: engine_value::fresh_inputs(),
-        control: engine_value::fresh_control(),
+        train: Train::default(),
+        progress: Progress::default(),
+        inputs: Inputs::default(),
+        control: Control::default(),
         received: None,
         changes: NO_CHANGES,
         after,
@@ -258,10 +253,12 @@ pub fn power_off<'a>() -> Effect<'a>
 // ---- the load
 
 // A load, judged on the new journey with no driver skip.
-pub fn load<'a>(e: &Engine, l: &'a Loaded) -> Effect<'a>
-    ensures effect { (v : event.Event) → role_of v ≡ load → effect_view result ≡ loaded_in e.now (carried v) (loaded_view l.now) }
-    ensures beside { Beside e.now result }
+#[tactic(auto, unfolding(timing::specs::Changes::passings), using(crate::proofs::Laws::carries_load))]
+pub fn load<'a>(o: &Occurrence, l: &'a Loaded) -> Effect<'a>
+    ensures effect { role_of o.now.event ≡ load → effect_view result ≡ loaded_in o.now.engine.now (carried o.now.event) (loaded_view l.now) }
+    ensures beside { Beside o.now.engine.now result }
 {
+    let e = o.engine;
     let j = l.route();
     let place = Place::new(j, e.train.position);
     let progress = Progress {

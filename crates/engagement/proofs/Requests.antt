@@ -6,9 +6,7 @@ use Prim.Native.Nat.{ℕ, zero, suc, ◌≤◌, ◌<◌}
 use native.Mathlib.Omega.{arith}
 use native.Mathlib.Nat.{eq-or-lt_of_le}
 use Rattle.event.specs.declared.Event.{Event}
-use Rattle.event.specs.declared.Row.{Row}
-use Rattle.event.specs.declared.Row.TheVariants.{SwitchOn, Configure, SwitchOff, Fail, EngagePress, ByState}
-use Rattle.event.specs.Kinds.{row_of}
+use Rattle.event.specs.Kinds.{Row, SwitchOn, Configure, SwitchOff, Fail, EngagePress, ByState, row_of}
 use Rattle.state_codes.specs.Codes.{is_ad}
 use Rattle.states.specs.States.{machine, U, from_re, from_eg, from_de, by_state, by_row, machine_after, wanted, given}
 use Rattle.states.specs.declared.Values.{Values}

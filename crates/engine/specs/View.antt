@@ -6,6 +6,7 @@ use Rattle.engine_value.specs.declared.Engine.{Engine}
 use Rattle.call_values.specs.Call.{Call}
 use Rattle.call_values.specs.declared.Accepted.{Accepted}
 use Rattle.call.specs.Call.{Outcome}
+use Rattle.judge.specs.declared.Judgement.{Judgement}
 
 -- the engine with another journey and no driver skip
 abbrev pub with_route : Engine → Route → Engine
@@ -21,6 +22,10 @@ with_route e j =
       control = e.control;
       traction = e.traction;
     }
+
+-- "An accepted event returns state, request and bytes written"
+abbrev pub answer_of : Judgement → Accepted
+answer_of t = record { state = t.control.state; request = t.control.request; bytes = t.size }
 
 abbrev pub call : List ℕ → List ℕ → List ℕ → List ℕ → Call
 call event journey book memory = record { event = event; journey = journey; book = book; memory = memory }

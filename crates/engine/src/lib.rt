@@ -2,39 +2,43 @@
 // the journey; it has its effect, which is judged; and what comes of it is stored and written.
 #![tactic(auto)]
 
-ghost use Rattle.std.specs.Prelude.{◌≡◌};
-ghost use Rattle.wire.specs.View.{judged, judged_by};
-ghost use Rattle.route.specs.Route.{load_of};
-ghost use Rattle.route.specs.View.{loaded_view};
-ghost use Rattle.look_up.specs.LookUp.{route_conditions_in};
-ghost use Rattle.call.specs.Call.{judge, outcome_of, step_of};
+ghost use Rattle.std.specs.Prelude.{◌≡◌, List, ℕ};
+ghost use Rattle.std.proofs.lemmas.List.Edits.{sets};
+ghost use Rattle.wire.specs.Judged.Judged.{accept};
+ghost use Rattle.wire.specs.View.{judged};
+ghost use Rattle.event.specs.Events.{event_of};
+ghost use Rattle.event.specs.Kinds.{load, kind_of, role_of};
+ghost use Rattle.state_codes.specs.Codes.{state_at};
+ghost use Rattle.state_codes.specs.Numbers.{state_rows};
+ghost use Rattle.packets.specs.Packets.{joined};
+ghost use Rattle.event_packets.specs.View.{packets_view};
+ghost use Rattle.call.specs.Call.{step_of};
 ghost use Rattle.engine_value.specs.Engine.{no_route};
 ghost use Rattle.engine_value.specs.View.{route_view};
-ghost use Rattle.effects.specs.View.{effect_view, Beside};
 ghost use Rattle.judge.specs.View.{engine_after};
-ghost use Rattle.engine.specs.View.{call, with_route, Steps};
+ghost use Rattle.engine.specs.View.{answer_of, call, with_route, Steps};
 
 use call_values::Accepted;
-use conditions::RouteConditions;
-use effects::{Effect, JourneyAfter};
-use engine_value::{Engine, MAX_POINTS, Route};
+use effects::JourneyAfter;
+use engine_value::{Engine, Load, MAX_POINTS, Point, Route, Segment};
 use event::{Event, Role};
 use judge::Judgement;
-use route::Loaded;
+use look_up::Occurrence;
 use state_codes::State;
 use wire::Refusal;
 
-// No journey.
+// No journey: blanks, filled in where they stand. As another journey they would first be made elsewhere, and then copied.
 fn clear_journey(e: &mut Engine)
     ensures { e.new ≡ with_route e.old no_route }
 {
-    e.points.fill(engine_value::blank_point());
-    e.segments.fill(engine_value::blank_segment());
-    e.load = engine_value::no_load();
+    e.points.fill(Point::default());
+    e.segments.fill(Segment::default());
+    e.load = Load::default();
     e.skips.fill(false);
 }
 
-// The values one by one: the library's `copy_from_slice` asks for memmove, which a host need not have.
+// The values one by one: `copy_from_slice`, as an assignment of the whole array, asks for memmove, where the header promises memcpy and memset
+// alone. By the index: of what `iter_mut().zip(..)` leaves, the library says nothing.
 #[tactic(auto, using(std::proofs::lemmas::List::take_all))]
 fn copy<T: Copy, const N: usize>(to: &mut [T; N], from: &[T; N])
     ensures { to.new ≡ from.now }
@@ -55,15 +59,17 @@ fn replace_journey(e: &mut Engine, j: Route)
 }
 
 // The groups as they were judged, and what becomes of the journey.
-fn store(e: &mut Engine, f: Effect, t: &Judgement)
-    ensures { e.new ≡ engine_after e.old f.entry t.now }
+fn store(e: &mut Engine, t: &Judgement)
+    ensures { e.new ≡ engine_after e.old t.now }
 {
+    let f = t.effect;
     match f.journey {
         JourneyAfter::Kept => {}
         JourneyAfter::Cleared => clear_journey(e),
         JourneyAfter::Replaced(j) => replace_journey(e, j),
         JourneyAfter::SkipSet { at, on } => {
-            let at = at as usize;
+            // by the index, as in wire's `Number`
+            let at = usize::from(at);
             if at < MAX_POINTS {
                 e.skips[at] = on;
             }
@@ -76,35 +82,39 @@ fn store(e: &mut Engine, f: Effect, t: &Judgement)
     e.traction = t.traction;
 }
 
-// The effect of an event is judged, stored and written. Nothing is stored where 16 refuses.
-fn accept(
-    e: &mut Engine,
-    v: Event,
-    before: RouteConditions,
-    f: Effect,
-    out: &mut [u8],
-) -> Result<Accepted, Refusal>
-    ensures { before ≡ route_conditions_in e.old → Beside e.old f.entry → Steps (outcome_of e.old out.old (judge e.old v out.old (effect_view f.entry))) e.new (judged result) out.new }
+// What was judged is stored and written.
+fn accept(e: &mut Engine, t: &Judgement, out: &mut [u8]) -> Accepted
+    ensures engine { e.new ≡ engine_after e.old t.now }
+    ensures answer { result ≡ answer_of t.now }
+    ensures output { out.new ≡ sets out.old 0 (joined (packets_view (engine_after e.old t.now) t.now.writes)) }
 {
-    let t = judge::judge(e, v, before, f, out.len())?;
-    store(e, f, &t);
+    store(e, t);
     event_packets::write(e, &t.writes, out);
-    Ok(Accepted {
+    Accepted {
         state: t.control.state,
         request: t.control.request,
         bytes: t.size,
-    })
+    }
 }
 
-// The journey and the book of a load, in a function of its own: what reading them takes of the stack, no other event then takes.
+// A load that is read and allowed, in a function of its own: what its journey takes of the stack, no other event then takes.
 #[inline(never)]
-fn load_route(journey: &[u8], book: &[u8]) -> Result<Loaded, Refusal>
-    ensures { judged_by loaded_view result ≡ load_of journey.now book.now }
+fn load(
+    e: &mut Engine,
+    event: Event,
+    journey: &[u8],
+    book: &[u8],
+    out: &mut [u8],
+) -> Result<Accepted, Refusal>
+    ensures { (bytes : List ℕ) → accept event ≡ event_of bytes → accept tt ≡ state_rows (state_at e.old.control.state) (kind_of event) → load ≡ role_of event → Steps (step_of e.old (call bytes journey.now book.now out.old)) e.new (judged result) out.new }
 {
-    route::load_route(journey, book)
+    let o = Occurrence::new(e, event);
+    let l = route::load_route(journey, book)?;
+    let t = judge::judge(&o, &effects::load(&o, &l), out.len())?;
+    Ok(accept(e, &t, out))
 }
 
-// One event. A refusal changes neither engine nor memory.
+// One event. A refusal changes neither engine nor memory. The slices apart, as the C call hands them over.
 pub fn step(
     e: &mut Engine,
     event: &[u8],
@@ -118,17 +128,14 @@ pub fn step(
 {
     let v = event::read_event(event)?;
     state_codes::state_rows(State::from(e.control.state), v.kind())?;
-    let looked = look_up::look_up(e, v);
-    let f = match v.role() {
+    let o = Occurrence::new(e, v);
+    let f = match o.event.role() {
         Role::Off => effects::power_off(),
-        Role::Load => {
-            let l = load_route(journey, book)?;
-            let f = effects::load(e, &l);
-            return accept(e, v, looked.before, f, out);
-        }
-        Role::Report(_) => effects::report(e, v, &looked)?,
-        Role::Skip { nidtp: _, on } => effects::skip(e, v, on, &looked)?,
-        Role::Other => effects::values(e, v, &looked),
+        Role::Load => return load(e, v, journey, book, out),
+        Role::Report => effects::report(&o)?,
+        Role::Skip { nidtp: _, on } => effects::skip(&o, on)?,
+        Role::Other => effects::values(&o),
     };
-    accept(e, v, looked.before, f, out)
+    let t = judge::judge(&o, &f, out.len())?;
+    Ok(accept(e, &t, out))
 }

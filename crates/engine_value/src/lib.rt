@@ -1,9 +1,11 @@
 // The engine as a value: the journey in force, the train, how far it has come, and the ATO state. Numbers, bools and arrays of
-// plain structs, so that a host in C can hold it. A derived Default, every field 0 or false, is the blank or the fresh value.
+// plain structs, so that a host in C can hold it. The Default of each group is its blank or fresh value.
+// "C layout" below says just this: numbers, bools, arrays and structs of them cross to C, without padding; no Option, enum or ArrayVec does, not
+// even behind a reference.
 #![tactic(auto)]
 
 ghost use Rattle.std.specs.Prelude.{◌≡◌};
-ghost use Rattle.engine_value.specs.Engine.{blank_segment, blank_point, no_load, fresh_train, fresh_inputs, fresh_control, no_traction, fresh};
+ghost use Rattle.engine_value.specs.Engine.{fresh};
 
 // The most points and segments of a journey, and the most zones of a segment.
 pub const MAX_POINTS: usize = 64;
@@ -34,7 +36,8 @@ pub struct Zone {
 }
 
 // A segment of the journey. It is placed if it and all before it are in the book; `start` is then counted from the journey's start.
-// C layout: a count beside the zones.
+// C layout: a count beside the zones, `booked` beside what the book says of it, `placed` beside `start`, and the two numbers of its name apart,
+// by their widths.
 #[repr(C)]
 #[derive(Clone, Copy, Default)]
 pub struct Segment {
@@ -49,7 +52,8 @@ pub struct Segment {
 }
 
 // A timing point of the journey. Where it is placed, `place` is counted from the journey's start, and `reach` is the reached distance R.
-// `spare` is always 0: room for one mark. C layout: alignment and stopping by their numbers.
+// `spare` is always 0: room for one mark. C layout: `placed` beside place and reach, the marks `stop` and `trackside` as flags, alignment and
+// stopping by their numbers.
 #[repr(C)]
 #[derive(Clone, Copy, Default)]
 pub struct Point {
@@ -77,6 +81,23 @@ pub struct Load {
     pub segment_count: u8,
 }
 
+// No journey.
+impl Default for Load {
+    ghost use Rattle.engine_value.specs.Engine.{no_load};
+
+    ghost is_default = { λ l. l ≡ no_load };
+
+    fn default() -> Load {
+        Load {
+            operational: NO_OPERATIONAL,
+            valid: false,
+            ending: 0,
+            point_count: 0,
+            segment_count: 0,
+        }
+    }
+}
+
 // The first point not passed, and whether it is reached: points before it are passed, later ones not used.
 #[repr(C)]
 #[derive(Clone, Copy, Default)]
@@ -85,6 +106,7 @@ pub struct Progress {
     pub reached: bool,
 }
 
+// Where a report says that the front is; NID_C and NID_SP name the segment. C layout: the two apart, by their widths.
 #[repr(C)]
 #[derive(Clone, Copy)]
 pub struct Position {
@@ -94,9 +116,25 @@ pub struct Position {
     pub speed: u16,
 }
 
+// The fresh position: the offset is undefined.
+impl Default for Position {
+    ghost use Rattle.engine_value.specs.Engine.{fresh_position};
+
+    ghost is_default = { λ x. x ≡ fresh_position };
+
+    fn default() -> Position {
+        Position {
+            nidsp: 0,
+            offset: UNDEFINED,
+            nidc: 0,
+            speed: 0,
+        }
+    }
+}
+
 // Where the train is and how long it is, as the latest events tell.
 #[repr(C)]
-#[derive(Clone, Copy)]
+#[derive(Clone, Copy, Default)]
 pub struct Train {
     pub position: Position,
     pub length: u32,
@@ -131,8 +169,8 @@ pub struct Traction {
     pub spare: u8,
 }
 
-// The journey's points and the driver skips of each, its segments, and the groups above. C layout: the skips in an array of their own, since a
-// load's result is the points without them.
+// The journey's points and the driver skips of each, its segments, and the groups above. The skips in an array of their own, so that the points
+// stay as the load left them.
 #[repr(C)]
 #[derive(Clone, Copy)]
 pub struct Engine {
@@ -147,7 +185,8 @@ pub struct Engine {
     pub traction: Traction,
 }
 
-// The journey in force, where it is kept: in an engine, or in what a load brings.
+// The journey in force, where it is kept: in an engine, or in what a load brings. Whole arrays, since both keep them so and a load copies them
+// whole; the counts are the load's.
 #[derive(Clone, Copy)]
 pub struct Route<'a> {
     pub load: Load,
@@ -171,81 +210,19 @@ impl Engine {
     }
 }
 
-// The value of a segment beyond the journey's count.
-pub fn blank_segment() -> Segment
-    ensures { result ≡ blank_segment }
-{
-    Segment::default()
-}
-
-// The value of a point beyond the journey's count.
-pub fn blank_point() -> Point
-    ensures { result ≡ blank_point }
-{
-    Point::default()
-}
-
-// ---- fresh, group by group
-
-// No journey.
-pub fn no_load() -> Load
-    ensures { result ≡ no_load }
-{
-    Load {
-        operational: NO_OPERATIONAL,
-        valid: false,
-        ending: 0,
-        point_count: 0,
-        segment_count: 0,
-    }
-}
-
-pub fn fresh_train() -> Train
-    ensures { result ≡ fresh_train }
-{
-    Train {
-        position: Position {
-            nidsp: 0,
-            offset: UNDEFINED,
-            nidc: 0,
-            speed: 0,
-        },
-        length: 0,
-    }
-}
-
-pub fn fresh_inputs() -> Inputs
-    ensures { result ≡ fresh_inputs }
-{
-    Inputs::default()
-}
-
-pub fn fresh_control() -> Control
-    ensures { result ≡ fresh_control }
-{
-    Control::default()
-}
-
-// Nothing is remembered of a traction request.
-pub fn no_traction() -> Traction
-    ensures { result ≡ no_traction }
-{
-    Traction::default()
-}
-
-// The fresh engine.
+// The fresh engine, under the name that the specification gives it.
 pub fn fresh() -> Engine
     ensures { result ≡ fresh }
 {
     Engine {
-        points: [blank_point(); MAX_POINTS],
+        points: [Point::default(); MAX_POINTS],
         skips: [false; MAX_POINTS],
-        segments: [blank_segment(); MAX_SEGMENTS],
-        load: no_load(),
-        train: fresh_train(),
+        segments: [Segment::default(); MAX_SEGMENTS],
+        load: Load::default(),
+        train: Train::default(),
         progress: Progress::default(),
-        inputs: fresh_inputs(),
-        control: fresh_control(),
-        traction: no_traction(),
+        inputs: Inputs::default(),
+        control: Control::default(),
+        traction: Traction::default(),
     }
 }

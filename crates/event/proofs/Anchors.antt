@@ -29,7 +29,6 @@ rows = record {
 roles : Roles
 roles = record {
   views = refl;
-  told = refl;
   offs = refl;
   loads = refl;
   reports = refl;

@@ -6,11 +6,10 @@ use Rattle.std.specs.Prelude.{Option, Some, None}
 use lib.Dec.{eqb}
 use Rattle.engine_value.specs.Engine.{mode}
 use Rattle.engine_value.specs.declared.Position.{Position}
+use Rattle.event.specs.Kinds.{Row, SwitchOn, Configure, SwitchOff, Fail, EngagePress, ByState}
 use Rattle.event.specs.Kinds.{Role, off, load, report, other, skip, is_report, newer, Kind, kind, role_of, bringing, carried}
 use Rattle.event.specs.declared.TractionRequest.{TractionRequest}
 use Rattle.event.specs.declared.Event.{Event}
-use Rattle.event.specs.declared.Row.{Row}
-use Rattle.event.specs.declared.Row.TheVariants.{SwitchOn, Configure, SwitchOff, Fail, EngagePress, ByState}
 
 abbrev pub OfRow : Row → ℕ → Event → Type 0
 OfRow SwitchOn n e = (e ≡ Event.PowerOn) × (n ≡ 1)

@@ -6,16 +6,15 @@ use Rattle.wire.specs.View.{judged}
 use Rattle.wire.specs.declared.Refusal.{Refusal}
 use Rattle.engine_value.specs.Engine.{mode, lever, reports, train_length}
 use Rattle.engine_value.specs.declared.Position.{Position}
+use Rattle.event.specs.Kinds.{Row, SwitchOn, Configure, SwitchOff, Fail, EngagePress, ByState}
 use Rattle.event.specs.Kinds.{Role, off, load, report, other, skip, is_off, is_load, is_report, is_skip, skip_given, skip_name, newer}
 use Rattle.event.specs.Kinds.{kind_of, row_of, role_of, carried}
 use Rattle.event.specs.Events.{event_of}
-use Rattle.event.specs.View.{kind_number, known_kind, role_view, reported}
+use Rattle.event.specs.View.{kind_number, known_kind, role_view}
 use Rattle.event.specs.declared.TractionRequest.{TractionRequest}
 use Rattle.event.specs.declared.Event.{Event}
 use Rattle.event.specs.declared.EventKind.{EventKind}
-use Rattle.event.specs.declared.Row.{Row}
 use Rattle.event.specs.declared.Role as code
-use Rattle.event.specs.declared.Row.TheVariants.{SwitchOn, Configure, SwitchOff, Fail, EngagePress, ByState}
 
 -- ---- one event of each kind
 
@@ -142,11 +141,10 @@ roles = off ∷ load ∷ report ∷ other ∷ skip 7001 true ∷ skip 7002 false
 
 -- those of the code, each once
 abbrev pub code_roles : List code.Role
-code_roles = code.Role.Off ∷ code.Role.Load ∷ code.Role.Report somewhere ∷ code.Role.Other ∷ code.Role.Skip 7001 true ∷ code.Role.Skip 7002 false ∷ []
+code_roles = code.Role.Off ∷ code.Role.Load ∷ code.Role.Report ∷ code.Role.Other ∷ code.Role.Skip 7001 true ∷ code.Role.Skip 7002 false ∷ []
 
 pub record Roles : Type 0 where
   pub views : map role_view code_roles ≡ roles
-  pub told : map reported code_roles ≡ None ∷ None ∷ Some somewhere ∷ None ∷ None ∷ None ∷ []
   pub offs : map is_off roles ≡ true ∷ false ∷ false ∷ false ∷ false ∷ false ∷ []
   pub loads : map is_load roles ≡ false ∷ true ∷ false ∷ false ∷ false ∷ false ∷ []
   pub reports : map is_report roles ≡ false ∷ false ∷ true ∷ false ∷ false ∷ false ∷ []

@@ -9,8 +9,6 @@ use Rattle.packets.specs.Layouts.{content61, requested_of}
 use Rattle.event.specs.declared.TractionRequest.{TractionRequest}
 use Rattle.event.specs.declared.Event.{Event}
 use Rattle.event.specs.declared.Event.TheVariants.{PowerOn, Configured, PowerOff, Fault, Reports, Mode, Lever, Press, PositionReport, Length, Load, Skip, Revoke, Traction}
-use Rattle.event.specs.declared.Row.{Row}
-use Rattle.event.specs.declared.Row.TheVariants.{SwitchOn, Configure, SwitchOff, Fail, EngagePress, ByState}
 
 -- what stands behind the kind byte: its layout, and the event of its values
 pub record Content : Type 0 where
@@ -24,6 +22,10 @@ bare e = record { fields = []; event = λ v. e }
 -- one field
 abbrev pub one : (f : Field) → (ValueOf f.content → Event) → Content
 one f event = record { fields = f ∷ []; event = λ v. event v.0 }
+
+-- the row of the states that an event takes: one of its own, or that of the state before
+pub data Row : Type 0 where
+  SwitchOn Configure SwitchOff Fail EngagePress ByState : Row
 
 -- to the journey and its points: power off, a load, a position report, a driver skip given or revoked, nothing
 pub data Role : Type 0 where

@@ -1,9 +1,8 @@
 -- What the values of the code say.
-use Rattle.std.specs.Prelude.{ℕ, Option, Some, None, not, eqb}
+use Rattle.std.specs.Prelude.{ℕ, not, eqb}
 use Rattle.wire.specs.Lists.{any}
 use Rattle.wire.specs.Judged.{Judged, row, ◌>>◌}
 use Rattle.wire.specs.Judged.Judged.{accept}
-use Rattle.engine_value.specs.declared.Position.{Position}
 use Rattle.event.specs.Kinds as model
 use Rattle.event.specs.Kinds.{kinds, kind_of}
 use Rattle.event.specs.declared.EventKind.{EventKind}
@@ -37,14 +36,6 @@ known_kind n = do
 abbrev pub role_view : code.Role → model.Role
 role_view code.Role.Off = model.Role.off
 role_view code.Role.Load = model.Role.load
-role_view (code.Role.Report x) = model.Role.report
+role_view code.Role.Report = model.Role.report
 role_view (code.Role.Skip t on) = model.Role.skip t on
 role_view code.Role.Other = model.Role.other
-
--- the position that a report brings
-abbrev pub reported : code.Role → Option Position
-reported code.Role.Off = None
-reported code.Role.Load = None
-reported (code.Role.Report x) = Some x
-reported (code.Role.Skip t on) = None
-reported code.Role.Other = None

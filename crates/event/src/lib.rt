@@ -1,16 +1,16 @@
-// Events: one byte kind and what it carries, read and checked (1, 2).
+// Events: one byte kind and what it carries, read and checked (rows 1, 2).
 #![tactic(auto)]
 
 ghost use Rattle.std.specs.Prelude.{◌≡◌};
 ghost use Rattle.wire.specs.View.{judged};
-ghost use Rattle.event.specs.Kinds.{newer, carried, position_content, traction_content};
+ghost use Rattle.event.specs.Kinds.{position_content, traction_content};
 ghost use Rattle.event.specs.Events.{event_rows, event_with, event_of};
 
 use engine_value::{MAX_NIDC, Position, UNDEFINED};
 use packets::Requested;
 use wire::{Number, Refusal, magnitude};
 
-// The kinds of events by their numbers.
+// The kinds of events by their numbers. An enum beside `Event`: the number is known before the values are read.
 #[derive(Clone, Copy)]
 pub enum EventKind {
     PowerOn = 1,
@@ -71,13 +71,14 @@ impl TryFrom<u8> for EventKind {
 // The greatest size of a traction request, without its sign.
 const MAX_REQUEST: u8 = 100;
 
-// A traction or braking request as its byte in two's complement, and the content of the packet 61 that tells it.
+// A traction or braking request as its byte in two's complement, of which only the size is read, and the content of the packet 61 that tells it.
 #[derive(Clone, Copy)]
 pub struct TractionRequest {
     pub request: u8,
     pub content: Requested,
 }
 
+// Mode, lever and reports as their bytes: so the engine keeps them (C layout), and there the rows of the states read them.
 #[derive(Clone, Copy)]
 pub enum Event {
     PowerOn,
@@ -96,32 +97,20 @@ pub enum Event {
     Traction(TractionRequest),
 }
 
-// The row of the states that an event takes: one of its own, or that of the state before.
-#[derive(Clone, Copy)]
-pub enum Row {
-    SwitchOn,
-    Configure,
-    SwitchOff,
-    Fail,
-    EngagePress,
-    ByState,
-}
-
 // What an event is to the journey and its points: power off, a load, a position report, a driver skip given or revoked, nothing.
 #[derive(Clone, Copy)]
 pub enum Role {
     Off,
     Load,
-    Report(Position),
+    Report,
     Skip { nidtp: u32, on: bool },
     Other,
 }
 
 impl Event {
-    ghost use Rattle.event.specs.Kinds.{kind_of, row_of, role_of};
-    ghost use Rattle.event.specs.View.{kind_number, role_view, reported};
+    ghost use Rattle.event.specs.Kinds.{kind_of, role_of, newer, carried};
+    ghost use Rattle.event.specs.View.{kind_number, role_view};
 
-    // The kind of an event.
     pub fn kind(self) -> EventKind
         ensures { kind_number result ≡ kind_of self }
     {
@@ -143,32 +132,27 @@ impl Event {
         }
     }
 
-    // The row of the states that an event takes.
-    pub fn row(self) -> Row
-        ensures { result ≡ row_of self }
-    {
-        match self {
-            Event::PowerOn => Row::SwitchOn,
-            Event::Configured => Row::Configure,
-            Event::PowerOff => Row::SwitchOff,
-            Event::Fault => Row::Fail,
-            Event::Press => Row::EngagePress,
-            _ => Row::ByState,
-        }
-    }
-
     // What it is to the journey and its points.
     pub fn role(self) -> Role
         ensures role { role_view result ≡ role_of self }
-        ensures position { reported result ≡ (carried self).position }
     {
         match self {
             Event::PowerOff => Role::Off,
             Event::Load => Role::Load,
-            Event::PositionReport(x) => Role::Report(x),
+            Event::PositionReport(_) => Role::Report,
             Event::Skip(nidtp) => Role::Skip { nidtp, on: true },
             Event::Revoke(nidtp) => Role::Skip { nidtp, on: false },
             _ => Role::Other,
+        }
+    }
+
+    // The position after it, from the one before.
+    pub fn position_after(self, before: Position) -> Position
+        ensures { result ≡ newer (carried self).position before }
+    {
+        match self {
+            Event::PositionReport(x) => x,
+            _ => before,
         }
     }
 }
@@ -206,13 +190,10 @@ fn read_traction(s: &[u8]) -> Result<Event, Refusal>
     ensures { judged result ≡ event_with traction_content s.now }
 {
     let request = u8::get(s, 1);
-    let content = Requested {
-        m_ato_trabrrq: u8::get(s, 2),
-        m_ato_locobrrq: u8::get(s, 3),
-        q_ato_suptb: u8::get(s, 4),
-        m_ato_rtbrq: u16::get(s, 5),
+    let x = TractionRequest {
+        request,
+        content: Requested::get(s, 2),
     };
-    let x = TractionRequest { request, content };
     event_rows(s, 7, magnitude(request) <= MAX_REQUEST, Event::Traction(x))
 }
 
@@ -242,16 +223,5 @@ pub fn read_event(s: &[u8]) -> Result<Event, Refusal>
         EventKind::Skip => event_rows(s, 5, true, Event::Skip(number)),
         EventKind::Revoke => event_rows(s, 5, true, Event::Revoke(number)),
         EventKind::Traction => read_traction(s),
-    }
-}
-
-// The position after an event, from the one before.
-pub fn position_after(e: Event, x: Position) -> Position
-    ensures { result ≡ newer (carried e).position x }
-{
-    if let Event::PositionReport(y) = e {
-        y
-    } else {
-        x
     }
 }

@@ -2,11 +2,13 @@
 use Rattle.std.proofs.Common.{ℕ, zero, suc, ◌+◌, ◌-◌, ◌*◌, ◌≤◌, ◌<◌, ◌≡◌, refl, sym, ap, ◌∙◌, List, [], ◌∷◌, ◌++◌, map, length, arith, append_assoc, min, Option, Some, None, Bool, true, false, inl, inr}
 use Rattle.std.specs.Prelude.{option_map}
 use mathlib.Core.List.{map-append, append-nil}
-use lib.ListN.{length-append, length-map}
-use lib.Seq.{sets, length-sets}
+use lib.ListN.{take, drop, set, length-append, length-map, length-drop, drop_of_length-le}
+use lib.Seq.{sets, take_all}
 use mir.Val.{bool_byte}
 use Rattle.std.specs.Option.{is_some}
+use Rattle.std.specs.Bool.{then_some}
 use Rattle.std.proofs.lemmas.Bool.{cases_lt}
+use Rattle.std.proofs.lemmas.List.{take_min, drop_min}
 use Rattle.std.proofs.Math.Nat.{min-eq_left, min-eq_right}
 use Rattle.wire.proofs.NumberLaws.{sets_more, sets_past}
 use Rattle.engine_value.specs.Engine.{route_in, progress}
@@ -16,10 +18,10 @@ use Rattle.packets.proofs.PacketLaws.{length-packet_bytes, joined-append}
 use Rattle.packets.specs.declared.Packet.{Packet}
 use Rattle.packets.specs.declared.Requested.{Requested}
 use Rattle.status_word.specs.declared.OperationalConditions.{OperationalConditions}
-use Rattle.timing.specs.Changes.{Change, change, passings, status_passed}
+use Rattle.timing.specs.Changes.{Change, change, passings, status_passed, when}
 use Rattle.call.specs.Packets.{change_in}
-use Rattle.call_values.specs.Packets.{timing_point, traction_brake, traction_brakes, ato_status}
-use Rattle.event_packets.specs.View.{listed, change_view, jp_received_view, packets62, packets_view, Put}
+use Rattle.call_values.specs.Packets.{Status, timing_point, traction_brake, traction_brakes, ato_status, status_due, country, received, in_order, packets_of, jp_received}
+use Rattle.event_packets.specs.View.{listed, change_view, changes_view, jp_received_view, packets62, packets_view, Put}
 use Rattle.event_packets.specs.declared.Received.{Received}
 use Rattle.event_packets.specs.declared.Change as code
 use Rattle.event_packets.specs.declared.Writes.{Writes}
@@ -74,11 +76,32 @@ behind bs more l at =
       | inr within ↦ rw (min-eq_left within) (sets_more bs more l at)
     ]
 
-pub put_one : (o : Option Packet) (p : Packet) (l m : List ℕ) (at start n : ℕ) → o ≡ Some p → m ≡ sets l at (packet_bytes p) → start ≡ min at (length m) → n ≡ size_of p → Put at (listed o) l m (start + n)
-put_one o p l m at start n q t s z = λ more.
-    let k : start ≡ min at (length l) = s ∙ ap (λ (m : List ℕ). min at (length m)) t ∙ ap (min at) (length-sets l at (packet_bytes p)) in
+sets-none : (bs : List ℕ) (i : ℕ) → sets [] i bs ≡ []
+sets-none [] i = refl
+sets-none (b ∷ bs) i = sets-none bs (suc i)
+
+sets_behind : (bs : List ℕ) (x : ℕ) (l : List ℕ) (i : ℕ) → sets (x ∷ l) (suc i) bs ≡ x ∷ sets l i bs
+sets_behind [] x l i = refl
+sets_behind (b ∷ bs) x l i = sets_behind bs x (set l i b) (suc i)
+
+-- stores at the front of the rest of a memory
+sets_part : (at : ℕ) (l bs : List ℕ) → take at l ++ sets (drop at l) 0 bs ≡ sets l at bs
+sets_part zero l bs = refl
+sets_part (suc at) [] bs = sets-none bs 0 ∙ sym (sets-none bs (suc at))
+sets_part (suc at) (x ∷ l) bs = ap (λ (r : List ℕ). x ∷ r) (sets_part at l bs) ∙ sym (sets_behind bs x l at)
+
+-- what is lent is all from the position on, or nothing where that lies past the end
+stored_within : (at a : ℕ) (l bs : List ℕ) → a ≡ min at (length l)
+    → take a l ++ (sets (take (length l - a) (drop a l)) 0 bs ++ drop (length l - a) (drop a l)) ≡ sets l at bs
+stored_within at a l bs e =
+    let n : length (drop a l) ≤ length l - a = rw length-drop (omega arith) in
+    rw (take_all (length l - a) (drop a l) n, drop_of_length-le (drop a l) {i = length l - a} n, append-nil, e, take_min, drop_min) (sets_part at l bs)
+
+pub put_one : (o : Option Packet) (p : Packet) (l m : List ℕ) (at a n : ℕ) → o ≡ Some p → m ≡ sets (take (length l - a) (drop a l)) 0 (packet_bytes p) → a ≡ min at (length l) → n ≡ size_of p
+    → Put at (listed o) l (take a l ++ (m ++ drop (length l - a) (drop a l))) (a + n)
+put_one o p l m at a n q t k z = λ more.
     let i : n ≡ length (packet_bytes p) = z ∙ sym (length-packet_bytes p) in
-    rw (q, t, k, i, append-nil (packet_bytes p)) (behind (packet_bytes p) more l at)
+    rw (q, t, stored_within at a l (packet_bytes p) k, k, i, append-nil (packet_bytes p)) (behind (packet_bytes p) more l at)
 
 pub put_all : (a b c d f g : List Packet) (l m₁ m₂ m₃ m₄ m₅ m₆ : List ℕ) (i j k n r s : ℕ)
     → Put 0 a l m₁ i → Put i b m₁ m₂ j → Put j c m₂ m₃ k → Put k d m₃ m₄ n → Put n f m₄ m₅ r → Put r g m₅ m₆ s
@@ -124,3 +147,30 @@ module _ (e : Engine) (to k : ℕ) where
   passed_next h p q l m i j t more =
       let z : to - k ≡ suc (to - (k + 1)) = omega arith in
       t (joined (packets62 e (passings (to - (k + 1)) (k + 1))) ++ more) ∙ rw (z, q) (simp (append-nil, append_assoc))
+
+-- ---- the packets are those of an event
+
+-- a packet 65, where there is one, has the country of the position
+pub received_is : (m : Engine) (o : Option Received) → ((r : Received) → o ≡ Some r → r.nidc ≡ country (route_in m) m.train.position)
+    → map (jp_received_view m) (listed o) ≡ received (route_in m) m.train.position (option_map (λ (r : Received). r.head) o)
+unfolding jp_received
+received_is m None n = refl
+received_is m (Some r) n = rw (n r refl)
+
+pub status_is : {A B : Type 0} (g : A → B) (b : Bool) (a : A) → map g (listed (then_some b a)) ≡ when b (g a)
+status_is g true a = refl
+status_is g false a = refl
+
+pub packets_in : (m : Engine) (w : Writes) (own : Option Requested) (before after : Status)
+    → ((r : Received) → w.received ≡ Some r → r.nidc ≡ country (route_in m) m.train.position)
+    → w.status ≡ then_some (status_due before after) after.conditions → m.control.state ≡ after.state → w.requested ≡ own
+    → packets_view m w ≡ packets_of (route_in m) m.train.position (option_map (λ (r : Received). r.head) w.received) (map (change_in m.load) (changes_view w.changes)) (traction_brakes (route_in m) m.train.position own) before after
+unfolding packets_of
+packets_in m w own before after n d s o =
+    let five = received_is m w.received n in
+    let eight : map (ato_status (route_in m) m.train.position m.control.state) (listed w.status)
+    ≡ when (status_due before after) (ato_status (route_in m) m.train.position after.state after.conditions)
+    = ap (λ x. map (ato_status (route_in m) m.train.position m.control.state) (listed x)) d
+    ∙ status_is (ato_status (route_in m) m.train.position m.control.state) (status_due before after) after.conditions
+    ∙ ap (λ k. when (status_due before after) (ato_status (route_in m) m.train.position k after.conditions)) s in
+    λ i. in_order (five i) (packets62 m (changes_view w.changes)) (traction_brakes (route_in m) m.train.position (o i)) (eight i)

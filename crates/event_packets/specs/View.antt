@@ -5,27 +5,18 @@ use Rattle.std.proofs.lemmas.List.Edits.{sets}
 use Rattle.engine_value.specs.Engine.{route_in}
 use Rattle.engine_value.specs.declared.Engine.{Engine}
 use Rattle.packets.specs.Packets.{joined}
+use Rattle.packets.specs.View.{status_number}
 use Rattle.packets.specs.declared.Packet.{Packet}
-use Rattle.status_word.specs.declared.OperationalConditions.{OperationalConditions}
 use Rattle.timing.specs.Changes as timing
-use Rattle.timing.specs.Changes.{change, passings, status_passed, status_stopped, status_departed, status_skipped, status_revoked}
+use Rattle.timing.specs.Changes.{change, passings}
 use Rattle.call.specs.Packets.{change_in}
 use Rattle.call_values.specs.Packets as packets
 use Rattle.call_values.specs.Packets.{header, in_order, timing_point, jp_received_of, traction_brakes, ato_status}
-use Rattle.event_packets.specs.declared.PointStatus.{PointStatus}
-use Rattle.event_packets.specs.declared.PointStatus.TheVariants.{Passed, Stopped, Departed, Skipped, Revoked}
 use Rattle.event_packets.specs.declared.Change.{Change}
 use Rattle.event_packets.specs.declared.Changes.{Changes}
 use Rattle.event_packets.specs.declared.Received.{Received}
 use Rattle.event_packets.specs.declared.Status.{Status}
 use Rattle.event_packets.specs.declared.Writes.{Writes}
-
-abbrev pub status_number : PointStatus → ℕ
-status_number Passed = status_passed
-status_number Stopped = status_stopped
-status_number Departed = status_departed
-status_number Skipped = status_skipped
-status_number Revoked = status_revoked
 
 abbrev pub change_view : Change → timing.Change
 change_view c = change c.index (status_number c.status) c.after

@@ -1,44 +1,26 @@
 // The packets of an accepted event, written one behind the other into the output memory.
 #![tactic(auto)]
 
-ghost use Rattle.std.specs.Prelude.{◌≡◌, ◌+◌, ◌-◌, length};
+ghost use Rattle.std.specs.Prelude.{◌≡◌, ◌-◌, length};
 ghost use Rattle.std.proofs.lemmas.List.Edits.{sets};
 ghost use Rattle.engine_value.specs.declared.Engine as engine;
 ghost use Rattle.engine_value.specs.Engine.{route_in};
 ghost use Rattle.engine_value.specs.View.{route_view};
 ghost use Rattle.packets.specs.Packets.{joined};
-ghost use Rattle.position.specs.Position.{point};
 ghost use Rattle.timing.specs.Changes.{passings};
 ghost use Rattle.call.specs.Packets.{change_in};
 ghost use Rattle.call_values.specs.Packets.{header, country, status_due, timing_point, traction_brake, ato_status};
-ghost use Rattle.event_packets.specs.View.{status_number, change_view, status_view, jp_received_view, listed, packets62, packets_view, Put};
+ghost use Rattle.event_packets.specs.View.{change_view, status_view, jp_received_view, listed, packets62, packets_view, Put};
 
-use engine_value::{Engine, Point, Progress};
+use engine_value::{Engine, Progress};
 use journey::Head;
 use packets::{
-    AtoStatus, Header, JpReceived, Packet, PacketKind, Requested, TimingPoint, TractionBrake,
+    AtoStatus, Header, JpReceived, Packet, PacketKind, PointStatus, Requested, TimingPoint,
+    TractionBrake,
 };
 use position::Place;
 use state_codes::State;
 use status_word::OperationalConditions;
-
-// The statuses of a packet 62.
-#[derive(Clone, Copy, PartialEq, Eq)]
-pub enum PointStatus {
-    Passed = 0,
-    Stopped = 1,
-    Departed = 2,
-    Skipped = 5,
-    Revoked = 6,
-}
-
-impl From<PointStatus> for u8 {
-    ghost from_gives = { λ s n. n ≡ status_number s };
-
-    fn from(s: PointStatus) -> u8 {
-        s as u8
-    }
-}
 
 // A change of the point of an index, and the progress after it.
 #[derive(Clone, Copy)]
@@ -49,7 +31,7 @@ pub struct Change {
 }
 
 // What an event changes of the points: first, perhaps, a departure, a skip or its revocation; then the points from `from` to `to`, without that one,
-// pass; last, perhaps, a stop is reached.
+// pass; last, perhaps, a stop is reached. `from` and `to` are two numbers, since `Range` is not `Copy`.
 #[derive(Clone, Copy)]
 pub struct Changes {
     pub first: Option<Change>,
@@ -58,7 +40,7 @@ pub struct Changes {
     pub last: Option<Change>,
 }
 
-// The head of a journey that was loaded, and the NID_C that its packet 65 tells.
+// The head of a journey that was loaded, and the NID_C that its packet 65 tells: a number, for the paper has 1,024 where none is known.
 #[derive(Clone, Copy)]
 pub struct Received {
     pub head: Head,
@@ -112,9 +94,10 @@ fn timing_point(e: &Engine, c: Change) -> Packet
         q_eoj_reached: u8::from(conditions::end_ahead(e.load, c.after)),
         alignment: p.alignment,
         status: u8::from(c.status),
-        stopping: match c.status {
-            PointStatus::Stopped => p.stopping,
-            _ => 0,
+        stopping: if c.status == PointStatus::Stopped {
+            p.stopping
+        } else {
+            0
         },
     })
 }
@@ -175,6 +158,7 @@ pub fn status_due(before: Status, after: Status) -> bool
 }
 
 // How many bytes they take.
+#[tactic(auto, using(crate::proofs::Stored::size_in))]
 pub fn size(w: &Writes) -> usize
     ensures { (e : engine.Engine) → result ≡ length (joined (packets_view e w.now)) }
 {
@@ -189,35 +173,47 @@ pub fn size(w: &Writes) -> usize
 
 // ---- writing
 
-// A packet, where there is one, put from a position on; the position behind it.
-fn put(p: Option<Packet>, out: &mut [u8], at: usize) -> usize
-    ensures { Put at (listed p) out.old out.new result }
-{
-    let Some(p) = p else {
-        return at;
-    };
-    packet_writer::put_packet(p, out, at);
-    at.min(out.len()) + p.size()
+// The output memory, and the position behind what is written.
+#[derive(Drop)]
+struct Output<'a> {
+    memory: &'a mut [u8],
+    at: usize,
 }
 
-// The points from `from` to `to`, without that one, pass.
-fn put_passed(e: &Engine, from: u8, to: u8, out: &mut [u8], at: usize) -> usize
-    ensures { Put at (packets62 e.now (passings (to - from) from)) out.old out.new result }
-{
-    let mut p = at;
-    for k in from..to {
-        let after = Progress {
-            next: k + 1,
-            reached: false,
+impl<'a> Output<'a> {
+    // A packet, where there is one.
+    #[tactic(auto, using(crate::proofs::Stored::put_one))]
+    fn put(&mut self, p: Option<Packet>)
+        ensures same_reference { self.new.memory.ghost_name ≡ self.old.memory.ghost_name }
+        ensures put { Put self.old.at (listed p) self.old.memory.now self.new.memory.now self.new.at }
+    {
+        let Some(p) = p else {
+            return;
         };
-        let c = Change {
-            index: k,
-            status: PointStatus::Passed,
-            after,
-        };
-        p = put(Some(timing_point(e, c)), out, p);
+        let start = self.at.min(self.memory.len());
+        packet_writer::put_packet(p, &mut self.memory[start..]);
+        self.at = start + p.size();
     }
-    p
+
+    // The points from `from` to `to`, without that one, pass.
+    #[tactic(auto, using(crate::proofs::Stored::passed_next, crate::proofs::Stored::passed_end))]
+    fn put_passed(&mut self, e: &Engine, from: u8, to: u8)
+        ensures same_reference { self.new.memory.ghost_name ≡ self.old.memory.ghost_name }
+        ensures put { Put self.old.at (packets62 e.now (passings (to - from) from)) self.old.memory.now self.new.memory.now self.new.at }
+    {
+        for k in from..to {
+            let after = Progress {
+                next: k + 1,
+                reached: false,
+            };
+            let c = Change {
+                index: k,
+                status: PointStatus::Passed,
+                after,
+            };
+            self.put(Some(timing_point(e, c)));
+        }
+    }
 }
 
 // The packets of an event, from the front of the output memory on.
@@ -230,10 +226,11 @@ pub fn write(e: &Engine, w: &Writes, out: &mut [u8])
     let last = c.last.map(|c| timing_point(e, c));
     let requested = w.requested.map(|r| traction_brake(e, r));
     let status = w.status.map(|c| ato_status(e, c));
-    let points = put(received, out, 0);
-    let at = put(first, out, points);
-    let at = put_passed(e, c.from, c.to, out, at);
-    let at = put(last, out, at);
-    let at = put(requested, out, at);
-    put(status, out, at);
+    let mut output = Output { memory: out, at: 0 };
+    output.put(received);
+    output.put(first);
+    output.put_passed(e, c.from, c.to);
+    output.put(last);
+    output.put(requested);
+    output.put(status);
 }

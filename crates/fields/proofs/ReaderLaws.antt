@@ -1,17 +1,15 @@
--- Laws of the readers: a field by case, and one law over the width that what was written reads back.
+-- Laws of the readers: a field, and one law over the width that what was written reads back.
 use Prim.Native.Nat.{ℕ, suc, ◌+◌, ◌-◌, ◌^◌, ◌≤◌, ◌<◌}
 use mathlib.Core.Path.{◌≡◌, refl, sym}
 use mathlib.Core.List.{List, [], ◌∷◌, ◌++◌, append_assoc}
 use mathlib.Core.Bool.{Bool, true, false, cond, ◌&&◌}
-use lib.ListN.{length, get_or, take, drop, length-drop, length-append}
-use lib.Seq.{drop-drop, drop_at, drop-cons, take-length}
+use lib.ListN.{length, drop, length-drop, length-append}
+use lib.Seq.{drop-drop, drop_at}
 use lib.Dec.{leb}
 use Rattle.std.proofs.lemmas.List.{append-nil}
-use native.Mathlib.Numerals.{add-one}
 use native.Mathlib.Omega.{arith}
-use borrow.Author.Tests.{le-leb, lt-leb, leb-true}
+use borrow.Author.Tests.{le-leb, leb-true}
 use Rattle.wire.specs.Numbers.{number, bytes_of}
-use Rattle.wire.specs.Lists.{any, twice}
 use Rattle.wire.proofs.ListLaws.{and_left, and_right}
 use Rattle.wire.proofs.NumberLaws.{number-bytes_of, length-bytes_of}
 use Rattle.fields.specs.Parse.{Parse, Reader, and_then, field, many}
@@ -20,15 +18,10 @@ use Rattle.fields.specs.View.{parsed_by}
 use Rattle.std.specs.Borrow.{Bor}
 use Rattle.std.specs.Bool.{then_some}
 
--- a field at a position of s, by case
-module _ (s : List ℕ) (at w low high : ℕ) where
-  pub field_short : length s - at < w → bad ≡ field w low high (drop at s)
-  unfolding field
-  field_short h = rw (lt-leb w (length (drop at s)) (rw length-drop h))
-
-  pub field_good : at + w ≤ length s → low ≤ number w (drop at s) → number w (drop at s) ≤ high → good (number w (drop at s)) (drop (at + w) s) ≡ field w low high (drop at s)
-  unfolding field
-  field_good h a b = rw (le-leb w (length (drop at s)) (rw length-drop (omega arith)), le-leb _ _ a, le-leb _ _ b, drop-drop)
+-- a field at a position of s that is there and within its range
+pub field_good : (s : List ℕ) (at w low high : ℕ) → at + w ≤ length s → low ≤ number w (drop at s) → number w (drop at s) ≤ high → good (number w (drop at s)) (drop (at + w) s) ≡ field w low high (drop at s)
+unfolding field
+field_good s at w low high h a b = rw (le-leb w (length (drop at s)) (rw length-drop (omega arith)), le-leb _ _ a, le-leb _ _ b, drop-drop)
 
 -- where two readers follow each other and the second gives a value, the first does
 pub then_inv : {A B : Type 0} (m : Parse A) (f : A → List ℕ → Parse B) (b : B) (r : List ℕ) → and_then m f ≡ good b r
@@ -57,6 +50,10 @@ field-inv w low high l n r e =
     let lo : low ≤ number w l = leb-true _ _ (and_left (leb low (number w l)) _ b) in
     let hi : number w l ≤ high = leb-true _ _ (and_right (leb low (number w l)) _ b) in
     record { there = leb-true _ _ (and_left (leb w (length l)) _ t.0); value = v; rest = t.2; least = omega arith; most = omega arith }
+
+-- a field that was read is at most the highest
+pub field_most : (w low high : ℕ) (l : List ℕ) (n : ℕ) (r : List ℕ) → good n r ≡ field w low high l → n ≤ high
+field_most w low high l n r e = (field-inv w low high l n r (sym e)).most
 
 -- a field that was written reads back
 pub field-bytes : (w low high n : ℕ) (rest : List ℕ) → n < 256 ^ w → low ≤ n → n ≤ high → field w low high (bytes_of w n ++ rest) ≡ good n rest
@@ -89,14 +86,6 @@ module _ {A : Type 0} (p : Reader A) (xs : List A) (n i : ℕ) (l : List ℕ) wh
   pub many_done : n ≤ i → with_front xs (many (n - i) p l) ≡ good xs l
   unfolding many
   many_done h = let k : n - i ≡ 0 = omega arith in rw k (simp append-nil)
-
--- an item that none behind it is the same as does not decide whether one stands twice
-pub twice_goes_on : {A : Type 0} (same : A → A → Bool) (xs : List A) (i : ℕ) (d : A) → i < length xs
-    → false ≡ any (λ y. same y (get_or xs i d)) (take (length xs - (i + 1)) (drop (i + 1) xs)) → twice same (drop (i + 1) xs) ≡ twice same (drop i xs)
-twice_goes_on same xs i d h e =
-    let k : length xs - (i + 1) ≡ length (drop (i + 1) xs) = rw length-drop in
-    let f : any (λ y. same y (get_or xs i d)) (drop (suc i) xs) ≡ false = sym (rw (k, take-length, add-one i) at e) in
-    rw (add-one i, drop-cons xs i d h, f)
 
 -- what is read where a test holds
 pub parsed_then_some : {A B : Type 0} (f : A → B) (b : Bool) (a : A) (r : Bor (List ℕ)) → parsed_by f (then_some b (a, r)) ≡ cond b (good (f a) r.now) bad

@@ -2,9 +2,9 @@
 // front of a slice, and answers the value and the bytes behind it, or nothing.
 #![tactic(auto)]
 
-ghost use Rattle.std.specs.Prelude.{◌≡◌, ◌≤◌, min, length, map};
+ghost use Rattle.std.specs.Prelude.{◌≡◌, min};
 ghost use Rattle.wire.specs.Lists.{twice};
-ghost use Rattle.fields.specs.Parse.{field, optional, map_fits, bit_map, many, counted, listed};
+ghost use Rattle.fields.specs.Parse.{field, optional, map_fits, bit_map, counted};
 ghost use Rattle.fields.specs.View.{parsed, parsed_by};
 
 use arrayvec::ArrayVec;
@@ -26,7 +26,8 @@ pub fn read_map<'a>(s: &'a [u8], standing: &[u8], clear: &[u8]) -> Option<(u8, &
     map_fits(map, standing, clear).then_some((map, s))
 }
 
-// A number within its range.
+// A number within its range. Its bounds are two numbers: a `RangeInclusive` that was iterated to its end no longer contains that end, and no
+// type keeps such a one out.
 #[tactic(auto, using(std::proofs::lemmas::Map::Keys::le_from_is_le), unfolding(crate::specs::Parse::field))]
 pub fn read_field<N: Number>(s: &[u8], low: u32, high: u32) -> Option<(N, &[u8])>
     ensures { parsed_by N.value result ≡ field N.WIDTH low high s.now }
@@ -55,31 +56,26 @@ pub fn read_optional<N: Number>(
 }
 
 // An item of a list.
-pub trait Item {
+pub trait Item: Copy + Default {
     ghost use Rattle.fields.specs.Parse.{Reader};
 
-    type Value: Copy + Default;
+    ghost reader: { Reader Self };
 
-    ghost reader: { Self → Reader Self.Value };
-
-    fn read<'a>(&self, s: &'a [u8]) -> Option<(Self::Value, &'a [u8])>
-        ensures { parsed result ≡ reader self.now s.now };
+    fn read(s: &[u8]) -> Option<(Self, &[u8])>
+        ensures { parsed result ≡ reader s.now };
 }
 
 // A count of one byte, from 1 to N, and as many items.
-#[tactic(auto, using(crate::proofs::ReaderLaws::many_goes_on, crate::proofs::ReaderLaws::many_ends, crate::proofs::ReaderLaws::many_done), unfolding(crate::specs::Parse::counted))]
-pub fn read_counted<'a, I: Item, const N: usize>(
-    item: &I,
-    s: &'a [u8],
-) -> Option<(ArrayVec<I::Value, N>, &'a [u8])>
-    ensures { parsed_by (λ v. v.items) result ≡ counted (min N 255) (I.reader item.now) s.now }
+#[tactic(auto, using(crate::proofs::ReaderLaws::field_most, crate::proofs::ReaderLaws::many_goes_on, crate::proofs::ReaderLaws::many_ends, crate::proofs::ReaderLaws::many_done), unfolding(crate::specs::Parse::counted))]
+pub fn read_counted<I: Item, const N: usize>(s: &[u8]) -> Option<(ArrayVec<I, N>, &[u8])>
+    ensures { parsed_by (λ v. v.items) result ≡ counted (min N 255) I.reader s.now }
 {
     let most = N.min(255) as u32;
     let (n, mut rest) = read_field::<u8>(s, 1, most)?;
     let mut items = ArrayVec::new();
     for _ in 0..n {
-        let (value, behind) = item.read(rest)?;
-        items.try_push(value).ok()?;
+        let (item, behind) = I::read(rest)?;
+        items.try_push(item).ok()?;
         rest = behind;
     }
     Some((items, rest))
@@ -99,11 +95,13 @@ pub trait Bears {
 pub fn name_twice<T: Bears>(items: &[T]) -> bool
     ensures { result ≡ twice (λ a b. T.Name.eq (T.name a) (T.name b)) items.now }
 {
-    for (i, first) in items.iter().enumerate() {
+    let mut rest = items;
+    while let Some((first, behind)) = rest.split_first() {
         let name = first.name();
-        if items[i + 1..].iter().any(|x| x.name() == name) {
+        if behind.iter().any(|x| x.name() == name) {
             return true;
         }
+        rest = behind;
     }
     false
 }

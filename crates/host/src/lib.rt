@@ -28,7 +28,7 @@ const PATCH: u32 = 0;
 // State, request and bytes written, where accepted; else the number of the row that refuses. The fields of the other case are 0: one struct for
 // both, since an exported function can hand over no enum.
 #[repr(C)]
-#[derive(Clone, Copy)]
+#[derive(Clone, Copy, Default)]
 pub struct Answer {
     pub accepted: bool,
     pub number: u8,
@@ -37,24 +37,23 @@ pub struct Answer {
     pub bytes: usize,
 }
 
-fn plain(r: Result<Accepted, Refusal>) -> Answer
-    ensures { result ≡ answer_view (judged r) }
-{
-    match r {
-        Ok(a) => Answer {
-            accepted: true,
-            number: 0,
-            state: a.state,
-            request: a.request,
-            bytes: a.bytes,
-        },
-        Err(n) => Answer {
-            accepted: false,
-            number: u8::from(n),
-            state: 0,
-            request: false,
-            bytes: 0,
-        },
+impl From<Result<Accepted, Refusal>> for Answer {
+    ghost from_gives = { λ r a. a ≡ answer_view (judged r) };
+
+    fn from(r: Result<Accepted, Refusal>) -> Answer {
+        match r {
+            Ok(a) => Answer {
+                accepted: true,
+                state: a.state,
+                request: a.request,
+                bytes: a.bytes,
+                ..Answer::default()
+            },
+            Err(r) => Answer {
+                number: u8::from(r),
+                ..Answer::default()
+            },
+        }
     }
 }
 
@@ -71,7 +70,7 @@ pub extern "C" fn hollwern_step(
     ensures engine { e.new ≡ (step_of e.old (call event.now journey.now book.now out.old)).engine }
     ensures output { out.new ≡ (step_of e.old (call event.now journey.now book.now out.old)).memory }
 {
-    plain(engine::step(e, event, journey, book, out))
+    Answer::from(engine::step(e, event, journey, book, out))
 }
 
 // The fresh engine, made where it is kept.

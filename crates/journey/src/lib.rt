@@ -1,4 +1,4 @@
-// Journeys: read whole (9).
+// Journeys: read whole (row 9).
 #![tactic(auto)]
 
 ghost use Rattle.std.specs.Prelude.{◌≡◌};
@@ -20,7 +20,7 @@ const MAX_ATOTS: u32 = 16383;
 
 const NO_ATOTS: u16 = 16384;
 
-// "alignment (1: 0 front, 1 middle, 2 rear; absent means 0)"
+// "alignment (1: 0 front, 1 middle, 2 rear; absent means 0)". A byte, as the engine's C layout has it: an enum would be made here and unmade there.
 const FRONT: u8 = 0;
 
 const MAX_ALIGNMENT: u32 = 2;
@@ -87,34 +87,26 @@ impl Bears for JourneyPoint {
 }
 
 // The layouts of the items of its two lists.
-struct NameItem;
-
-struct PointItem;
-
-impl Item for NameItem {
+impl Item for Name {
     ghost use Rattle.journey.specs.Journey.{name_record};
 
-    type Value = Name;
-
-    ghost reader = { λ _. name_record };
+    ghost reader = { name_record };
 
     #[tactic(auto, unfolding(crate::specs::Journey::name_record))]
-    fn read<'a>(&self, s: &'a [u8]) -> Option<(Name, &'a [u8])> {
+    fn read(s: &[u8]) -> Option<(Name, &[u8])> {
         let (nidc, s) = read_field(s, 0, MAX_NIDC)?;
         let (nidsp, s) = read_field(s, 0, u32::MAX)?;
         Some((Name { nidc, nidsp }, s))
     }
 }
 
-impl Item for PointItem {
+impl Item for JourneyPoint {
     ghost use Rattle.journey.specs.Journey.{point_record};
 
-    type Value = JourneyPoint;
-
-    ghost reader = { λ _. point_record };
+    ghost reader = { point_record };
 
     #[tactic(auto, unfolding(crate::specs::Journey::point_record))]
-    fn read<'a>(&self, s: &'a [u8]) -> Option<(JourneyPoint, &'a [u8])> {
+    fn read(s: &[u8]) -> Option<(JourneyPoint, &[u8])> {
         let (map, s) = read_map(s, &[0, 1], &[7])?;
         if bit(map, 5) && !bit(map, 4) {
             return None;
@@ -162,8 +154,8 @@ fn read_whole(s: &[u8]) -> Option<(Journey, &[u8])>
     ensures { parsed_by value_view result ≡ journey_record s.now }
 {
     let (head, s) = read_head(s)?;
-    let (names, s) = read_counted(&NameItem, s)?;
-    let (points, s) = read_counted(&PointItem, s)?;
+    let (names, s) = read_counted(s)?;
+    let (points, s) = read_counted(s)?;
     Some((
         Journey {
             names,
@@ -174,7 +166,8 @@ fn read_whole(s: &[u8]) -> Option<(Journey, &[u8])>
     ))
 }
 
-// A journey to the last byte of the slice.
+// A journey to the last byte of the slice. `inline(never)`, as at each step of a load: they take the same stack in turn.
+#[inline(never)]
 pub fn read_journey(s: &[u8]) -> Result<Journey, Refusal>
     ensures { judged_by value_view result ≡ journey_value s.now }
 {

@@ -1,21 +1,29 @@
 -- What the library's methods answer, in the words of the rows.
 use Prim.Native.Nat.{ℕ, zero, suc, ◌+◌, ◌≤◌, ◌<◌}
-use mathlib.Core.Path.{◌≡◌, refl, sym, ◌∙◌}
+use mathlib.Core.Path.{◌≡◌, refl, sym, ap, subst, ◌∙◌}
 use mathlib.Core.List.{List, [], ◌∷◌, map}
-use mathlib.Core.Bool.{Bool, true, false, cond, not, ◌||◌}
+use mathlib.Core.Bool.{Bool, true, false, cond, not, ◌||◌, and-false}
 use native.Mathlib.Omega.{arith}
 use native.Mathlib.Numerals.{add-one}
-use lib.ListN.{length, get_or}
+use lib.ListN.{length, get_or, take, length-take}
+use lib.Seq.{get_or-take}
 use lib.Dec.{ltb, leb}
-use borrow.Author.Tests.{lt-ltb, le-ltb, ltb-false, leb-true, leb-false}
-use Rattle.std.specs.Prelude.{Some, None}
+use borrow.Author.Tests.{lt-ltb, le-ltb, ltb-true, ltb-false, le-leb, lt-leb, leb-true, leb-false}
+use Rattle.std.specs.Prelude.{Option, Some, None}
+use Rattle.std.specs.Bool.{OnTrue, IsTrue}
+use Rattle.std.specs.Iterator.{DrainsIf}
+use Rattle.std.specs.Iterator.Runs.{Run}
+use Rattle.std.proofs.iter.runs.Made.{took}
+use Rattle.std.proofs.lemmas.Iterator.{YieldsList, items_from_drains}
+use Rattle.std.proofs.lemmas.Iterator.Consumers.{YieldsList-so_far}
+use Rattle.std.proofs.lemmas.List.{map-id}
 use Rattle.std.specs.Option.{unwrap_or}
 use Rattle.std.specs.List.{position, position_or_len, count_by, IsAllAdjacentAnswer}
 use Rattle.std.proofs.lemmas.List.Recursion.{is_count_by, is_position_or_len}
 use Rattle.std.proofs.lemmas.List.Sums.{prefix_len-le-length}
 use Rattle.wire.specs.Numbers.{flag}
-use Rattle.wire.specs.Lists.{any, twice, falls}
-use Rattle.wire.proofs.ListLaws.{falls_from, falls_from_lem}
+use Rattle.wire.specs.Lists.{any, twice, falls, strictly_rises}
+use Rattle.wire.proofs.ListLaws.{falls_from, falls_from_lem, rises_from, rises_from_lem}
 use Rattle.journey.specs.declared.JourneyPoint.{JourneyPoint}
 use Rattle.journey_rows.specs.Rows.{ends, ending_of}
 
@@ -86,3 +94,39 @@ sorted_falls f [] true h = refl
 sorted_falls f [] false (k, l, h) = absurd (omega arith)
 sorted_falls f (x ∷ xs) true h = sym (falls-behind (f x) (map f xs) ∙ unfallen f x x xs (λ k l. rw add-one at (h k x (omega arith))))
 sorted_falls f (x ∷ xs) false (k, l, h) = sym (falls-behind (f x) (map f xs) ∙ fallen f x x xs k (omega arith) (rw add-one at (h x)))
+
+-- ---- "strictly rise": a number beside the next
+
+rising : (x : ℕ) (xs : List ℕ) → ((k : ℕ) → k < length xs → ltb (get_or (x ∷ xs) k 0) (get_or xs k 0) ≡ true) → rises_from (x + 1) xs ≡ true
+rising x [] h = refl
+rising x (y ∷ ys) h = let l : x < y = ltb-true x y (h 0 (omega arith)) in rw (le-leb (x + 1) y (omega arith), rising y ys (λ k l. h (suc k) (omega arith)))
+
+unrisen : (x : ℕ) (xs : List ℕ) (k : ℕ) → k < length xs → ltb (get_or (x ∷ xs) k 0) (get_or xs k 0) ≡ false → rises_from (x + 1) xs ≡ false
+unrisen x [] k l h = absurd (omega arith)
+unrisen x (y ∷ ys) zero l h = let m : y ≤ x = ltb-false x y h in rw (lt-leb (x + 1) y (omega arith))
+unrisen x (y ∷ ys) (suc k) l h = rw (unrisen y ys k (omega arith) h, and-false (leb (x + 1) y))
+
+sorted_rises : (l : List ℕ) (r : Bool) → IsAllAdjacentAnswer (λ x y b. ltb x y ≡ b) l r → r ≡ strictly_rises l
+sorted_rises l r h = go l r h ∙ rises_from_lem l
+  where
+    go : (l : List ℕ) (r : Bool) → IsAllAdjacentAnswer (λ x y b. ltb x y ≡ b) l r → r ≡ rises_from 0 l
+    go [] true h = refl
+    go [] false (k, l, h) = absurd (omega arith)
+    go (x ∷ xs) true h = sym (rw (le-leb 0 x (omega arith), rising x xs (λ k l. rw add-one at (h k 0 (omega arith)))))
+    go (x ∷ xs) false (k, l, h) = sym (rw (le-leb 0 x (omega arith), unrisen x xs k (omega arith) (rw add-one at (h 0))))
+
+-- the answer over the items that were taken, up to one that is not above the one before it
+pub run_rises : {S : Type 0} {steps : S → Option ℕ → S → Type 0} {s : S} {all : List ℕ} (p : Run steps) (r : Bool) → p.from ≡ s
+    → OnTrue r (IsTrue p.whole) → IsAllAdjacentAnswer (λ x y b. ltb x y ≡ b) p.items r → YieldsList steps (λ x. x) s all → r ≡ strictly_rises all
+run_rises {steps = steps} {s = s} {all = all} p r at w h road = go r w h
+  where
+    d : DrainsIf steps (p.whole ≡ true) s p.items
+    d = subst (λ t. DrainsIf steps (p.whole ≡ true) t p.items) at (took p)
+
+    go : (r : Bool) → OnTrue r (IsTrue p.whole) → IsAllAdjacentAnswer (λ x y b. ltb x y ≡ b) p.items r → r ≡ strictly_rises all
+    go true w h = sorted_rises p.items true h ∙ ap strictly_rises (sym (map-id p.items) ∙ items_from_drains p.items (d.0, d.1, λ _. d.2 w) road)
+    go false w (k, l, h) =
+        let front : p.items ≡ take (length p.items) all = sym (map-id p.items) ∙ YieldsList-so_far road p.items d.0 d.1 in
+        let n : length p.items ≤ length all = omega (arith, ap length front, length-take (length p.items) all) in
+        let same : (j e : ℕ) → j < length p.items → get_or p.items j e ≡ get_or all j e = λ j e m. ap (λ (x : List ℕ). get_or x j e) front ∙ get_or-take (length p.items) all j e m in
+        sorted_rises all false (k, omega (arith, l, n), λ e. rw (sym (same k e (omega (arith, l))), sym (same (k + 1) e l)) (h e))

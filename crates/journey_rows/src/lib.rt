@@ -33,13 +33,14 @@ pub fn nidtp_twice(points: &[JourneyPoint]) -> bool
 }
 
 // How many Ends of Journey there are.
+#[tactic(auto, using(crate::proofs::Points::ends_count))]
 pub fn ends(points: &[JourneyPoint]) -> usize
     ensures { result ≡ ends points.now }
 {
     points.iter().filter(|p| p.end).count()
 }
 
-// Where the first stands; how many points there are, where none does.
+// Where the first End of Journey stands; how many points there are, where there is none.
 pub fn ending_of(points: &[JourneyPoint]) -> usize
     ensures { result ≡ ending_of points.now }
 {
@@ -53,19 +54,13 @@ pub fn index_falls(points: &[JourneyPoint]) -> bool
     !points.is_sorted_by(|p, q| p.index <= q.index)
 }
 
-// "12 .. or placed points do not strictly rise". A `for`: of points behind the first that falls, `is_sorted_by` promises nothing.
-#[tactic(auto, using(wire::proofs::ListLaws::rises_from_lem))]
+// "12 .. or placed points do not strictly rise"
 pub fn places_rise(points: &[Point]) -> bool
     ensures { result ≡ strictly_rises (places points.now) }
 {
-    let mut least: u64 = 0;
-    for p in points {
-        if p.placed {
-            if (p.place as u64) < least {
-                return false;
-            }
-            least = p.place as u64 + 1;
-        }
-    }
-    true
+    points
+        .iter()
+        .filter(|p| p.placed)
+        .map(|p| p.place)
+        .is_sorted_by(|a, b| a < b)
 }

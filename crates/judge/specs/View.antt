@@ -9,16 +9,15 @@ use Rattle.call.specs.Effect.{stored}
 use Rattle.event_packets.specs.View.{packets_view}
 use Rattle.event_packets.specs.declared.Status.{Status}
 use Rattle.effects.specs.View.{effect_view}
-use Rattle.effects.specs.declared.Effect.{Effect}
 use Rattle.judge.specs.declared.Judgement.{Judgement}
 
 abbrev pub status_of : Control → Train → OperationalConditions → Status
 status_of c t conditions = record { state = c.state; conditions = conditions; speed = t.position.speed }
 
--- the engine with an effect's values and a judgement's
-abbrev pub engine_after : Engine → Effect → Judgement → Engine
-engine_after e f t = with_control (stored e (effect_view f)) t.control t.traction
+-- the engine with a judgement's values
+abbrev pub engine_after : Engine → Judgement → Engine
+engine_after e t = with_control (stored e (effect_view t.effect)) t.control t.traction
 
--- the step that they stand for
-abbrev pub step_view : Engine → Effect → Judgement → Step
-step_view e f t = record { engine = engine_after e f t; packets = packets_view (engine_after e f t) t.writes }
+-- the step that it stands for
+abbrev pub step_view : Engine → Judgement → Step
+step_view e t = record { engine = engine_after e t; packets = packets_view (engine_after e t) t.writes }

@@ -5,23 +5,24 @@ ghost use Rattle.std.specs.Prelude.{◌≡◌, ◌≤◌, List, ℕ, length, IfO
 ghost use Rattle.wire.specs.View.{judged_by};
 ghost use Rattle.engine_value.specs.declared.Engine as engine;
 ghost use Rattle.packets.specs.Packets.{joined};
-ghost use Rattle.look_up.specs.LookUp.{route_conditions_in};
 ghost use Rattle.call.specs.Call.{status_in, judge};
 ghost use Rattle.event_packets.specs.View.{status_view, packets_view};
 ghost use Rattle.effects.specs.View.{effect_view, Beside};
 ghost use Rattle.judge.specs.View.{status_of, step_view};
 
-use conditions::RouteConditions;
 use effects::Effect;
-use engine_value::{Control, Engine, Traction, Train};
-use event::Event;
+use engine_value::{Control, Traction, Train};
 use event_packets::{Status, Writes};
+use look_up::Occurrence;
+use state_codes::State;
 use status_word::OperationalConditions;
 use wire::Refusal;
 
-// Beside an effect: the control group after the event, what is remembered of the traction requests, what the event writes, and in how many bytes.
+// An effect, and beside it the control group after the event, what is remembered of the traction requests, what the event writes, and in how
+// many bytes.
 #[derive(Clone, Copy)]
-pub struct Judgement {
+pub struct Judgement<'a> {
+    pub effect: Effect<'a>,
     pub control: Control,
     pub traction: Traction,
     pub writes: Writes,
@@ -38,27 +39,29 @@ fn status(control: Control, train: Train, conditions: OperationalConditions) -> 
     }
 }
 
-// State, conditions and speed of an engine, by its conditions 4, 6 and 7.
+// State, conditions and speed before the event.
 #[tactic(auto, unfolding(call::specs::Call::conditions_in, conditions::specs::Conditions::conditions))]
-fn status_in(e: &Engine, c: RouteConditions) -> Status
-    ensures { c ≡ route_conditions_in e.now → status_view result ≡ status_in e.now }
+fn status_in(o: &Occurrence) -> Status
+    ensures { status_view result ≡ status_in o.now.engine.now }
 {
-    let conditions = conditions::conditions_of(e.load, e.inputs.reports, c, e.progress);
+    let e = o.engine;
+    let conditions = conditions::conditions_of(
+        e.load,
+        e.inputs.reports,
+        o.looked.before,
+        e.progress,
+    );
     status(e.control, e.train, conditions)
 }
 
-// The effect of an event on an engine, judged; `before` are conditions 4, 6 and 7 before it, `room` the bytes of the output memory.
-pub fn judge(
-    e: &Engine,
-    v: Event,
-    before: RouteConditions,
-    f: Effect,
-    room: usize,
-) -> Result<Judgement, Refusal>
-    ensures step { (memory : List ℕ) → before ≡ route_conditions_in e.now → room ≡ length memory → Beside e.now f.entry → judged_by (step_view e.now f.entry) result ≡ judge e.now v memory (effect_view f.entry) }
+// The effect of an event, judged; `room` are the bytes of the output memory.
+pub fn judge<'a>(o: &Occurrence, f: &Effect<'a>, room: usize) -> Result<Judgement<'a>, Refusal>
+    ensures step { (memory : List ℕ) → room ≡ length memory → Beside o.now.engine.now f.now → judged_by (step_view o.now.engine.now) result ≡ judge o.now.engine.now o.now.event memory (effect_view f.now) }
     ensures size { IfOk result (λ t. (m : engine.Engine) → t.size ≡ length (joined (packets_view m t.writes))) }
     ensures fits { IfOk result (λ t. t.size ≤ room) }
 {
+    let e = o.engine;
+    let v = o.event;
     let conditions = conditions::conditions_of(
         f.journey.load(e),
         f.inputs.reports,
@@ -72,9 +75,10 @@ pub fn judge(
         f.changes.last.is_some(),
         conditions,
     );
-    let due = event_packets::status_due(status_in(e, before), status(control, f.train, conditions));
-    let state = e.control.state;
-    let traction = traction::traction_after(state, v, control.state, e.traction);
+    let due = event_packets::status_due(status_in(o), status(control, f.train, conditions));
+    let state = State::from(e.control.state);
+    let after = State::from(control.state);
+    let traction = traction::traction_after(state, v, after, e.traction);
     let writes = Writes {
         received: f.received,
         changes: f.changes,
@@ -86,6 +90,7 @@ pub fn judge(
         return Err(Refusal::Output);
     }
     Ok(Judgement {
+        effect: *f,
         control,
         traction,
         writes,

@@ -150,6 +150,15 @@ packed-held w (weighted high ps) v r e h =
     let t = taken-sum high 1 ps v.1 v.0 (and_left (apart high 1 ps) _ r) v-most f in
     (omega arith, λ i. (t.0 i, t.1 i))
 
+values_further : (l : Layout) (k n : ℕ) (s : List ℕ) → values_at l n (drop k s) ≡ values_at l (k + n) s
+unfolding values_at
+values_further [] k n s = refl
+values_further (f ∷ fs) k n s = rw (drop-drop, values_further fs k (n + f.width) s, add_assoc)
+
+-- the values in front of what is behind a position are those from it on
+pub values_from : (l : Layout) (k : ℕ) (s : List ℕ) → values_at l 0 (drop k s) ≡ values_at l k s
+values_from l k s = values_further l k 0 s ∙ ap (λ n. values_at l n s) (add-zero k)
+
 -- ---- what was written is read
 
 pub read-written : (l : Layout) (v : Values l) (k : ℕ) (s rest : List ℕ) → sound l ≡ true → fits l v ≡ true → Typed l v

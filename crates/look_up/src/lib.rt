@@ -11,7 +11,8 @@ use position::{Named, Place, Stop};
 use timing::{PositionReport, Reported};
 
 // Conditions 4, 6 and 7 before the event, the segment that the position after it names, what a position report brings, and the stop that a
-// driver skip names.
+// driver skip names. No enum by kind of event: `report` and `stop` have a value for each, that no point moves and that no stop is named, which
+// is what such an event does, and so the rules read one field each.
 #[derive(Clone, Copy)]
 pub struct LookedUp {
     pub before: RouteConditions,
@@ -20,14 +21,36 @@ pub struct LookedUp {
     pub stop: Option<Stop>,
 }
 
+// An event as it occurs: the engine that it meets, and what it looks up there.
+#[derive(Clone, Copy)]
+pub struct Occurrence<'a> {
+    pub engine: &'a Engine,
+    pub event: Event,
+    pub looked: LookedUp,
+    ghost found: { looked ≡ look_up engine.now event },
+}
+
+impl<'a> Occurrence<'a> {
+    pub fn new(engine: &'a Engine, event: Event) -> Occurrence<'a>
+        ensures engine { result.engine.now ≡ engine.now }
+        ensures event { result.event ≡ event }
+    {
+        Occurrence {
+            engine,
+            event,
+            looked: look_up(engine, event),
+        }
+    }
+}
+
 pub fn look_up(e: &Engine, v: Event) -> LookedUp
     ensures { result ≡ look_up e.now v }
 {
     let before = conditions::route_conditions(Place::new(e.route(), e.train.position), e.progress);
-    let place = Place::new(e.route(), event::position_after(v, e.train.position));
+    let place = Place::new(e.route(), v.position_after(e.train.position));
     let role = v.role();
     let report = match role {
-        Role::Report(_) => {
+        Role::Report => {
             let r = PositionReport {
                 place,
                 length: e.train.length,
@@ -38,7 +61,7 @@ pub fn look_up(e: &Engine, v: Event) -> LookedUp
         _ => timing::no_report(e.progress),
     };
     let stop = match role {
-        Role::Skip { nidtp, on: _ } => position::find_stop(e, nidtp),
+        Role::Skip { nidtp, .. } => position::find_stop(e, nidtp),
         _ => None,
     };
     LookedUp {

@@ -1,4 +1,4 @@
-// What the packet reader answers, as one struct of numbers: an exported function can hand over no enum.
+// What the packet reader answers, as one struct of numbers.
 #![tactic(auto)]
 
 ghost use Rattle.std.specs.Prelude.{◌≡◌, true};
@@ -11,8 +11,8 @@ ghost use Rattle.packet_fields.specs.View.{refused_view, begun_view, packet_fiel
 use packets::{Header, Packet};
 use wire::Refusal;
 
-// A packet that was read: its number as `kind`, its bytes as `size`, and its values. Else the number of the row that refuses.
-// All else is 0.
+// A packet that was read: its number as `kind`, its bytes as `size`, and its values. Else the number of the row that refuses. All else is 0: one
+// struct for both and for each kind, since an exported function can hand over no enum.
 #[repr(C)]
 #[derive(Clone, Copy, Default)]
 pub struct PacketFields {
@@ -61,42 +61,45 @@ fn begun(p: Packet) -> PacketFields
     }
 }
 
-fn packet_fields(p: Packet) -> PacketFields
-    requires { packet_fits p ≡ true }
-    ensures { result ≡ packet_fields_view p }
-{
-    let begun = begun(p);
-    match p {
-        Packet::TimingPoint(x) => PacketFields {
-            nidc: x.nidc,
-            nidtp: x.nidtp,
-            q_eoj_reached: x.q_eoj_reached,
-            alignment: x.alignment,
-            status: x.status,
-            stopping: x.stopping,
-            ..begun
-        },
-        Packet::JpReceived(x) => PacketFields {
-            nidc: x.nidc,
-            atots: x.atots,
-            date: x.date,
-            seconds: x.seconds,
-            counter: x.counter,
-            status: x.status,
-            ..begun
-        },
-        Packet::AtoStatus(x) => PacketFields {
-            state: x.state,
-            conditions: (x.conditions.number() % 65536) as u16,
-            ..begun
-        },
-        Packet::TractionBrake(x) => PacketFields {
-            m_ato_trabrrq: x.requested.m_ato_trabrrq,
-            m_ato_locobrrq: x.requested.m_ato_locobrrq,
-            q_ato_suptb: x.requested.q_ato_suptb,
-            m_ato_rtbrq: x.requested.m_ato_rtbrq,
-            ..begun
-        },
+// Promised of a packet that is in its ranges, as each that was read.
+impl From<Packet> for PacketFields {
+    ghost from_gives = { λ p f. packet_fits p ≡ true → f ≡ packet_fields_view p };
+
+    fn from(p: Packet) -> PacketFields {
+        let begun = begun(p);
+        match p {
+            Packet::TimingPoint(x) => PacketFields {
+                nidc: x.nidc,
+                nidtp: x.nidtp,
+                q_eoj_reached: x.q_eoj_reached,
+                alignment: x.alignment,
+                status: x.status,
+                stopping: x.stopping,
+                ..begun
+            },
+            Packet::JpReceived(x) => PacketFields {
+                nidc: x.nidc,
+                atots: x.atots,
+                date: x.date,
+                seconds: x.seconds,
+                counter: x.counter,
+                status: x.status,
+                ..begun
+            },
+            Packet::AtoStatus(x) => PacketFields {
+                state: x.state,
+                // The remainder alters no conditions that are in their ranges.
+                conditions: (x.conditions.number() % 65536) as u16,
+                ..begun
+            },
+            Packet::TractionBrake(x) => PacketFields {
+                m_ato_trabrrq: x.requested.m_ato_trabrrq,
+                m_ato_locobrrq: x.requested.m_ato_locobrrq,
+                q_ato_suptb: x.requested.q_ato_suptb,
+                m_ato_rtbrq: x.requested.m_ato_rtbrq,
+                ..begun
+            },
+        }
     }
 }
 
@@ -106,7 +109,7 @@ pub fn read_fields(bytes: &[u8]) -> PacketFields
     ensures { result ≡ fields_view (packet_of bytes.now) }
 {
     match packet_reader::read_packet(bytes) {
-        Ok(p) => packet_fields(p),
+        Ok(p) => PacketFields::from(p),
         Err(r) => refused(r),
     }
 }

@@ -1,4 +1,4 @@
-// The reader of one packet.
+// The reader of one packet. Places in a packet are numbers, as one counts them in a dump: the contracts have them by the layouts.
 #![tactic(auto)]
 
 ghost use Rattle.std.specs.Prelude.{◌≡◌};
@@ -77,12 +77,7 @@ pub fn get_traction_brake(s: &[u8]) -> TractionBrake
 {
     TractionBrake {
         header: get_header(s),
-        requested: Requested {
-            m_ato_trabrrq: u8::get(s, 17),
-            m_ato_locobrrq: u8::get(s, 18),
-            q_ato_suptb: u8::get(s, 19),
-            m_ato_rtbrq: u16::get(s, 20),
-        },
+        requested: Requested::get(s, 17),
     }
 }
 

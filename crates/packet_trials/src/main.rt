@@ -120,7 +120,8 @@ fn try_packet<R: Print>(
     }
 }
 
-// Reads until the slice is full or the input ends, and answers how many bytes there are: `read_exact` does not tell how far it came.
+// Reads until the slice is full or the input ends, and answers how many bytes there are: to `read_exact` an input that ends is a failure, and here it is
+// none.
 fn read_full<I: Read>(from: &mut I, s: &mut [u8]) -> io::Result<usize>
     ensures { IfOk result (λ n. n ≤ length s.new) }
 {
@@ -135,7 +136,8 @@ fn read_full<I: Read>(from: &mut I, s: &mut [u8]) -> io::Result<usize>
     Ok(done)
 }
 
-// What is tried, the position and the sizes are in the head.
+// What is tried, the position and the sizes are in the head. The three memories are the caller's, and each is used by itself: a struct would only
+// name them again.
 fn try_next<R: Print, I: Read>(
     rt: &R,
     from: &mut I,
@@ -157,11 +159,11 @@ fn try_next<R: Print, I: Read>(
     println!(rt; "")
 }
 
-// Nothing proves that the input ends, so the trials are counted to a number that no run reaches.
 fn run<R: Print, I: Read>(rt: &R, from: &mut I) -> io::Result<()> {
     let mut name = [0u8; 255];
     let mut packet = [0u8; 255];
     let mut memory = [0u8; 255];
+    // Nothing proves that an input ends, which a `while` would need: this counts to a number that no run reaches.
     for _ in 0..u64::MAX {
         let mut head = [0u8; 5];
         if read_full(from, &mut head)? < 5 {

@@ -1,2 +1,1 @@
 pub mod WriterLaws
-pub mod Stores

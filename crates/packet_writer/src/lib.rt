@@ -1,4 +1,4 @@
-// The writer of one packet.
+// The writer of one packet. Places are numbers, as in the reader.
 #![tactic(auto)]
 
 ghost use Rattle.std.specs.Prelude.{◌≡◌, [], ◌∷◌, ◌++◌, ◌+◌, ◌%◌, take, drop};
@@ -76,8 +76,8 @@ fn put_requested(r: Requested, out: &mut [u8])
     r.m_ato_rtbrq.put(out, 20);
 }
 
-// A packet at the front.
-fn put_front(p: Packet, out: &mut [u8])
+// The packet's bytes at the front, whatever its values; stores past the end store nothing. For a caller that has counted the bytes.
+pub fn put_packet(p: Packet, out: &mut [u8])
     ensures { out.new ≡ sets out.old 0 (packet_bytes p) }
 {
     put_header(p.kind(), p.header(), out);
@@ -89,34 +89,29 @@ fn put_front(p: Packet, out: &mut [u8])
     }
 }
 
-// The packet's bytes from a position on, whatever its values; stores past the end store nothing. For a caller that has counted the bytes.
-pub fn put_packet(p: Packet, out: &mut [u8], at: usize)
-    ensures { out.new ≡ sets out.old at (packet_bytes p) }
-{
-    let start = at.min(out.len());
-    put_front(p, &mut out[start..]);
-}
-
-// The packet from a position on; the bytes before it and behind it stay.
-pub fn append_packet(p: Packet, out: &mut [u8], at: usize) -> Result<usize, Refusal>
-    ensures count { judged result ≡ written_count p (drop at out.old) }
-    ensures memory { out.new ≡ take at out.old ++ written_memory p (drop at out.old) }
+// The packet at the front of the memory; the bytes behind it stay.
+#[tactic(auto, using(crate::proofs::WriterLaws::stored_front), unfolding(packets::specs::Packets::written_count, packets::specs::Packets::written_memory))]
+pub fn write_packet(p: Packet, out: &mut [u8]) -> Result<usize, Refusal>
+    ensures count { judged result ≡ written_count p out.old }
+    ensures memory { out.new ≡ written_memory p out.old }
 {
     let size = p.size();
     if !p.fits() {
         return Err(Refusal::PacketRange);
     }
-    if out.len().saturating_sub(at) < size {
+    if out.len() < size {
         return Err(Refusal::Output);
     }
-    put_packet(p, out, at);
+    put_packet(p, out);
     Ok(size)
 }
 
-// The packet at the front of the memory; the bytes behind it stay.
-pub fn write_packet(p: Packet, out: &mut [u8]) -> Result<usize, Refusal>
-    ensures count { judged result ≡ written_count p out.old }
-    ensures memory { out.new ≡ written_memory p out.old }
+// The packet from a position on; the bytes before it stay, too. Memory and position each by itself, as its callers have them: it is public.
+pub fn append_packet(p: Packet, out: &mut [u8], at: usize) -> Result<usize, Refusal>
+    ensures count { judged result ≡ written_count p (drop at out.old) }
+    ensures memory { out.new ≡ take at out.old ++ written_memory p (drop at out.old) }
 {
-    append_packet(p, out, 0)
+    let start = at.min(out.len());
+    let (_, rest) = out.split_at_mut(start);
+    write_packet(p, rest)
 }

@@ -23,13 +23,6 @@ front-some l h = go (eqb (size_at l) 0) refl
     go true e = h
     go false e = let z : size_at l ≡ 0 → ⊥ = eqb-false _ _ e in omega arith
 
-pub front-most : (l : List ℕ) → front_size l ≤ length l
-front-most l = go (eqb (size_at l) 0)
-  where
-    go : (b : Bool) → (if b then length l else min (size_at l) (length l)) ≤ length l
-    go true = omega arith
-    go false = omega arith
-
 -- ---- the first piece and the rest
 
 -- any count of pieces that is large enough gives the same

@@ -1,15 +1,20 @@
 -- Laws of the packets' bytes and sizes, and of the writer.
-use Prim.Native.Nat.{ℕ, ◌+◌, ◌<◌, ◌≤◌}
+use Prim.Native.Nat.{ℕ, ◌+◌, ◌≤◌}
 use mathlib.Core.Path.{◌≡◌, refl, ap, ◌∙◌}
 use mathlib.Core.List.{List, [], ◌∷◌, ◌++◌, append_assoc, append-nil}
-use mathlib.Core.Bool.{true, false}
+use mathlib.Core.Bool.{true}
 use lib.ListN.{length, drop, length-append}
-use borrow.Author.Tests.{lt-ltb, le-ltb}
+use borrow.Author.Tests.{le-ltb}
 use native.Mathlib.Omega.{arith}
-use Rattle.wire.specs.Judged.Judged.{refuse, accept}
-use Rattle.layout.specs.Layout.{bytes}
-use Rattle.layout.proofs.LayoutLaws.{length-bytes}
-use Rattle.packets.specs.Layouts.{header_layout, kind_size}
+use Rattle.std.specs.Borrow.{Bor}
+use Rattle.std.specs.Prelude.{Option}
+use Rattle.std.specs.Option.{UnwrapsOrElse}
+use Rattle.std.specs.Slice.{IsGetRangeResult}
+use Rattle.wire.specs.Judged.Judged.{accept}
+use Rattle.wire.proofs.NumberLaws.{rest_from}
+use Rattle.layout.specs.Layout.{bytes, values_at}
+use Rattle.layout.proofs.LayoutLaws.{length-bytes, values_from}
+use Rattle.packets.specs.Layouts.{header_layout, kind_size, content61, requested_of}
 use Rattle.packets.specs.View.{PacketValues, packet_view}
 use Rattle.packets.specs.Packets.{value_bytes, packet_bytes, joined, size_of, packet_fits, written_count, written_memory}
 use Rattle.packets.specs.declared.Packet.{Packet}
@@ -37,18 +42,15 @@ length-joined ps qs = ap length (joined-append ps qs) ∙ length-append (joined 
 pub length-one : (p : Packet) (n : ℕ) → size_of p ≡ n → length (joined (p ∷ [])) ≡ n
 length-one p n e = ap length (append-nil (packet_bytes p)) ∙ length-packet_bytes p ∙ e
 
--- ---- the writer by case
+-- ---- the writer where it writes
 
-module _ (p : Packet) (memory : List ℕ) where
-  pub written_19 : packet_fits p ≡ false → (written_count p memory ≡ refuse 19) × (written_memory p memory ≡ memory)
-  unfolding written_count written_memory
-  written_19 e = (rw e, rw e)
+pub written_all : (p : Packet) (memory : List ℕ) → packet_fits p ≡ true → size_of p ≤ length memory
+    → (written_count p memory ≡ accept (size_of p)) × (written_memory p memory ≡ packet_bytes p ++ drop (size_of p) memory)
+unfolding written_count written_memory
+written_all p memory e h = (rw (e, le-ltb _ _ h), rw (e, le-ltb _ _ h))
 
-  pub written_16 : packet_fits p ≡ true → length memory < size_of p → (written_count p memory ≡ refuse 16) × (written_memory p memory ≡ memory)
-  unfolding written_count written_memory
-  written_16 e h = (rw (e, lt-ltb _ _ h), rw (e, lt-ltb _ _ h))
+-- ---- the content of packet 61 at a position
 
-  pub written_all : packet_fits p ≡ true → size_of p ≤ length memory
-      → (written_count p memory ≡ accept (size_of p)) × (written_memory p memory ≡ packet_bytes p ++ drop (size_of p) memory)
-  unfolding written_count written_memory
-  written_all e h = (rw (e, le-ltb _ _ h), rw (e, le-ltb _ _ h))
+pub requested_from : (at : ℕ) (s : List ℕ) (r : Option (Bor (List ℕ))) (rest : Bor (List ℕ)) → IsGetRangeResult s at (length s) r → UnwrapsOrElse r (λ x. x.now ≡ []) rest
+    → requested_of (values_at content61 0 rest.now) ≡ requested_of (values_at content61 at s)
+requested_from at s r rest h e = rw (rest_from s at r rest h e) (ap requested_of (values_from content61 at s))

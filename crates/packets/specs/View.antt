@@ -1,4 +1,5 @@
 -- The values that a packet's struct stands for.
+use Rattle.std.specs.Prelude.{ℕ}
 use Rattle.layout.specs.Layout.{Values, in_parts}
 use Rattle.status_word.specs.Word.{condition_parts}
 use Rattle.status_word.specs.View.{conditions_view}
@@ -6,6 +7,8 @@ use Rattle.packets.specs.Layouts.{PacketKind, header_layout, content62, content6
 use Rattle.packets.specs.declared.PacketKind as code
 use Rattle.packets.specs.declared.Header.{Header}
 use Rattle.packets.specs.declared.TimingPoint.{TimingPoint}
+use Rattle.packets.specs.declared.PointStatus.{PointStatus}
+use Rattle.packets.specs.declared.PointStatus.TheVariants.{Passed, Stopped, Departed, Skipped, Revoked}
 use Rattle.packets.specs.declared.JpReceived.{JpReceived}
 use Rattle.packets.specs.declared.AtoStatus.{AtoStatus}
 use Rattle.packets.specs.declared.Requested.{Requested}
@@ -16,6 +19,14 @@ header_view h = (h.nidc, (h.nidsp, (h.offset, (h.speed, (h.operational, tt)))))
 
 abbrev pub timing_point_view : TimingPoint → Values content62
 timing_point_view p = (p.nidc, (p.nidtp, ((p.q_eoj_reached, (p.alignment, (p.status, tt))), (p.stopping, tt))))
+
+-- "status (0 passed, 1 stopped, 2 departed, 5 driver skip, 6 skip revoked)"
+abbrev pub status_number : PointStatus → ℕ
+status_number Passed = 0
+status_number Stopped = 1
+status_number Departed = 2
+status_number Skipped = 5
+status_number Revoked = 6
 
 abbrev pub jp_received_view : JpReceived → Values content65
 jp_received_view p = (p.nidc, (p.atots, (p.date, (p.seconds, (p.counter, (p.status, tt))))))

@@ -5,9 +5,12 @@ ghost use Rattle.std.specs.Prelude.{◌≡◌, ◌&&◌};
 ghost use Rattle.packets.specs.Packets.{front_size};
 
 use status_word::OperationalConditions;
-use wire::Refusal;
+use wire::{Number, Refusal};
 
-// SUBSET-140, Table 3.
+// Statuses, alignments, Q_EOJ_REACHED, states and conditions stand in the packets as bytes: a packet has whatever its reader found or its writer was given, and `fits` looks at
+// the ranges afterwards.
+
+// SUBSET-140, Table 3. NID_C and NID_SP each by itself, as in the C interface.
 #[repr(C)]
 #[derive(Clone, Copy, Default)]
 pub struct Header {
@@ -29,6 +32,26 @@ pub struct TimingPoint {
     pub alignment: u8,
     pub status: u8,
     pub stopping: u8,
+}
+
+// The statuses of a packet 62 that the unit writes.
+#[derive(Clone, Copy, PartialEq, Eq)]
+pub enum PointStatus {
+    Passed = 0,
+    Stopped = 1,
+    Departed = 2,
+    Skipped = 5,
+    Revoked = 6,
+}
+
+impl From<PointStatus> for u8 {
+    ghost use Rattle.packets.specs.View.{status_number};
+
+    ghost from_gives = { λ s n. n ≡ status_number s };
+
+    fn from(s: PointStatus) -> u8 {
+        s as u8
+    }
 }
 
 // Packet 65: SUBSET-140, Table 8.
@@ -63,6 +86,25 @@ pub struct Requested {
     pub m_ato_rtbrq: u16,
 }
 
+impl Requested {
+    ghost use Rattle.layout.specs.Layout.{values_at};
+    ghost use Rattle.packets.specs.Layouts.{content61, requested_of};
+
+    // The content at a position; bytes past the end count as 0.
+    #[tactic(auto, using(crate::proofs::PacketLaws::requested_from), unfolding(layout::specs::Layout::values_at))]
+    pub fn get(s: &[u8], at: usize) -> Requested
+        ensures { result ≡ requested_of (values_at content61 at s.now) }
+    {
+        let content = s.get(at..).unwrap_or_default();
+        Requested {
+            m_ato_trabrrq: u8::get(content, 0),
+            m_ato_locobrrq: u8::get(content, 1),
+            q_ato_suptb: u8::get(content, 2),
+            m_ato_rtbrq: u16::get(content, 3),
+        }
+    }
+}
+
 // Packet 61, Traction_Brake_Pneumatic_Brake_Requested.
 #[repr(C)]
 #[derive(Clone, Copy)]
@@ -79,7 +121,7 @@ pub enum Packet {
     TractionBrake(TractionBrake),
 }
 
-// The kinds of packets by their numbers.
+// The kinds of packets by their numbers. An enum beside `Packet`: the number is known before the values are read.
 #[derive(Clone, Copy)]
 pub enum PacketKind {
     TractionBrake = 61,
@@ -123,7 +165,7 @@ impl PacketKind {
     ghost use Rattle.packets.specs.Layouts.{kind_size};
     ghost use Rattle.packets.specs.View.{kind_view};
 
-    // The bytes of a packet.
+    // The bytes of a packet, as the papers count them: "for 62, 65, 68 .. 25, 29, 19 bytes", "packet 61 has 22 bytes".
     pub fn size(self) -> usize
         ensures { result ≡ kind_size (kind_view self) }
     {
@@ -139,24 +181,23 @@ impl PacketKind {
 // NID_C in the content of 65 where the position is not known.
 pub const UNKNOWN_NIDC: u16 = 1024;
 
-// The highest values of the fields that are not free.
-const NIDC_MAX: u16 = 1023;
+// The highest values of the packets' fields that are not free (document 01). Engine and journey have equal limits of their own, as layouts of their
+// own: packets depends on neither.
+const MAX_NIDC: u16 = 1023;
 
-const OFFSET_MAX: u32 = 16777215;
+const MAX_OFFSET: u32 = 16777215;
 
-const ALIGNMENT_MAX: u8 = 2;
+const MAX_ALIGNMENT: u8 = 2;
 
-const STATUS_MAX: u8 = 8;
+const MAX_STATUS: u8 = 8;
 
-const STATUS_STOPPED: u8 = 1;
+const MAX_STOPPING: u8 = 127;
 
-const STOPPING_MAX: u8 = 127;
+const MAX_ATOTS: u16 = 16384;
 
-const ATOTS_MAX: u16 = 16384;
+const MAX_DATE: u16 = 32767;
 
-const DATE_MAX: u16 = 32767;
-
-const STATE_MAX: u8 = 7;
+const MAX_STATE: u8 = 7;
 
 impl Header {
     ghost use Rattle.layout.specs.Layout.{fits};
@@ -166,7 +207,7 @@ impl Header {
     fn fits(self) -> bool
         ensures { result ≡ fits header_layout (header_view self) }
     {
-        self.nidc <= NIDC_MAX && self.offset <= OFFSET_MAX
+        self.nidc <= MAX_NIDC && self.offset <= MAX_OFFSET
     }
 }
 
@@ -178,12 +219,12 @@ impl TimingPoint {
     fn content_fits(self) -> bool
         ensures { result ≡ (fits content62 (timing_point_view self) && stopping_allowed (timing_point_view self)) }
     {
-        self.nidc <= NIDC_MAX
+        self.nidc <= MAX_NIDC
             && self.q_eoj_reached <= 1
-            && self.alignment <= ALIGNMENT_MAX
-            && self.status <= STATUS_MAX
-            && self.stopping <= STOPPING_MAX
-            && (self.status == STATUS_STOPPED || self.stopping == 0)
+            && self.alignment <= MAX_ALIGNMENT
+            && self.status <= MAX_STATUS
+            && self.stopping <= MAX_STOPPING
+            && (self.status == u8::from(PointStatus::Stopped) || self.stopping == 0)
     }
 }
 
@@ -196,8 +237,8 @@ impl JpReceived {
         ensures { result ≡ fits content65 (jp_received_view self) }
     {
         self.nidc <= UNKNOWN_NIDC
-            && self.atots <= ATOTS_MAX
-            && self.date <= DATE_MAX
+            && self.atots <= MAX_ATOTS
+            && self.date <= MAX_DATE
             && self.status == 0
     }
 }
@@ -210,8 +251,9 @@ impl AtoStatus {
     fn content_fits(self) -> bool
         ensures { result ≡ fits content68 (ato_status_view self) }
     {
+        // One by one by name, as at `OperationalConditions::word`: an array of the nine would only add its indices.
         let c = self.conditions;
-        self.state <= STATE_MAX
+        self.state <= MAX_STATE
             && c.etcs_fulfilled <= 1
             && c.no_emergency_brake <= 1
             && c.end_ahead <= 1

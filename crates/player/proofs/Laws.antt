@@ -9,7 +9,7 @@ use Rattle.fields.specs.Parse.Parse.{bad, good}
 use Rattle.engine_value.specs.declared.Engine.{Engine}
 use Rattle.call.specs.Call.{step_of}
 use Rattle.player_text.specs.Calls.{Given, call}
-use Rattle.player_text.proofs.Laws.{call-behind, call-shorter}
+use Rattle.player_text.proofs.Laws.{call-behind, call_shorter}
 use Rattle.player_step.specs.View.{lent}
 use Rattle.player.specs.Played.{left, run}
 
@@ -22,8 +22,8 @@ run_end (suc k) e m l h = rw h
 pub run-next : (k : ℕ) (e : Engine) (m l : List ℕ) (g : Given) (r : List ℕ) → call l ≡ good g r → length l ≤ k
     → (j : ℕ) × (length r ≤ j) × (run j (step_of e (lent g m)).engine (step_of e (lent g m)).memory r ≡ run k e m l)
 unfolding run
-run-next zero e m l g r h f = absurd (omega (arith, call-shorter l g r h))
-run-next (suc k) e m l g r h f = (k, omega (arith, call-shorter l g r h), rw h)
+run-next zero e m l g r h f = absurd (omega (arith, call_shorter l g r h))
+run-next (suc k) e m l g r h f = (k, omega (arith, call_shorter l g r h), rw h)
 
 -- what is left of the input is its end
 pub end-next : (s l : List ℕ) (g : Given) (r : List ℕ) → drop (length s - length l) s ≡ l → call l ≡ good g r → drop (length s - length r) s ≡ r

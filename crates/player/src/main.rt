@@ -10,8 +10,8 @@ ghost use Rattle.player.specs.Played.{run as Played·run};
 use arrayvec::ArrayVec;
 use engine_value::Engine;
 use player_text::{calls, lines};
-use std::io;
 use std::io::{Read, Write};
+use std::{fmt, io};
 
 // An event with its profiles has 196,611 bytes at most (`call-there` of player_text/proofs/Room.antt), so that there is always room to read on.
 const INPUT: usize = 262144;
@@ -22,23 +22,33 @@ const CHUNK: usize = 65536;
 // "It lends 4,096 output bytes"
 const MEMORY: usize = 4096;
 
-// The lines of some events.
+// The lines of four events at least.
 const TEXT: usize = 65536;
 
 // What failed.
+#[derive(Drop)]
 enum Failed {
     Reading(io::Error),
     Writing(io::Error),
 }
 
+impl fmt::Display for Failed {
+    fn fmt<W: fmt::Write>(&self, f: &mut fmt::Formatter<W>) -> fmt::Result {
+        match self {
+            Failed::Reading(e) => write!(f, "standard input: {e}"),
+            Failed::Writing(e) => write!(f, "standard output: {e}"),
+        }
+    }
+}
+
 // The lines that are still to be written out, and how writing went so far.
 #[derive(Drop)]
-struct Output<const N: usize> {
-    text: ArrayVec<u8, N>,
+struct Output {
+    text: ArrayVec<u8, TEXT>,
     written: io::Result<()>,
 }
 
-impl<const N: usize> Output<N> {
+impl Output {
     // The text is written out. After a write that failed nothing more is written: no line stands behind one that is missing.
     fn flush<R: Print>(&mut self, rt: &R)
         ensures { self.new.text.items ≡ [] }
@@ -51,7 +61,7 @@ impl<const N: usize> Output<N> {
 
     // The lines of an event fit behind the text, or else it is written out first.
     fn make_room<R: Print>(&mut self, rt: &R)
-        ensures { most_lines ≤ N → length self.new.text.items + most_lines ≤ N }
+        ensures { length self.new.text.items + most_lines ≤ 65536 }
     {
         if self.text.remaining_capacity() < lines::MOST_LINES {
             self.flush(rt);
@@ -61,14 +71,15 @@ impl<const N: usize> Output<N> {
 
 // Engine, output memory and output.
 #[derive(Drop)]
-struct Player<const N: usize> {
+struct Player {
     engine: Engine,
     memory: [u8; MEMORY],
-    out: Output<N>,
+    out: Output,
 }
 
-impl<const N: usize> Player<N> {
+impl Player {
     // Plays each event in s that is not cut short, and gives what is behind them.
+    #[tactic(auto, using(player_text::proofs::Laws::call_shorter, crate::proofs::Laws::run_end))]
     fn play_whole<'a, R: Print>(&mut self, rt: &R, s: &'a [u8]) -> &'a [u8]
         ensures left { left self.new.engine self.new.memory result.now ≡ Played·run (length s.now) self.old.engine self.old.memory s.now }
         ensures end { drop (length s.now - length result.now) s.now ≡ result.now }
@@ -83,11 +94,7 @@ impl<const N: usize> Player<N> {
     }
 
     // Plays each event of the input that is whole, writes their lines out, and keeps what is behind them.
-    fn play_input<R: Print, const M: usize>(
-        &mut self,
-        rt: &R,
-        input: &mut ArrayVec<u8, M>,
-    ) -> io::Result<()>
+    fn play_input<R: Print>(&mut self, rt: &R, input: &mut ArrayVec<u8, INPUT>) -> io::Result<()>
         ensures { left self.new.engine self.new.memory input.new.items
             ≡ Played·run (length input.old.items) self.old.engine self.old.memory input.old.items }
     {
@@ -100,10 +107,7 @@ impl<const N: usize> Player<N> {
 }
 
 // Reads on behind the bytes that are kept, and answers how many more there are.
-fn read_more<I: Read, const N: usize>(
-    from: &mut I,
-    input: &mut ArrayVec<u8, N>,
-) -> io::Result<usize>
+fn read_more<I: Read>(from: &mut I, input: &mut ArrayVec<u8, INPUT>) -> io::Result<usize>
     ensures { take (length input.old.items) input.new.items ≡ input.old.items }
 {
     let mut chunk = [0; CHUNK];
@@ -113,8 +117,8 @@ fn read_more<I: Read, const N: usize>(
 }
 
 fn run<R: Print, I: Read>(rt: &R, from: &mut I) -> Result<(), Failed> {
-    let mut input = ArrayVec::<u8, INPUT>::new();
-    let mut player = Player::<TEXT> {
+    let mut input = ArrayVec::new();
+    let mut player = Player {
         engine: engine_value::fresh(),
         memory: [0; MEMORY],
         out: Output {
@@ -122,7 +126,7 @@ fn run<R: Print, I: Read>(rt: &R, from: &mut I) -> Result<(), Failed> {
             written: Ok(()),
         },
     };
-    // Nothing proves that the input ends; no run uses up so many turns.
+    // Nothing proves that an input ends, which a `while` would need: this counts to a number that no run reaches.
     for _ in 0..u64::MAX {
         if read_more(from, &mut input).map_err(Failed::Reading)? == 0 {
             break;
@@ -133,9 +137,7 @@ fn run<R: Print, I: Read>(rt: &R, from: &mut I) -> Result<(), Failed> {
 }
 
 fn main(rt: HostRuntime) {
-    let _ = match run(&rt, &mut rt.stdin()) {
-        Ok(()) => Ok(()),
-        Err(Failed::Reading(e)) => eprintln!(&rt; "player: standard input: {e}"),
-        Err(Failed::Writing(e)) => eprintln!(&rt; "player: standard output: {e}"),
-    };
+    if let Err(e) = run(&rt, &mut rt.stdin()) {
+        let _ = eprintln!(&rt; "player: {e}");
+    }
 }

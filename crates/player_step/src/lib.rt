@@ -11,7 +11,7 @@ use engine_value::Engine;
 use player_text::calls::Call;
 use player_text::lines;
 
-// One event: the engine after it, and its lines behind the text.
+// One event: the engine after it, and its lines behind the text, of any size as `put_answer` takes it.
 pub fn play<const N: usize>(e: &mut Engine, c: Call, memory: &mut [u8], text: &mut ArrayVec<u8, N>)
     ensures engine { e.new ≡ (played e.old c.entry memory.old).engine }
     ensures output { memory.new ≡ (played e.old c.entry memory.old).memory }

@@ -82,8 +82,8 @@ call-behind l g r e =
     let b = behind-then p q in
     (m + n, omega arith, b.there, b.rest)
 
-pub call-shorter : (l : List ℕ) (g : Given) (r : List ℕ) → call l ≡ good g r → length r < length l
-call-shorter l g r e =
+pub call_shorter : (l : List ℕ) (g : Given) (r : List ℕ) → call l ≡ good g r → length r < length l
+call_shorter l g r e =
     let (n, h, there, rest) = call-behind l g r e in
     let f = rw length-drop at (ap length rest) in
     omega (arith, h, there, f)

@@ -9,7 +9,7 @@ use fields::read_field;
 use wire::Number;
 
 // An event and its profiles.
-#[derive(Clone, Copy)]
+#[derive(Clone, Copy, Default)]
 pub struct Call<'a> {
     pub event: &'a [u8],
     pub journey: &'a [u8],
@@ -31,20 +31,19 @@ pub fn read_call(s: &[u8]) -> Option<(Call<'_>, &[u8])>
     ensures { parsed_by given_view result ≡ call s.now }
 {
     let (event, s) = read_block(s)?;
+    let call = Call {
+        event,
+        ..Call::default()
+    };
     if u8::get(event, 0) != u8::from(EventKind::Load) {
-        let call = Call {
-            event,
-            journey: &[],
-            book: &[],
-        };
         return Some((call, s));
     }
     let (journey, s) = read_block(s)?;
     let (book, s) = read_block(s)?;
     let call = Call {
-        event,
         journey,
         book,
+        ..call
     };
     Some((call, s))
 }

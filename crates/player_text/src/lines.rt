@@ -1,5 +1,5 @@
-// The lines of an answer, behind a text as far as it has room. They are put by hand: `write!` promises its text only where it answers Ok, and
-// not when it does; the kit's hex is in lowercase, or on the heap.
+// The lines of an answer, behind a text as far as it has room, whatever its size N: one size would ask more of who calls `put_answer`. They are put
+// by hand, since `write!` promises its text only where it answers Ok, and nothing says when that is.
 ghost use Rattle.std.specs.Prelude.{◌≡◌};
 ghost use Rattle.wire.specs.View.{judged};
 ghost use Rattle.wire.specs.Refusals.{number_of};
@@ -23,7 +23,7 @@ fn put<const N: usize>(text: &mut ArrayVec<u8, N>, s: &[u8])
     let _ = text.write(s);
 }
 
-// The last digit of n, in uppercase hexadecimal.
+// The last digit of n, in uppercase hexadecimal, which the kit's hex gives only on the heap.
 fn digit(n: u8) -> u8
     ensures { result ≡ Lines·digit n }
 {

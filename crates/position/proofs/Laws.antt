@@ -21,9 +21,6 @@ stop_below j t k e = omega (arith, (position-Some (is_stop t) _ k blank_point e)
 
 -- ---- standings of a progress
 
-zero_one : ◌≡◌ {A = ℕ} 0 1 → ⊥
-zero_one e = omega arith
-
 pub standing_passed : (p : Progress) (k : ℕ) → k < p.next → standing p k ≡ Passed
 standing_passed p k h = rw (lt-ltb k p.next h)
 
@@ -43,7 +40,7 @@ pub reached-only : (p : Progress) (k : ℕ) → standing p k ≡ Reached → (k 
 reached-only p k e = go _ refl _ refl _ refl
   where
     go : (a : Bool) → ltb k p.next ≡ a → (b : Bool) → eqb k p.next ≡ b → (c : Bool) → p.reached ≡ c → (k ≡ p.next) × (p.reached ≡ true)
-    go true x b y c z = absurd (zero_one (cc))
-    go false x false y c z = absurd (zero_one (cc))
-    go false x true y false z = absurd (zero_one (cc))
+    go true x b y c z = absurd (cc)
+    go false x false y c z = absurd (cc)
+    go false x true y false z = absurd (cc)
     go false x true y true z = (eqb-true k p.next y, z)

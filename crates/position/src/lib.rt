@@ -5,16 +5,17 @@ ghost use Rattle.std.specs.Prelude.{◌≡◌, ◌<◌, ◌^◌, option_map, IfS
 ghost use Rattle.engine_value.specs.Engine.{max_points};
 ghost use Rattle.engine_value.specs.View.{route_view};
 ghost use Rattle.wire.specs.Lists.{any};
-ghost use Rattle.position.specs.Position.{points_loaded, point, in_zone, zones_of, bears, named, segment_named, front_at};
-ghost use Rattle.position.specs.Standing.{standing, standing_code};
+ghost use Rattle.position.specs.Position.{points_loaded, point, in_zone, zones_of, bears, named, segment_named, front, front_at};
+ghost use Rattle.position.specs.Standing.{standing, is_passed, behind, standing_code};
 ghost use Rattle.position.specs.Skips.{stop_named, stop_in};
 
 use engine_value::{
     Engine, Load, MAX_POINTS, Point, Position, Progress, Route, Segment, UNDEFINED, Zone,
 };
+use std::cmp::Ordering;
 
 // The journey segment that a position names: whether it is in the book and placed, whether the offset is in one of its zones, its start and its
-// length, with the flags as the engine's Segment has them (C layout).
+// length. The flags apart, as in the engine's Segment: the equations hold of every engine, so also where `placed` stands and `booked` does not.
 #[derive(Clone, Copy)]
 pub struct Named {
     pub booked: bool,
@@ -56,6 +57,21 @@ pub enum Standing {
     Passed = 3,
 }
 
+impl Standing {
+    pub fn is_passed(self) -> bool
+        ensures { result ≡ is_passed self }
+    {
+        matches!(self, Standing::Passed)
+    }
+
+    // Reached or passed.
+    pub fn is_behind(self) -> bool
+        ensures { result ≡ behind self }
+    {
+        matches!(self, Standing::Reached | Standing::Passed)
+    }
+}
+
 impl From<Standing> for u8 {
     ghost from_gives = { λ s n. n ≡ standing_code s };
 
@@ -65,6 +81,8 @@ impl From<Standing> for u8 {
 }
 
 // ---- where the train is
+
+// Functions and no methods: Load, Route and Engine are engine_value's, whose specs/ do not have these definitions.
 
 // How many points the journey has, whatever its count says: the array holds 64.
 pub fn points_loaded(l: Load) -> u8
@@ -76,7 +94,7 @@ pub fn points_loaded(l: Load) -> u8
 fn in_zone(z: &Zone, offset: u32) -> bool
     ensures { result ≡ in_zone offset z.now }
 {
-    z.start <= offset && offset <= z.end
+    (z.start..=z.end).contains(&offset)
 }
 
 fn in_zones(s: &Segment, offset: u32) -> bool
@@ -101,10 +119,11 @@ fn named_of(s: &Segment, offset: u32) -> Named
     }
 }
 
+// NID_C and NID_SP stand apart in both: a struct of the two would have padding in the engine (C layout).
 fn bears(s: &Segment, x: Position) -> bool
     ensures { result ≡ bears x.nidc x.nidsp s.now }
 {
-    s.nidc == x.nidc && s.nidsp == x.nidsp
+    (s.nidc, s.nidsp) == (x.nidc, x.nidsp)
 }
 
 // Point k of the journey; blank beyond the last of the array.
@@ -112,10 +131,7 @@ pub fn point(j: Route, k: u8) -> Point
     ensures { result ≡ point (route_view j.entry) k }
 {
     let points = j.points;
-    points
-        .get(k as usize)
-        .copied()
-        .unwrap_or(engine_value::blank_point())
+    points.get(k as usize).copied().unwrap_or_default()
 }
 
 // The journey segment that a position names.
@@ -128,6 +144,20 @@ pub fn segment_named(j: Route, x: Position) -> Option<Named>
         .take(j.load.segment_count as usize)
         .find(|s| bears(s, x))
         .map(|s| named_of(s, x.offset))
+}
+
+// Where the front is, if the position is known: by the segment that it names.
+#[tactic(auto, unfolding(crate::specs::Position::front))]
+pub fn front_in(s: Option<Named>, x: Position) -> Option<Front>
+    ensures { option_map (λ f. f.at) result ≡ front s x }
+{
+    let s = s?;
+    if x.offset == UNDEFINED || !s.placed || s.length < x.offset {
+        return None;
+    }
+    Some(Front {
+        at: s.start as u64 + x.offset as u64,
+    })
 }
 
 impl<'a> Place<'a> {
@@ -143,18 +173,10 @@ impl<'a> Place<'a> {
     }
 
     // Where the front is, if the position is known.
-    #[tactic(auto, unfolding(crate::specs::Position::front))]
     pub fn front(self) -> Option<Front>
         ensures { option_map (λ f. f.at) result ≡ front_at (route_view self.entry.journey) self.entry.position }
     {
-        let s = self.segment?;
-        let offset = self.position.offset;
-        if offset == UNDEFINED || !s.placed || s.length < offset {
-            return None;
-        }
-        Some(Front {
-            at: s.start as u64 + offset as u64,
-        })
+        front_in(self.segment, self.position)
     }
 }
 
@@ -189,13 +211,10 @@ pub fn find_stop(e: &Engine, nidtp: u32) -> Option<Stop>
 pub fn standing_of(p: Progress, k: u8) -> Standing
     ensures { result ≡ standing p k }
 {
-    if k < p.next {
-        Standing::Passed
-    } else if p.next < k {
-        Standing::Unused
-    } else if p.reached {
-        Standing::Reached
-    } else {
-        Standing::Targeted
+    match k.cmp(&p.next) {
+        Ordering::Less => Standing::Passed,
+        Ordering::Equal if p.reached => Standing::Reached,
+        Ordering::Equal => Standing::Targeted,
+        Ordering::Greater => Standing::Unused,
     }
 }

@@ -1,7 +1,7 @@
 -- Arrays that hold f 0, f 1 and so on from their front on, and blank elements behind them.
 use Prim.Native.Nat.{ℕ, zero, suc, ◌+◌, ◌-◌, ◌≤◌, ◌<◌}
 use mathlib.Core.Path.{◌≡◌, refl, sym, ap, ◌∙◌}
-use mathlib.Core.List.{List, [], ◌∷◌, ◌++◌, map}
+use mathlib.Core.List.{List, ◌++◌}
 use mathlib.Core.Bool.{Bool, true, false}
 use native.Mathlib.Omega.{arith}
 use lib.ListN.{length, get_or, set, replicate, length-set, length-replicate, get_or-eq_default, get_or-append}
@@ -14,10 +14,6 @@ use Rattle.wire.specs.Lists.{tabulate}
 use Rattle.wire.proofs.ListLaws.{get_or-there, tabulate-at, tabulate-length}
 use Rattle.engine_value.specs.Engine.{filled}
 use Rattle.engine_value.proofs.Filled.{filled_length}
-
-pub map_replicate : {A B : Type 0} (f : A → B) (n : ℕ) (a : A) → map f (replicate n a) ≡ replicate n (f a)
-map_replicate f zero a = refl
-map_replicate {B = B} f (suc n) a = ap (λ (l : List B). f a ∷ l) (map_replicate f n a)
 
 -- the first i of them are set
 pub record Filling {A : Type 0} (blank : A) (high : ℕ) (f : ℕ → A) (i : ℕ) (xs : List A) : Type 0 where
@@ -32,8 +28,8 @@ module _ {A : Type 0} (blank : A) (high : ℕ) where
   blanks (suc n) (suc i) = blanks n i
 
   -- an element by its index, blank beyond the list
-  pub filled_at : (l : List A) (k : ℕ) → length l ≤ high → get_or (filled high blank l) k blank ≡ get_or l k blank
-  filled_at l k h = go (ltb k high) refl
+  pub filled_within : (l : List A) (k : ℕ) → k < high → get_or (filled high blank l) k blank ≡ get_or l k blank
+  filled_within l k h = get_or-take high (l ++ replicate high blank) k blank h ∙ inside (ltb k (length l)) refl
     where
       inside : (b : Bool) → ltb k (length l) ≡ b → get_or (l ++ replicate high blank) k blank ≡ get_or l k blank
       inside true q = get_or-append l (replicate high blank) blank k (ltb-true k (length l) q)
@@ -44,8 +40,11 @@ module _ {A : Type 0} (blank : A) (high : ℕ) where
           ∙ get_or-append-add l (replicate high blank) (k - length l) blank
           ∙ blanks high (k - length l) ∙ sym (get_or-eq_default l blank m)
 
+  pub filled_at : (l : List A) (k : ℕ) → length l ≤ high → get_or (filled high blank l) k blank ≡ get_or l k blank
+  filled_at l k h = go (ltb k high) refl
+    where
       go : (b : Bool) → ltb k high ≡ b → get_or (filled high blank l) k blank ≡ get_or l k blank
-      go true q = get_or-take high (l ++ replicate high blank) k blank (ltb-true k high q) ∙ inside (ltb k (length l)) refl
+      go true q = filled_within l k (ltb-true k high q)
       go false q =
           let m : high ≤ k = ltb-false k high q in
           get_or-eq_default (filled high blank l) blank (omega (arith, filled_length blank high l)) ∙ sym (get_or-eq_default l blank (omega arith))
@@ -66,17 +65,19 @@ module _ {A : Type 0} (blank : A) (high : ℕ) where
           rest = λ k l. let ne : k ≢ i = omega arith in get_or-set_other xs i k a blank ne ∙ g.rest k (omega arith);
         }
 
-    pub filling_end : (i : ℕ) (xs : List A) → i ≤ high → Filling blank high f i xs → xs ≡ filled high blank (tabulate i f)
-    filling_end i xs h g =
+    -- n are set
+    pub filling_end : (i n : ℕ) (xs : List A) → Filling blank high f i xs → i ≡ n → i ≤ high → xs ≡ filled high blank (tabulate n f)
+    filling_end i n xs g e h =
+        let to : filled high blank (tabulate i f) ≡ filled high blank (tabulate n f) = ap (λ (k : ℕ). filled high blank (tabulate k f)) e in
         same_lists xs (filled high blank (tabulate i f)) (z ∙ sym (filled_length blank high (tabulate i f)))
-        (λ k d l. get_or-there xs k d blank l ∙ at k (ltb k i) refl ∙ get_or-there (filled high blank (tabulate i f)) k blank d (omega (arith, filled_length blank high (tabulate i f), z, l)))
+        (λ k d l. get_or-there xs k d blank l ∙ at k (ltb k i) refl ∙ get_or-there (filled high blank (tabulate i f)) k blank d (omega (arith, filled_length blank high (tabulate i f), z, l))) ∙ to
       where
         z : length xs ≡ high
         z = g.size
 
-        n : length (tabulate i f) ≡ i
-        n = tabulate-length i f
+        all : length (tabulate i f) ≡ i
+        all = tabulate-length i f
 
         at : (k : ℕ) (b : Bool) → ltb k i ≡ b → get_or xs k blank ≡ get_or (filled high blank (tabulate i f)) k blank
-        at k true q = let l : k < i = ltb-true k i q in g.done k l ∙ sym (filled_at (tabulate i f) k (omega (arith, n)) ∙ tabulate-at i f k blank l)
-        at k false q = let l : i ≤ k = ltb-false k i q in g.rest k l ∙ sym (filled_at (tabulate i f) k (omega (arith, n)) ∙ get_or-eq_default (tabulate i f) blank (omega (arith, n)))
+        at k true q = let l : k < i = ltb-true k i q in g.done k l ∙ sym (filled_at (tabulate i f) k (omega (arith, all)) ∙ tabulate-at i f k blank l)
+        at k false q = let l : i ≤ k = ltb-false k i q in g.rest k l ∙ sym (filled_at (tabulate i f) k (omega (arith, all)) ∙ get_or-eq_default (tabulate i f) blank (omega (arith, all)))

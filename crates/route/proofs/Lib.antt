@@ -1,3 +1,4 @@
+pub mod InArray
 pub mod Limits
 pub mod Filling
 pub mod Placing

@@ -37,17 +37,12 @@ pub points-length : (book : List BookSegment) (v : JourneyValue) → length (poi
 points-length book v = length-map v.points (point_at book v.names)
 
 -- the points stand at the front of their array
-pub twelve_same : (book : List BookSegment) (v : JourneyValue) (points : List Point) → points ≡ filled 64 blank_point (points_of book v) → length v.points ≤ 64
-    → twelve (take (length v.points) points) v ≡ twelve (points_of book v) v
-twelve_same book v points e most = ap (λ (x : List Point). twelve x v) first
-  where
-    n : length (points_of book v) ≡ length v.points
-    n = points-length book v
-
-    first : take (length v.points) points ≡ points_of book v
-    first =
-        ap (λ (x : List Point). take (length v.points) x) e ∙ ap (λ (k : ℕ). take k (filled 64 blank_point (points_of book v))) (sym n)
-        ∙ filled_take blank_point 64 (points_of book v) (omega (arith, n))
+pub points_front : (book : List BookSegment) (v : JourneyValue) (points : List Point) → points ≡ filled 64 blank_point (points_of book v) → length v.points ≤ 64
+    → take (length v.points) points ≡ points_of book v
+points_front book v points e most =
+    let n : length (points_of book v) ≡ length v.points = points-length book v in
+    ap (λ (x : List Point). take (length v.points) x) e ∙ ap (λ (k : ℕ). take k (filled 64 blank_point (points_of book v))) (sym n)
+    ∙ filled_take blank_point 64 (points_of book v) (omega (arith, n))
 
 module _ (book : List BookSegment) (v : JourneyValue) where
   pub row_10 : ten v ≡ true → load_for book v ≡ refuse 10

@@ -3,7 +3,7 @@ use Rattle.std.specs.Prelude.{ℕ, ◌<◌, ◌≡◌, List, map, Bool, not, ◌
 use Rattle.wire.specs.Lists.{twice}
 use Rattle.wire.specs.Judged.{Judged, then_judge, row}
 use Rattle.wire.specs.Judged.Judged.{refuse, accept}
-use Rattle.engine_value.specs.Engine.{max_segments, max_points, blank_segment, blank_point, filled}
+use Rattle.engine_value.specs.Engine.{max_points, blank_point, filled}
 use Rattle.engine_value.specs.declared.Segment.{Segment}
 use Rattle.engine_value.specs.declared.Point.{Point}
 use Rattle.segment_record.specs.Record.{BookSegment, lookup_point}
@@ -30,14 +30,14 @@ load_for book v = then_judge (checked book v) (λ j. accept (load_value book j))
 
 -- the journey's segments by the book, and the records of those that are in it
 pub record PlacingRead (book : List BookSegment) (names : List Name) (m : List Placed) : Type 0 where
-  pub segments : map (λ (p : Placed). p.segment) m ≡ filled max_segments blank_segment (segments_of book names)
+  pub segments : map (λ (p : Placed). p.segment) m ≡ segments_of book names
   pub placed : (k : ℕ) (d : Placed) → k < length names → (get_or m k d).segment ≡ segment_at book names k
   pub records : (k : ℕ) (d : Placed) → k < length names → record_view (get_or m k d).entry ≡ record_of book (name_at names k)
 
 -- a point on its segment, by the book's record of it; 11 where that lacks the point
 abbrev pub point_on : JourneyPoint → Segment → Option BookSegment → Judged Point
 point_on p g r =
-    if g.booked && not (is_some (lookup_point p.nidtp (points_on r))) then refuse 11 else accept (point_of p g (lookup_point p.nidtp (points_on r)))
+    if is_some r && not (is_some (lookup_point p.nidtp (points_on r))) then refuse 11 else accept (point_of p g (lookup_point p.nidtp (points_on r)))
 
 -- the test of row 11, and the points of a journey that it does not refuse
 abbrev pub eleven : List BookSegment → JourneyValue → Bool

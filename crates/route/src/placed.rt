@@ -1,6 +1,7 @@
 // A segment of the journey by the book, and its points.
 #![tactic(auto)]
 
+ghost use Rattle.std.specs.Prelude.{◌≡◌};
 ghost use Rattle.route.specs.Limits.{PlacesFit};
 
 use engine_value::{Point, Segment};
@@ -16,8 +17,21 @@ pub struct Placed<'a> {
     ghost fit: { PlacesFit segment entry },
 }
 
+// What stands in the empty cells of an ArrayVec. By hand: a struct with a ghost field derives no Default.
+impl Default for Placed<'_> {
+    ghost use Rattle.engine_value.specs.Engine.{blank_segment};
+
+    ghost is_default = { λ p. p.segment ≡ blank_segment };
+
+    fn default() -> Self {
+        Placed {
+            segment: Segment::default(),
+            entry: None,
+        }
+    }
+}
+
 impl Placed<'_> {
-    ghost use Rattle.std.specs.Prelude.{◌≡◌};
     ghost use Rattle.wire.specs.View.{judged};
     ghost use Rattle.route.specs.Limits.{record_view};
     ghost use Rattle.route.specs.View.{point_on};
@@ -27,17 +41,11 @@ impl Placed<'_> {
     pub fn point(&self, p: &JourneyPoint) -> Result<Point, Refusal>
         ensures { judged result ≡ point_on p.now self.now.segment (record_view self.now.entry) }
     {
-        let found = match self.entry {
-            Some(e) => find_point(e, p.nidtp),
-            None => None,
-        };
-        if self.segment.booked && found.is_none() {
-            return Err(Refusal::Points);
-        }
-        let (place, reach) = match found {
-            Some(b) => (b.place, u32::from(b.reach)),
-            None => (0, 0),
-        };
+        let found = self
+            .entry
+            .map(|e| find_point(e, p.nidtp).ok_or(Refusal::Points))
+            .transpose()?;
+        let (place, reach) = found.map_or((0, 0), |b| (b.place, u32::from(b.reach)));
         let placed = self.segment.placed;
         Ok(Point {
             nidtp: p.nidtp,

@@ -1,14 +1,13 @@
 -- What the values of the code say.
-use Rattle.std.specs.Prelude.{ℕ, ◌≡◌, ◌&&◌, Bool, List, map, length, take, drop, min, leb, if◌then◌else◌}
+use Rattle.std.specs.Prelude.{ℕ, ◌≡◌, ◌&&◌, Bool, List, map, length, take, drop, leb, if◌then◌else◌}
 use Rattle.wire.specs.Numbers.{number}
 use Rattle.fields.specs.Parse.{Reader}
 use Rattle.fields.specs.Parse.Parse.{bad, good}
-use Rattle.engine_value.specs.Engine.{max_nidtp, max_zones, blank_zone, filled}
+use Rattle.engine_value.specs.Engine.{max_nidtp}
 use Rattle.engine_value.specs.declared.Zone.{Zone}
 use Rattle.segment_record.specs.Record.{BookSegment, max_reach}
 use Rattle.segment_record.specs.declared.BookPoint.{BookPoint}
 use Rattle.segment_record.specs.declared.Entry.{Entry}
-use Rattle.segment_record.specs.declared.Zones.{Zones}
 
 -- a reader of k bytes: their value, where it fits
 pub record Takes {A : Type 0} (k : ℕ) (fits : A → Bool) (value : List ℕ → A) (p : Reader A) : Type 0 where
@@ -30,7 +29,3 @@ zone_fits len z = leb z.start z.end && leb z.end len
 -- the record that an entry stands for
 abbrev pub entry_view : Entry → BookSegment
 entry_view e = record { nidc = e.nidc; nidsp = e.nidsp; length = e.length; points = map point_of e.points.now; zones = map zone_of e.zones.now }
-
--- its zones as the engine keeps them: at most four, and blank ones behind them
-abbrev pub zones_view : Entry → Zones
-zones_view e = record { count = min (length (entry_view e).zones) max_zones; zones = filled max_zones blank_zone (entry_view e).zones }

@@ -1,17 +1,16 @@
 // A segment record of a book: its bytes, and look-ups in it.
 #![tactic(auto)]
 
-ghost use Rattle.std.specs.Prelude.{◌≡◌, ◌<◌, ◌≤◌, ℕ, List, Bool, map, length, take, slice_index_or as get_or};
-ghost use Rattle.engine_value.specs.Engine.{blank_zone};
+ghost use Rattle.std.specs.Prelude.{◌≡◌, ◌<◌, ◌≤◌, ℕ, List, Bool, map, length, take};
+ghost use Rattle.engine_value.specs.Engine.{max_zones};
 ghost use Rattle.fields.specs.Parse.{Reader, listed};
 ghost use Rattle.fields.specs.View.{parsed_by};
 ghost use Rattle.segment_record.specs.Record.{max_record_points, segment_record, lookup_point, book_point, zone_record};
-ghost use Rattle.segment_record.specs.View.{entry_view, point_of, zone_of, point_fits, zone_fits, zones_view, Takes};
+ghost use Rattle.segment_record.specs.View.{entry_view, point_of, zone_of, point_fits, zone_fits, Takes};
 
 use arrayvec::ArrayVec;
 use engine_value::{MAX_NIDC, MAX_NIDTP, MAX_ZONES, Zone};
 use fields::{Bears, read_field, read_map};
-use std::array;
 use wire::{Number, bit};
 
 // "length (4, 1-16,777,214)"
@@ -23,7 +22,8 @@ pub const MAX_RECORD_POINTS: usize = 16;
 // "reached distance R (2, 0-10,000)"
 const MAX_REACH: u16 = 10000;
 
-// A segment record that was read: its numbers, and the bytes of each of its points and zones.
+// A segment record that was read: its numbers, and the bytes of each of its points and zones. NID_C and NID_SP in no struct of their own:
+// `Name` is journey's, on which this crate does not depend, and here only `name` reads them, as a pair.
 #[derive(Clone, Copy, Default)]
 pub struct Entry<'a> {
     pub points: &'a [[u8; 10]],
@@ -39,13 +39,6 @@ pub struct BookPoint {
     pub nidtp: u32,
     pub place: u32,
     pub reach: u16,
-}
-
-// The inhibition zones of a record, as the engine keeps them; those beyond the count are blank.
-#[derive(Clone, Copy)]
-pub struct Zones {
-    pub count: u32,
-    pub zones: [Zone; MAX_ZONES],
 }
 
 // A segment is named by NID_C and NID_SP together, a point by its NID_TP.
@@ -70,7 +63,7 @@ impl Bears for BookPoint {
 }
 
 // An item of a record's lists, of K bytes.
-trait ListItem<const K: usize>: Copy {
+trait ListItem<const K: usize>: Copy + Default {
     ghost value_of: { List ℕ → Self };
 
     ghost fits: { ℕ → Self → Bool };
@@ -124,7 +117,8 @@ impl ListItem<8> for Zone {
     }
 }
 
-// A list that stands only where its bit does: the bytes of each item, whose ranges are kept.
+// A list that stands only where its bit does: the bytes of each item, each within its ranges. `takes` is no law of `ListItem`: each impl's
+// proof would then have to stand in specs/.
 #[tactic(auto, unfolding(fields::specs::Parse::listed, fields::specs::Parse::counted))]
 fn read_list<T: ListItem<K>, const K: usize>(
     s: &[u8],
@@ -182,31 +176,28 @@ pub fn find_point(e: Entry, nidtp: u32) -> Option<BookPoint>
         .find(|p| p.nidtp == nidtp)
 }
 
+// The first N items of a list.
+fn first_items<T: ListItem<K>, const K: usize, const N: usize>(list: &[[u8; K]]) -> ArrayVec<T, N>
+    ensures { result.items ≡ take N (map T.value_of list.now) }
+{
+    // no `collect`: it answers a `Result`, as if there could be too many
+    let mut items = ArrayVec::new();
+    for x in list.iter().take(N) {
+        items.push(T::of(x));
+    }
+    items
+}
+
 // The points of a record; one that was read has at most 16.
 pub fn points_of(e: &Entry) -> ArrayVec<BookPoint, MAX_RECORD_POINTS>
     ensures { result.items ≡ take max_record_points (entry_view e.now).points }
 {
-    let from = e.points;
-    let mut points = ArrayVec::new();
-    for x in &from[..MAX_RECORD_POINTS.min(from.len())] {
-        points.push(BookPoint::of(x));
-    }
-    points
+    first_items(e.points)
 }
 
 // The zones of a record; one that was read has at most four.
-pub fn zones_of(e: Entry) -> Zones
-    ensures { result ≡ zones_view e.entry }
+pub fn zones_of(e: &Entry) -> ArrayVec<Zone, MAX_ZONES>
+    ensures { result.items ≡ take max_zones (entry_view e.now).zones }
 {
-    let from = e.zones;
-    let zone = |k: usize| -> Zone
-        ensures { result ≡ get_or (map zone_of from.entry.now) k blank_zone }
-    {
-        from.get(k)
-            .map_or(Zone { start: 0, end: 0 }, |x| Zone::of(x))
-    };
-    Zones {
-        count: from.len().min(MAX_ZONES) as u32,
-        zones: array::from_fn(zone),
-    }
+    first_items(e.zones)
 }

@@ -2,9 +2,7 @@
 use Rattle.std.specs.Prelude.{Bool, true, false, not, ◌&&◌, ◌||◌, ℕ, if◌then◌else◌}
 use Rattle.wire.specs.Numbers.{bit}
 use Rattle.event.specs.declared.Event.{Event}
-use Rattle.event.specs.declared.Row.{Row}
-use Rattle.event.specs.declared.Row.TheVariants.{SwitchOn, Configure, SwitchOff, Fail, EngagePress, ByState}
-use Rattle.event.specs.Kinds.{row_of}
+use Rattle.event.specs.Kinds.{Row, SwitchOn, Configure, SwitchOff, Fail, EngagePress, ByState, row_of}
 use Rattle.state_codes.specs.Codes.{is, is_ad, is_neutral, is_brake}
 use Rattle.state_codes.specs.declared.State.{State}
 use Rattle.state_codes.specs.declared.State.TheVariants.{NP, CO, NA, AV, RE, EG, DE, FA}

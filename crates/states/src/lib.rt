@@ -7,7 +7,7 @@ ghost use Rattle.states.specs.States.{machine, N, U, from_re, from_eg, from_de, 
 ghost use Rattle.states.specs.ControlGroup.{values_in, machine_in, control_after};
 
 use engine_value::{Control, Inputs};
-use event::{Event, Row};
+use event::Event;
 use state_codes::{DriverLever, EtcsMode, State};
 use status_word::OperationalConditions;
 
@@ -29,7 +29,7 @@ pub struct Machine {
 
 // ---- the rows of the states
 
-// The state that the values alone give.
+// U of document 01: the state that the values alone give.
 fn u(v: Values) -> State
     ensures { result ≡ U v }
 {
@@ -115,13 +115,13 @@ fn machine_after(m: Machine, event: Event, reached: bool, v: Values) -> Machine
     ensures { result ≡ machine_after m event reached v }
 {
     let s = m.state;
-    match event.row() {
-        Row::SwitchOn => at_rest(State::CO),
-        Row::Configure => at_rest(u(v)),
-        Row::SwitchOff => at_rest(State::NP),
-        Row::Fail => at_rest(State::FA),
-        Row::EngagePress => by_state(s, true, reached, v),
-        Row::ByState => by_state(s, m.press, reached, v),
+    match event {
+        Event::PowerOn => at_rest(State::CO),
+        Event::Configured => at_rest(u(v)),
+        Event::PowerOff => at_rest(State::NP),
+        Event::Fault => at_rest(State::FA),
+        Event::Press => by_state(s, true, reached, v),
+        _ => by_state(s, m.press, reached, v),
     }
 }
 

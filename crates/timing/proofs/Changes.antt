@@ -60,12 +60,9 @@ looked_rests j r (suc n) i h = go _ refl _ refl (looked_rests j r n (suc i))
 
 -- ---- lists of changes
 
-zero_one : ◌≡◌ {A = ℕ} 0 1 → ⊥
-zero_one e = omega arith
-
 not_empty : (a b : List Change) (c : Change) → [] ≡ a ++ (c ∷ b) → ⊥
-not_empty [] b c e = zero_one (cc)
-not_empty (x ∷ a) b c e = zero_one (cc)
+not_empty [] b c e = cc
+not_empty (x ∷ a) b c e = cc
 
 tail_same : {x y : Change} {l m : List Change} → x ∷ l ≡ y ∷ m → l ≡ m
 tail_same e = cc

@@ -1,5 +1,6 @@
--- The searches of specs/ as the loop takes them: the front is known.
-use Rattle.std.specs.Prelude.{Option, Some, None}
+-- The searches of specs/ as the code makes them: what a search over the points finds, and what a report and a load make of it.
+use Rattle.std.specs.Prelude.{Option, Some, None, MatchOption, max}
+use Rattle.std.specs.Option.{unwrap_or}
 use Prim.Native.Nat.{ℕ, zero, suc, ◌+◌, ◌-◌, ◌<◌, ◌≤◌}
 use mathlib.Core.Path.{◌≡◌, refl, sym, ap, ◌∙◌}
 use mathlib.Core.Bool.{Bool, true, false, ◌&&◌, and-false}
@@ -14,7 +15,7 @@ use Rattle.engine_value.specs.declared.Position.{Position}
 use Rattle.position.specs.Position.{point, point_count, placed, front_at}
 use Rattle.timing.specs.Distance.{Report, beyond, at_stop, exceeds}
 use Rattle.timing.specs.Load.{unskipped_report, put_behind, target_from, target}
-use Rattle.timing.specs.Report.{looked, looked_from}
+use Rattle.timing.specs.Report.{looked}
 
 -- with the front known
 pub beyond_known : (j : Route) (r : Report) (f : ℕ) → front_at j r.position ≡ Some f → (k : ℕ) → beyond j r k ≡ exceeds f r.length (point j k) (r.skips k)
@@ -23,22 +24,42 @@ beyond_known j r f at k = rw at
 
 -- ---- the first point that a load would not put behind, from k on among the first n
 
-module _ (j : Route) (r : Report) (n k : ℕ) where
-  pub target_none : n ≤ k → target_from j r (n - k) k ≡ k
+module _ (j : Route) (r : Report) (n : ℕ) where
+  target_none : (k : ℕ) → n ≤ k → target_from j r (n - k) k ≡ k
   unfolding target_from
-  target_none h = let e : n - k ≡ 0 = omega arith in rw e
+  target_none k h = let e : n - k ≡ 0 = omega arith in rw e
 
-  module _ (h : k < n) where
-    left : n - k ≡ suc (n - (k + 1))
-    left = omega arith
+  left : (k : ℕ) → k < n → n - k ≡ suc (n - (k + 1))
+  left k h = omega arith
 
-    pub target_here : put_behind j r k ≡ false → target_from j r (n - k) k ≡ k
-    unfolding target_from
-    target_here e = rw (left, e)
+  target_here : (k : ℕ) → k < n → put_behind j r k ≡ false → target_from j r (n - k) k ≡ k
+  unfolding target_from
+  target_here k h e = rw (left k h, e)
 
-    pub target_more : put_behind j r k ≡ true → target_from j r (n - k) k ≡ target_from j r (n - (k + 1)) (k + 1)
-    unfolding target_from
-    target_more e = rw (left, e)
+  target_more : (k : ℕ) → k < n → put_behind j r k ≡ true → target_from j r (n - k) k ≡ target_from j r (n - (k + 1)) (k + 1)
+  unfolding target_from
+  target_more k h e = rw (left k h, e)
+
+  -- those before m are put behind, and it is not
+  target_at : (d k m : ℕ) → m ≡ k + d → m ≤ max k n → ((i : ℕ) → k ≤ i → i < m → put_behind j r i ≡ true) → (m < n → put_behind j r m ≡ false)
+      → m ≡ target_from j r (n - k) k
+  target_at zero k m e l b h = go (cases_lt m n)
+    where
+      same : m ≡ k
+      same = omega arith
+
+      go : (m < n) ⊎ (n ≤ m) → m ≡ target_from j r (n - k) k
+      go (inl q) = rw (← same) (sym (target_here m q (h q)))
+      go (inr q) = rw (← same) (sym (target_none m q))
+  target_at (suc d) k m e l b h = target_at d (k + 1) m (omega arith) (omega arith) (λ i p q. b i (omega arith) q) h ∙ sym (target_more k (omega arith) (b k (omega arith) (omega arith)))
+
+  -- as a search finds it
+  pub target_found : (k : ℕ) (found : Option ℕ)
+      → MatchOption found ((i : ℕ) → k ≤ i → i < n → put_behind j r i ≡ true)
+      (λ m. (k ≤ m) × (m < n) × (put_behind j r m ≡ false) × ((i : ℕ) → k ≤ i → i < m → put_behind j r i ≡ true))
+      → unwrap_or found (max k n) ≡ target_from j r (n - k) k
+  target_found k None f = target_at (max k n - k) k (max k n) (omega arith) (omega arith) (λ i p q. f i p (omega arith)) (λ q. absurd (omega arith))
+  target_found k (Some m) f = target_at (m - k) k m (omega arith) (omega arith) f.3 (λ q. f.2)
 
 -- a report looks as far as that, and there the point may be reached
 module _ (j : Route) (r : Report) where
@@ -71,28 +92,29 @@ module _ (j : Route) (r : Report) where
           more : k + 1 + n ≡ k + suc n
           more = omega arith
 
-  pub looked_from_is : (k : ℕ) → looked_from j r k ≡ progress (target_from j r (point_count j - k) k) (reaches (target_from j r (point_count j - k) k) (point_count j))
-  looked_from_is k = go (cases_lt k (point_count j))
+  looked_to : (n k : ℕ) → looked j r (n - k) k ≡ progress (target_from j r (n - k) k) (reaches (target_from j r (n - k) k) n)
+  looked_to n k = go (cases_lt k n)
     where
       m : ℕ
-      m = target_from j r (point_count j - k) k
+      m = target_from j r (n - k) k
 
       off : (end : ℕ) → end ≤ m → reaches m end ≡ false
       off end h = rw (le-ltb m end h)
 
-      go : (k < point_count j) ⊎ (point_count j ≤ k) → looked_from j r k ≡ progress m (reaches m (point_count j))
-      go (inl h) = looked_is (point_count j - k) k ∙ ap (λ e. progress m (reaches m e)) (omega arith)
+      go : (k < n) ⊎ (n ≤ k) → looked j r (n - k) k ≡ progress m (reaches m n)
+      go (inl h) = looked_is (n - k) k ∙ ap (λ e. progress m (reaches m e)) (omega arith)
       go (inr h) =
-          let e : m ≡ k = target_none j r (point_count j) k h in
-          looked_is (point_count j - k) k ∙ ap (progress m) (off (k + (point_count j - k)) (omega arith) ∙ sym (off (point_count j) (omega arith)))
+          let e : m ≡ k = target_none j r n k h in
+          looked_is (n - k) k ∙ ap (progress m) (off (k + (n - k)) (omega arith) ∙ sym (off n (omega arith)))
 
--- what a report finds from point k on, with m the first left
-module _ (j : Route) (r : Report) (k m : ℕ) (e : m ≡ target_from j r (point_count j - k) k) where
-  pub look_within : (b : Bool) → m < point_count j → b ≡ (placed j m && at_stop j r m) → progress m b ≡ looked_from j r k
-  look_within b h q = rw (looked_from_is j r k, ← e, lt-ltb m _ h, q)
+  -- the first left is among the n points
+  pub look_within : (n k : ℕ) → target_from j r (n - k) k < n
+      → looked j r (n - k) k ≡ progress (target_from j r (n - k) k) (placed j (target_from j r (n - k) k) && at_stop j r (target_from j r (n - k) k))
+  look_within n k h = rw (looked_to n k, lt-ltb _ _ h)
 
-  pub look_past : point_count j ≤ m → progress m false ≡ looked_from j r k
-  look_past h = rw (looked_from_is j r k, ← e, le-ltb m _ h)
+  -- it is not
+  pub look_past : (n k : ℕ) → n ≤ target_from j r (n - k) k → looked j r (n - k) k ≡ progress (target_from j r (n - k) k) false
+  look_past n k h = rw (looked_to n k, le-ltb _ _ h)
 
 -- with the position unknown
 module _ (j : Route) (r : Report) (at : front_at j r.position ≡ None) where
@@ -101,18 +123,18 @@ module _ (j : Route) (r : Report) (at : front_at j r.position ≡ None) where
   unknown_target zero k = refl
   unknown_target (suc n) k = rw at
 
-  pub look_unknown : (k : ℕ) → progress k false ≡ looked_from j r k
-  look_unknown k = sym (looked_is j r (point_count j - k) k ∙ rw (unknown_target (point_count j - k) k, stop_nowhere j r k at, and-false, and-false))
+  pub look_unknown : (n k : ℕ) → looked j r n k ≡ progress k false
+  look_unknown n k = looked_is j r n k ∙ rw (unknown_target n k, stop_nowhere j r k at, and-false, and-false)
 
 pub target_unknown : (j : Route) (x : Position) (length : ℕ) → front_at j x ≡ None → 0 ≡ target j x length
 unfolding target
 target_unknown j x length at = sym (unknown_target j (unskipped_report x length) at (point_count j) 0)
 
 -- of a load: none of the driver skips stands
-pub target_is : (j : Route) (x : Position) (length n : ℕ)
-    → target_from j (record { position = x; length = length; skips = λ k. get_or (replicate n false) k false }) (point_count j - 0) 0 ≡ target j x length
+pub target_is : (j : Route) (x : Position) (length : ℕ)
+    → target j x length ≡ target_from j (record { position = x; length = length; skips = λ k. get_or (replicate 64 false) k false }) (point_count j - 0) 0
 unfolding target
-target_is j x length n = rw all (ap (λ (s : ℕ → Bool). target_from j (record { position = x; length = length; skips = s }) (point_count j) 0) (λ i k. none n k i))
+target_is j x length = rw all (ap (λ (s : ℕ → Bool). target_from j (record { position = x; length = length; skips = s }) (point_count j) 0) (λ i k. sym (none 64 k) i))
   where
     none : (n k : ℕ) → get_or (replicate n false) k false ≡ false
     none zero k = refl

@@ -21,9 +21,6 @@ use Rattle.timing.specs.Rule.{PointOutcome, departing, through, after, point_out
 use Rattle.timing.specs.Rule.PointOutcome.{passes, reaches, not_settled, not_looked_at}
 use Rattle.timing.proofs.Rule.{through_on, through_passes, through_reaches, departing_on, departing_passes, point_outcome_behind, point_outcome_first, point_outcome_next, as_the_rule}
 
-zero_one : ◌≡◌ {A = ℕ} 0 1 → ⊥
-zero_one e = omega arith
-
 -- reports number a, a + 1, .. : c of them
 abbrev span : {R : Type 0} → (ℕ → R) → ℕ → ℕ → List R
 span rep a zero = []
@@ -120,10 +117,10 @@ module _ (j : Route) (start : ℕ) (reports : List Report) where
   apart s t x y = omega arith
 
   settled_unique : (k a s t : ℕ) → Settled j start reports k a s → Settled j start reports k a t → s ≡ t
-  settled_unique k a s t x y = apart s t (λ h. zero_one (cc (y.none_before s x.from h, x.settled))) (λ h. zero_one (cc (x.none_before t y.from h, y.settled)))
+  settled_unique k a s t x y = apart s t (λ h. cc (y.none_before s x.from h, x.settled)) (λ h. cc (x.none_before t y.from h, y.settled))
 
   departs_unique : (p s t : ℕ) → Departs j start reports p s → Departs j start reports p t → s ≡ t
-  departs_unique p s t x y = apart s t (λ h. zero_one (cc (y.none_before s x.later h, x.moves))) (λ h. zero_one (cc (x.none_before t y.later h, y.moves)))
+  departs_unique p s t x y = apart s t (λ h. cc (y.none_before s x.later h, x.moves)) (λ h. cc (x.none_before t y.later h, y.moves))
 
   passes_unique : (k a t u : ℕ) → Passes j start reports k a t → Passes j start reports k a u → t ≡ u
   passes_unique k a t u (s, x, c) (r, y, d) = go c d
@@ -211,14 +208,14 @@ module _ (j : Route) (start : ℕ) (reports : List Report) where
               same = settled_unique k (first_of m) r s (rw (before_unique k n m c b) at z) x
 
               two : (((beyond j (rep r) k ≡ true) × (t ≡ r)) ⊎ ((beyond j (rep r) k ≡ false) × Departs j start reports r t)) → ⊥
-              two (inl (f, g)) = zero_one (cc (same))
-              two (inr (f, g)) = zero_one (cc (g.moves, w t (omega (arith, same, g.later)) (omega arith)))
+              two (inl (f, g)) = cc (same)
+              two (inr (f, g)) = cc (g.moves, w t (omega (arith, same, g.later)) (omega arith))
   says k m not_settled h b all w = (record { itself = never; before = all }, unsettled)
     where
       unsettled : ¬ IsSettled j start reports k
       unsettled (n, c, (s, l, x)) =
           let y : Settled j start reports k (first_of m) s = rw (before_unique k n m c b) at x in
-          zero_one (cc (y.settled, w s y.from (omega arith)))
+          cc (y.settled, w s y.from (omega arith))
 
       never : ¬ HasMoment j start reports k
       never (t, l, y) = go (unroll k t h y)

@@ -21,7 +21,7 @@ pub struct PositionReport<'a> {
 }
 
 // What a position report brings: the progress after it, the first point looked at, whether one departed before that, and whether one became
-// reached. Points from `from` to the new `next`, without it, are passed.
+// reached. Points from `from` to the new `next`, without it, are passed. Flags: `from` and `progress` count also where neither stands.
 #[derive(Clone, Copy)]
 pub struct Reported {
     pub progress: Progress,
@@ -35,7 +35,8 @@ const NO_SKIPS: [bool; MAX_POINTS] = [false; MAX_POINTS];
 
 // ---- d and margin
 
-// How far behind the front the aligned part of the train is.
+// How far behind the front the aligned part of the train is: 0 front, 1 middle, 2 rear. The point has it by number (C layout), and an enum would be
+// made only to be matched here.
 fn back(length: u32, alignment: u8) -> u32
     ensures { result ≡ back length alignment }
 {
@@ -46,17 +47,30 @@ fn back(length: u32, alignment: u8) -> u32
     }
 }
 
-// A stop that neither the trackside nor the driver skips.
-fn unskipped(p: &Point, driver: bool) -> bool
-    ensures { result ≡ unskipped p.now driver }
-{
-    p.stop && !p.trackside && !driver
+// A point of the journey, and whether the driver skips it.
+#[derive(Clone, Copy)]
+struct Skippable {
+    point: Point,
+    skipped: bool,
 }
 
-fn margin(p: &Point, driver: bool) -> u32
-    ensures { result ≡ margin p.now driver }
-{
-    if unskipped(p, driver) { p.reach } else { 0 }
+impl Skippable {
+    // A stop that neither the trackside nor the driver skips.
+    fn unskipped(&self) -> bool
+        ensures { result ≡ unskipped self.now.point self.now.skipped }
+    {
+        self.point.stop && !self.point.trackside && !self.skipped
+    }
+
+    fn margin(&self) -> u32
+        ensures { result ≡ margin self.now.point self.now.skipped }
+    {
+        if self.unskipped() {
+            self.point.reach
+        } else {
+            0
+        }
+    }
 }
 
 // A position report with the front where its position is known.
@@ -83,29 +97,30 @@ impl<'a> Located<'a> {
     }
 
     // d > margin
-    fn exceeds(&self, p: &Point, driver: bool) -> bool
-        ensures { result ≡ exceeds self.now.front.at self.now.report.length p.now driver }
+    fn exceeds(&self, p: &Skippable) -> bool
+        ensures { result ≡ exceeds self.now.front.at self.now.report.length p.now.point p.now.skipped }
     {
-        self.distance(p) > margin(p, driver) as i64
+        self.distance(&p.point) > p.margin() as i64
     }
 
     // An unskipped stop at speed 0 with d ≥ −R.
-    fn stops_at(&self, p: &Point, driver: bool) -> bool
-        ensures { result ≡ stops_at self.now.front.at self.now.report.length self.now.report.place.position.speed p.now driver }
+    fn stops_at(&self, p: &Skippable) -> bool
+        ensures { result ≡ stops_at self.now.front.at self.now.report.length self.now.report.place.position.speed p.now.point p.now.skipped }
     {
-        unskipped(p, driver)
+        p.unskipped()
             && self.report.place.position.speed == 0
-            && self.distance(p) >= -(p.reach as i64)
+            && self.distance(&p.point) >= -(p.point.reach as i64)
     }
 
-    // Point k, and whether the driver skips it.
-    fn point(&self, k: u8) -> (Point, bool)
-        ensures point { result.0 ≡ point (journey_of self.now.report) k }
-        ensures driver { result.1 ≡ (report_view self.now.report).skips k }
+    fn point(&self, k: u8) -> Skippable
+        ensures point { result.point ≡ point (journey_of self.now.report) k }
+        ensures skipped { result.skipped ≡ (report_view self.now.report).skips k }
     {
-        let point = position::point(self.report.place.journey, k);
         let skips = self.report.skips;
-        (point, skips.get(k as usize).copied().unwrap_or(false))
+        Skippable {
+            point: position::point(self.report.place.journey, k),
+            skipped: skips.get(k as usize).copied().unwrap_or(false),
+        }
     }
 
     // Point k is placed and has d > margin.
@@ -113,8 +128,8 @@ impl<'a> Located<'a> {
     fn passes(&self, k: u8) -> bool
         ensures { result ≡ put_behind (journey_of self.now.report) (report_view self.now.report) k }
     {
-        let (p, driver) = self.point(k);
-        p.placed && self.exceeds(&p, driver)
+        let p = self.point(k);
+        p.point.placed && self.exceeds(&p)
     }
 
     // Point k is placed, and the train stops at it.
@@ -122,25 +137,22 @@ impl<'a> Located<'a> {
     fn stops(&self, k: u8) -> bool
         ensures { result ≡ (placed (journey_of self.now.report) k && at_stop (journey_of self.now.report) (report_view self.now.report) k) }
     {
-        let (p, driver) = self.point(k);
-        p.placed && self.stops_at(&p, driver)
+        let p = self.point(k);
+        p.point.placed && self.stops_at(&p)
     }
 
     // Of the points from `from` on, the first that is unplaced or does not pass; where there is none, the number of all.
-    #[tactic(auto, using(crate::proofs::Laws::target_none, crate::proofs::Laws::target_here, crate::proofs::Laws::target_more))]
     fn first_left(&self, from: u8) -> u8
         ensures { result ≡ target_from (journey_of self.now.report) (report_view self.now.report) (point_count (journey_of self.now.report) - from) from }
     {
         let until = position::points_loaded(self.report.place.journey.load);
-        for k in from..until {
-            if !self.passes(k) {
-                return k;
-            }
-        }
-        from.max(until)
+        (from..until)
+            .find(|k| !self.passes(*k))
+            .unwrap_or(from.max(until))
     }
 
-    // Points from `from` on pass, to the first that is unplaced or does not pass, and that may be reached.
+    // Points from `from` on pass, up to the first that is unplaced or does not pass; that one may be reached.
+    #[tactic(auto, using(crate::proofs::Laws::look_within, crate::proofs::Laws::look_past))]
     fn look(&self, from: u8) -> Progress
         ensures { result ≡ looked_from (journey_of self.now.report) (report_view self.now.report) from }
     {
@@ -156,7 +168,7 @@ impl<'a> Located<'a> {
 // ---- the load
 
 // The point that a load targets; where it puts all behind, their number.
-#[tactic(auto, using(crate::proofs::Laws::target_unknown))]
+#[tactic(auto, using(crate::proofs::Laws::target_unknown, crate::proofs::Laws::target_is))]
 pub fn target(place: Place, length: u32) -> u8
     ensures { result ≡ target (route_view place.entry.journey) place.entry.position length }
 {
@@ -165,25 +177,21 @@ pub fn target(place: Place, length: u32) -> u8
         length,
         skips: &NO_SKIPS,
     };
-    match Located::new(report) {
-        Some(l) => l.first_left(0),
-        None => 0,
-    }
+    Located::new(report).map_or(0, |l| l.first_left(0))
 }
 
 // ---- the position report
 
 // (b), from point `from` on.
+#[tactic(auto, using(crate::proofs::Laws::look_unknown))]
 fn look(r: PositionReport, from: u8) -> Progress
     ensures { result ≡ looked_from (journey_of r.entry) (report_view r.entry) from }
 {
-    match Located::new(r) {
-        Some(l) => l.look(from),
-        None => Progress {
-            next: from,
-            reached: false,
-        },
-    }
+    let unmoved = Progress {
+        next: from,
+        reached: false,
+    };
+    Located::new(r).map_or(unmoved, |l| l.look(from))
 }
 
 // The point after one; there is none behind the 64th.
@@ -199,16 +207,11 @@ pub fn report(r: PositionReport, p: Progress) -> Reported
     ensures { result ≡ report_of (journey_of r.entry) (report_view r.entry) p }
 {
     let moving = 0 < r.place.position.speed;
-    let departed = p.reached && moving;
-    let from = if departed { following(p.next) } else { p.next };
     if p.reached && !moving {
-        return Reported {
-            progress: p,
-            from,
-            departed,
-            reached: false,
-        };
+        return no_report(p);
     }
+    let departed = p.reached;
+    let from = if departed { following(p.next) } else { p.next };
     let progress = look(r, from);
     Reported {
         progress,

@@ -1,11 +1,12 @@
 -- The lowest range; no request, no packet; when range or Q_ATO_SupTB change; the engine's group holds what is remembered.
 use Rattle.std.specs.Prelude.{Option, Some, None, if◌then◌else◌}
+use Rattle.std.specs.Option.{unwrap_or}
+use Rattle.std.specs.List.{position}
 use mathlib.Core.Path.{◌≡◌, refl, sym, ap}
 use mathlib.Core.Logic.{◌≢◌, ◌↔◌, ◌⊎◌, inl, inr}
 use mathlib.Core.Bool.{Bool, true, false, not, ◌||◌, false≢true}
-use mathlib.Core.List.{List, [], ◌∷◌}
-use Prim.Native.Nat.{ℕ, zero, suc, ◌≤◌, ◌<◌}
-use lib.ListN.{length}
+use mathlib.Core.List.{[], ◌∷◌}
+use Prim.Native.Nat.{ℕ, suc}
 use native.Mathlib.Omega.{arith}
 use lib.Dec.{eqb}
 use borrow.Author.Tests.{eqb-true, eqb-false}
@@ -15,18 +16,19 @@ use Rattle.event.specs.declared.Event.{Event}
 use Rattle.state_codes.specs.declared.State.{State}
 use Rattle.state_codes.specs.declared.State.TheVariants.{NP, CO, NA, AV, RE, EG, DE, FA}
 use Rattle.packets.specs.declared.Requested.{Requested}
-use Rattle.traction.specs.Ranges.{Range, holds_at, lowest}
 use Rattle.traction.specs.Requests.{driving, changed, content_if, written_content}
 use Rattle.traction.specs.declared.Remembered.{Remembered}
 use Rattle.traction.specs.View.{remembered_in, traction_of}
 
--- the lowest range that holds a size, as a search finds it
-pub lowest_is : (rs : List Range) (size k : ℕ) → k ≤ length rs → ((i : ℕ) → i < k → holds_at rs i size ≡ false) → (k < length rs → holds_at rs k size ≡ true)
-    → k ≡ lowest rs size
-lowest_is [] size k l b h = omega arith
-lowest_is (r ∷ rs) size zero l b h = rw (h (omega arith))
-lowest_is (r ∷ rs) size (suc k) l b h =
-    rw (b 0 (omega arith)) (ap suc (lowest_is rs size k (omega arith) (λ i m. b (suc i) (omega arith)) (λ m. h (omega arith))))
+-- the first of five tests that is true, five where none is
+pub first_of_five : (a b c d e : Bool)
+    → unwrap_or (position (λ (t : Bool). t) (a ∷ b ∷ c ∷ d ∷ e ∷ [])) 5 ≡ (if a then 0 else suc (if b then 0 else suc (if c then 0 else suc (if d then 0 else suc (if e then 0 else 1)))))
+first_of_five true b c d e = refl
+first_of_five false true c d e = refl
+first_of_five false false true d e = refl
+first_of_five false false false true e = refl
+first_of_five false false false false true = refl
+first_of_five false false false false false = refl
 
 -- an event that makes no request writes none
 pub not_written : (s : State) (event : Event) (before after : Option Remembered) → (carried event).traction ≡ None → written_content s event before after ≡ None

@@ -2,13 +2,12 @@
 #![tactic(auto)]
 
 ghost use Rattle.std.specs.Prelude.{◌≡◌};
-ghost use Rattle.state_codes.specs.Codes.{state_at};
 ghost use Rattle.traction.specs.Ranges.{lowest, ranges, range_after, holds_at};
 ghost use Rattle.traction.specs.Requests.{requested, driving, made, forgets, remembered_after, changed, written_content};
 ghost use Rattle.traction.specs.View.{remembered_in, traction_of};
 
 use engine_value::Traction;
-use event::{Event, Role, TractionRequest};
+use event::{Event, TractionRequest};
 use packets::Requested;
 use state_codes::State;
 
@@ -33,11 +32,14 @@ fn holds(k: u8, size: u8) -> bool
         .is_some_and(|&(low, high)| (low..=high).contains(&size))
 }
 
-// The lowest range that holds the size; 5 where none does.
+// The lowest range that holds the size; where none does, as many as there are.
 fn lowest(size: u8) -> u8
     ensures { result ≡ lowest ranges size }
 {
-    (0..5).find(|k| holds(*k, size)).unwrap_or(5)
+    RANGES
+        .iter()
+        .position(|&(low, high)| (low..=high).contains(&size))
+        .unwrap_or(RANGES.len()) as u8
 }
 
 // The range of a request, from the one before.
@@ -69,7 +71,7 @@ fn traction_of(m: Option<Remembered>) -> Traction
     ensures { result ≡ traction_of m }
 {
     m.map_or(
-        engine_value::no_traction(),
+        Traction::default(),
         |r| Traction {
             remembered: true,
             range: r.range,
@@ -102,7 +104,7 @@ fn made(s: State, v: Event) -> Option<TractionRequest>
 fn forgets(before: State, v: Event, after: State) -> bool
     ensures { result ≡ forgets before v after }
 {
-    matches!(v.role(), Role::Off) || (after == State::EG && before != State::EG)
+    matches!(v, Event::PowerOff) || (after == State::EG && before != State::EG)
 }
 
 // A request's range and its Q_ATO_SupTB, after those of the request before.
@@ -116,14 +118,13 @@ fn requested(m: Option<Remembered>, x: TractionRequest) -> Remembered
 }
 
 // What is remembered after an event in the state `before`, which led to `after`.
-pub fn traction_after(before: u8, v: Event, after: u8, t: Traction) -> Traction
-    ensures { result ≡ traction_of (remembered_after (state_at before) v (state_at after) (remembered_in t)) }
+pub fn traction_after(before: State, v: Event, after: State, t: Traction) -> Traction
+    ensures { result ≡ traction_of (remembered_after before v after (remembered_in t)) }
 {
-    let before = State::from(before);
     let m = remembered_in(t);
     let kept = made(before, v).map(|x| requested(m, x)).or(m);
-    if forgets(before, v, State::from(after)) {
-        engine_value::no_traction()
+    if forgets(before, v, after) {
+        Traction::default()
     } else {
         traction_of(kept)
     }
@@ -139,11 +140,16 @@ fn changed(before: Option<Remembered>, after: Option<Remembered>) -> bool
 }
 
 // The content of the packet 61 that an event in that state writes, if it does.
-pub fn content_written(state: u8, v: Event, before: Traction, after: Traction) -> Option<Requested>
-    ensures { result ≡ written_content (state_at state) v (remembered_in before) (remembered_in after) }
+pub fn content_written(
+    state: State,
+    v: Event,
+    before: Traction,
+    after: Traction,
+) -> Option<Requested>
+    ensures { result ≡ written_content state v (remembered_in before) (remembered_in after) }
 {
     if changed(remembered_in(before), remembered_in(after)) {
-        made(State::from(state), v).map(|x| x.content)
+        made(state, v).map(|x| x.content)
     } else {
         None
     }

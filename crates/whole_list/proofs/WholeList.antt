@@ -11,10 +11,8 @@ use Rattle.wire.specs.Judged.{Judged, then_judge}
 use Rattle.wire.specs.Judged.Judged.{refuse, accept}
 use Rattle.engine_value.specs.Engine.{fresh, route_in}
 use Rattle.engine_value.specs.declared.Engine.{Engine}
-use Rattle.event.specs.Kinds.{kind_of, row_of}
+use Rattle.event.specs.Kinds.{Row, SwitchOn, Configure, SwitchOff, Fail, EngagePress, ByState, kind_of, row_of}
 use Rattle.event.specs.declared.Event.{Event}
-use Rattle.event.specs.declared.Row.{Row}
-use Rattle.event.specs.declared.Row.TheVariants.{SwitchOn, Configure, SwitchOff, Fail, EngagePress, ByState}
 use Rattle.event.proofs.Known.{OfRow, known}
 use Rattle.packets.specs.Packets.{packet_of, joined, cut, cut_packets}
 use Rattle.timing.specs.Report.{run}

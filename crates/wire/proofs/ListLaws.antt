@@ -1,14 +1,17 @@
 -- Laws of lists: tests over them, tables, and the tests for an order in the form of a loop that knows the element before.
 use Prim.Native.Nat.{ℕ, zero, suc, ◌+◌, ◌*◌, ◌≤◌, ◌<◌}
 use mathlib.Core.Path.{◌≡◌, refl, sym, ap, ◌∙◌}
-use mathlib.Core.List.{List, [], ◌∷◌, ◌++◌, map}
+use mathlib.Core.List.{List, [], ◌∷◌, ◌++◌}
 use mathlib.Core.Bool.{Bool, true, false, ◌&&◌, ◌||◌, and-true, and-false, and_assoc, false≢true}
 use native.Mathlib.Numerals.{add-one}
 use native.Mathlib.Omega.{arith}
-use lib.ListN.{length, get_or, take, drop, set, length-take, drop_of_length-le}
-use lib.Seq.{slice-cons, take-suc-set}
+use lib.ListN.{length, get_or, take, set}
+use lib.Seq.{take-suc-set}
 use lib.Dec.{eqb, ltb, leb}
 use borrow.Author.Tests.{eqb-true, lt-ltb, le-ltb, ltb-true, ltb-false, le-leb, leb-true}
+use Rattle.std.proofs.lemmas.List.Folds.{list_all-append}
+-- `map` of two lists; an element that is there is the same whatever stands for one that is not
+pub use Rattle.std.proofs.lemmas.List.{map-append, get_or_default as get_or-there}
 use Rattle.wire.specs.Lists.{All, any, every, same_numbers, tabulate, sum, falls, strictly_rises}
 
 -- ---- tests
@@ -21,12 +24,6 @@ pub and_right : (a b : Bool) → (a && b) ≡ true → b ≡ true
 and_right true b e = e
 and_right false b e = absurd (false≢true e)
 
-pub or-true-left : (a b : Bool) → a ≡ true → (a || b) ≡ true
-or-true-left a b e = rw e
-
-pub or-false-left : (a b : Bool) → a ≡ false → (a || b) ≡ b
-or-false-left a b e = rw e
-
 pub or-false : (a b : Bool) → (a || b) ≡ false → (a ≡ false) × (b ≡ false)
 or-false true b e = absurd (false≢true (sym e))
 or-false false b e = (refl, e)
@@ -36,29 +33,16 @@ pub any_false : {A : Type 0} (f : A → Bool) (l : List A) → any f l ≡ false
 any_false f [] e = tt
 any_false f (x ∷ xs) e = let h = or-false (f x) (any f xs) e in (h.0, any_false f xs h.1)
 
--- tests and functions that agree on each element
+-- tests that agree on each element
 module _ {A : Type 0} (P : A → Type 0) where
   pub any_same : (f g : A → Bool) → ((a : A) → P a → f a ≡ g a) → (l : List A) → All P l → any f l ≡ any g l
   any_same f g h [] p = refl
   any_same f g h (x ∷ xs) p = rw (h x p.0, any_same f g h xs p.1)
 
-  pub map_same : {B : Type 0} (f g : A → B) → ((a : A) → P a → f a ≡ g a) → (l : List A) → All P l → map f l ≡ map g l
-  map_same f g h [] p = refl
-  map_same f g h (x ∷ xs) p = rw (h x p.0, map_same f g h xs p.1)
-
 pub every_append : {A : Type 0} (f : A → Bool) (xs : List A) (y : A) → every f (xs ++ (y ∷ [])) ≡ (every f xs && f y)
-every_append f [] y = go (f y)
-  where
-    go : (b : Bool) → (b && true) ≡ b
-    go true = refl
-    go false = refl
-every_append f (x ∷ xs) y = rw (every_append f xs y) (go (f x) (every f xs) (f y))
-  where
-    go : (a b c : Bool) → (a && (b && c)) ≡ ((a && b) && c)
-    go true b c = refl
-    go false b c = refl
+every_append f xs y = rw (list_all-append, and-true (f y))
 
--- tests as code has them: one after the other, joined to those before
+-- tests as a loop has them: one after the other, joined to those before (docs/PORT.md names the two laws)
 abbrev pub every_from : {A : Type 0} → (A → Bool) → Bool → List A → Bool
 every_from f before [] = before
 every_from f before (x ∷ xs) = every_from f (before && f x) xs
@@ -86,10 +70,6 @@ same_equal (x ∷ xs) [] e = absurd (false≢true e)
 same_equal (x ∷ xs) (y ∷ ys) e = λ i. eqb-true x y (and_left (eqb x y) _ e) i ∷ same_equal xs ys (and_right (eqb x y) _ e) i
 
 -- ---- tables and sums
-
-pub map-append : {A B : Type 0} (f : A → B) (xs ys : List A) → map f (xs ++ ys) ≡ map f xs ++ map f ys
-map-append f [] ys = refl
-map-append {B = B} f (x ∷ xs) ys = ap (λ (l : List B). f x ∷ l) (map-append f xs ys)
 
 pub tabulate-length : {A : Type 0} (n : ℕ) (f : ℕ → A) → length (tabulate n f) ≡ n
 tabulate-length zero f = refl
@@ -176,29 +156,13 @@ rises_from_lem l = rises_after 0 l ∙ rw (all l)
     all [] = refl
     all (x ∷ xs) = rw (le-leb 0 x (omega arith), all xs)
 
--- ---- loops over the first n elements of an array
-
--- what is left of them from index i on
-module _ {A : Type 0} (d : A) (n i : ℕ) (l : List A) where
-  -- one element and those behind it
-  pub left_more : i < n → n ≤ length l → drop i (take n l) ≡ get_or l i d ∷ drop (i + 1) (take n l)
-  left_more h k = slice-cons i n l d h k ∙ ap (λ (m : ℕ). get_or l i d ∷ drop m (take n l)) (sym (add-one i))
-
-  -- none
-  pub left_none : n ≤ i → drop i (take n l) ≡ []
-  left_none h = drop_of_length-le (take n l) {i = i} (rw length-take (omega arith))
+-- ---- elements of an array
 
 -- what holds of each element holds of the one at an index
 pub all-at : {A : Type 0} (P : A → Type 0) (d : A) → P d → (xs : List A) (k : ℕ) → All P xs → P (get_or xs k d)
 all-at P d h [] k a = h
 all-at P d h (x ∷ xs) zero a = a.0
 all-at P d h (x ∷ xs) (suc k) a = all-at P d h xs k a.1
-
--- an element that is there is the same whatever stands for one that is not
-pub get_or-there : {A : Type 0} (l : List A) (k : ℕ) (d e : A) → k < length l → get_or l k d ≡ get_or l k e
-get_or-there [] k d e h = absurd (omega arith)
-get_or-there (x ∷ xs) zero d e h = refl
-get_or-there (x ∷ xs) (suc k) d e h = get_or-there xs k d e (omega arith)
 
 -- one more is stored
 pub one_more : {A : Type 0} (i : ℕ) (xs : List A) (a : A) → i < length xs → take (i + 1) (set xs i a) ≡ take i xs ++ (a ∷ [])

@@ -4,7 +4,7 @@ use Rattle.wire.specs.Numbers.{number, bytes_of, bit, flag, magnitude, Bytes}
 use Rattle.wire.specs.Lists.{All, any, every, those, same_numbers, tabulate, sum, twice, falls, strictly_rises}
 use Rattle.wire.specs.Judged.{Judged, then_judge, row, ◌>>=◌, ◌>>◌}
 use Rattle.wire.specs.Judged.Judged.{refuse, accept}
-use Rattle.std.specs.Prelude.{Result, Ok, Err}
+use Rattle.std.specs.Prelude.{Ok, Err}
 use Rattle.wire.specs.Refusals.{number_of}
 use Rattle.wire.specs.View.{judged as view}
 use Rattle.wire.specs.declared.Refusal.{Refusal}

@@ -5,12 +5,9 @@ use Rattle.std.proofs.lemmas.List.{length-map, map_push}
 use Rattle.wire.specs.declared.Refusal.{Refusal}
 use Rattle.segment_record.specs.View.{entry_view}
 use Rattle.book.specs.View.{book_view}
-use Rattle.book.proofs.Whole.{begins, refused, shorter, goes_on, pushed, some_left, over_refused, segment_refused, point_refused, accepted}
+use Rattle.book.proofs.Whole.{refused, goes_on, pushed, some_left, over_refused, segment_refused, point_refused, accepted}
 use Rattle.book.proofs.read_book.Goals as goal
 use Rattle.book.proofs.read_book.Goals.{then-over-via-then-over, then-over-via-else-over+then-name_twice, then-over-via-else-over+else-name_twice+then-point_twice}
-
-pub loop-rest-init : goal.loop-rest-init
-loop-rest-init c = rw c.new-book.ensures (begins c.args.s.now)
 
 pub returns-in_err-e : goal.returns-in_err-e
 returns-in_err-e c =
@@ -20,12 +17,6 @@ returns-in_err-e c =
     let form = rw c.in_err-e.ensures.ok_part at c.in_err-e.ensures.value in
     let row : c.in_err-e.field-0.0 ≡ Refusal.BookForm = cc in
     rw (p.1, p.2, row) (refused c.args.s.now c.loop-rest.rest.now (book_view c.loop-rest.book) c.loop-rest.over c.loop-rest.invariant l none)
-
-pub loop-rest-smaller : goal.loop-rest-smaller
-loop-rest-smaller c =
-    let l = some_left (length c.loop-rest.rest.now) c.loop-rest-test.ensures in
-    let some = rw c.in_ok-e.ensures.ok_part at c.read_segment.ensures in
-    shorter c.loop-rest.rest.now (entry_view c.in_ok-e.e) c.in_ok-e.behind.now l some
 
 pub loop-rest-preserved : goal.loop-rest-preserved
 loop-rest-preserved c =

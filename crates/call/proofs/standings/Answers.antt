@@ -1,5 +1,5 @@
 use Rattle.std.proofs.Common.{rules}
-use Rattle.segment_record.proofs.InArray.{from_fn_is}
+use Rattle.route.proofs.InArray.{from_fn_is}
 use Rattle.call.specs.Shown.{standing_in, standings_in}
 use Rattle.call.proofs.standings.Goals as goal
 

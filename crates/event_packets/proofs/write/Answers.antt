@@ -1,10 +1,10 @@
-use Rattle.std.proofs.Common.{◌≡◌, ◌∙◌, ap, rules, arith}
+use Rattle.std.proofs.Common.{◌≡◌, ◌∙◌, ap, rules}
 use Rattle.std.specs.Prelude.{option_map}
 use lib.Seq.{sets}
 use Rattle.engine_value.specs.Engine.{route_in}
 use Rattle.packets.specs.Packets.{joined}
 use Rattle.call_values.specs.Packets.{traction_brake, ato_status}
-use Rattle.event_packets.specs.View.{jp_received_view}
+use Rattle.event_packets.specs.View.{jp_received_view, packets_view}
 use Rattle.event_packets.proofs.Stored.{changed, put_all, in_kinds}
 use Rattle.event_packets.proofs.write.Goals as goal
 
@@ -17,5 +17,8 @@ returns c =
     let last : c.map-last.result ≡ option_map (changed e) w.changes.last = search rules in
     let requested : c.map-requested.result ≡ option_map (traction_brake (route_in e) e.train.position) w.requested = search rules in
     let status : c.map-status.result ≡ option_map (ato_status (route_in e) e.train.position e.control.state) w.status = search rules in
-    put_all _ _ _ _ _ _ _ _ _ _ _ _ _ _ _ _ _ _ _ c.put-points.ensures c.put-at.ensures c.put_passed-at.ensures c.put-at-2.ensures c.put-at-3.ensures c.put.ensures
+    let whole : c.put-5.new.self.memory.now ≡ sets c.args.out.now 0 (joined (packets_view e w)) =
+    put_all _ _ _ _ _ _ _ _ _ _ _ _ _ _ _ _ _ _ _ c.put.ensures.put c.put-2.ensures.put c.put_passed.ensures.put c.put-3.ensures.put c.put-4.ensures.put c.put-5.ensures.put
     ∙ ap (λ ps. sets c.args.out.now 0 (joined ps)) (rw (received, first, last, requested, status) (in_kinds e w))
+    in
+    search (rules, whole)

@@ -8,5 +8,5 @@ use Rattle.fields.proofs.read_counted.Given as goal
 abbrev pub invariant-loop : goal.invariant-loop
 invariant-loop g l = record {
   count : array_vec_len l.items ≡ l.counter;
-  whole : with_front l.items.items (many (l.n - l.counter) (g.I.Item.reader l.item) l.rest) ≡ many l.n (g.I.Item.reader l.item) l.initial.rest;
+  whole : with_front l.items.items (many (l.n - l.counter) g.I.Item.reader l.rest) ≡ many l.n g.I.Item.reader l.initial.rest;
 }
