@@ -4,7 +4,6 @@
 ghost use Rattle.std.specs.Prelude.{◌≡◌, ℕ, IfOk};
 ghost use Rattle.wire.specs.View.{judged_by};
 ghost use Rattle.engine_value.specs.declared.Engine as engine;
-ghost use Rattle.position.specs.Standing.{standing, behind};
 ghost use Rattle.event.specs.Kinds.{other, report, skip, load, role_of, carried};
 ghost use Rattle.call_values.specs.Rows.{offset_beyond};
 ghost use Rattle.call.specs.Effect.{route_after, train_with, inputs_with, values_only, power_off, position_effect, loaded_in, skip_effect};
@@ -187,13 +186,6 @@ pub fn report<'a>(o: &Occurrence) -> Result<Effect<'a>, Refusal>
 
 // ---- driver skips
 
-// Point k is reached or passed.
-fn is_behind(p: Progress, k: u8) -> bool
-    ensures { result ≡ behind (standing p k) }
-{
-    position::standing_of(p, k).is_behind()
-}
-
 // A driver skip, or its revocation.
 #[tactic(auto, unfolding(call::specs::Effect::skip_effect, timing::specs::Changes::passings), using(crate::proofs::Laws::carries_skip))]
 pub fn skip<'a>(o: &Occurrence, on: bool) -> Result<Effect<'a>, Refusal>
@@ -202,7 +194,9 @@ pub fn skip<'a>(o: &Occurrence, on: bool) -> Result<Effect<'a>, Refusal>
 {
     let e = o.engine;
     let stop = o.looked.stop.ok_or(Refusal::NoStop)?;
-    if is_behind(e.progress, stop.at) || stop.skipped == on {
+    // reached or passed
+    let behind = position::standing_of(e.progress, stop.at).is_behind();
+    if behind || stop.skipped == on {
         return Err(Refusal::Skip);
     }
     let status = if on {

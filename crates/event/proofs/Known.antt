@@ -1,13 +1,13 @@
 -- The table of the kinds read backwards: the event, from its row, its role or the value that it brings.
 use Prim.Native.Nat.{ℕ}
-use mathlib.Core.Path.{◌≡◌, refl, sym, ap, ◌∙◌}
-use mathlib.Core.Bool.{true, false, false≢true}
+use mathlib.Core.Path.{◌≡◌, refl}
+use mathlib.Core.Bool.{true, false}
 use Rattle.std.specs.Prelude.{Option, Some, None}
 use lib.Dec.{eqb}
 use Rattle.engine_value.specs.Engine.{mode}
 use Rattle.engine_value.specs.declared.Position.{Position}
 use Rattle.event.specs.Kinds.{Row, SwitchOn, Configure, SwitchOff, Fail, EngagePress, ByState}
-use Rattle.event.specs.Kinds.{Role, off, load, report, other, skip, is_report, newer, Kind, kind, role_of, bringing, carried}
+use Rattle.event.specs.Kinds.{Role, off, load, report, other, skip, Kind, kind, bringing, carried}
 use Rattle.event.specs.declared.TractionRequest.{TractionRequest}
 use Rattle.event.specs.declared.Event.{Event}
 
@@ -71,11 +71,3 @@ traction-of e = (known e).traction
 
 pub position_of : (e : Event) → OfPosition (carried e).position e
 position_of e = (known e).position
-
--- only a position report changes the position
-pub position_kept : (e : Event) (x : Position) → is_report (role_of e) ≡ false → newer (carried e).position x ≡ x
-position_kept e x h = go (carried e).position (position_of e)
-  where
-    go : (y : Option Position) → OfPosition y e → newer y x ≡ x
-    go None k = refl
-    go (Some y) k = absurd (false≢true (sym h ∙ ap (λ v. is_report (role_of v)) k))

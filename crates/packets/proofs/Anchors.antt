@@ -12,6 +12,7 @@ in_bytes = record {
   stop = record { bytes = refl; reads = refl; size = refl };
   point = record { bytes = refl; reads = refl; size = refl };
   ended = record { bytes = refl; reads = refl; size = refl };
+  status_numbers = refl;
   journey = record { bytes = refl; reads = refl; size = refl };
   status = record { bytes = refl; reads = refl; size = refl };
   traction = record { bytes = refl; reads = refl; size = refl };

@@ -6,8 +6,10 @@ use Rattle.status_word.specs.Word.{conditions_of}
 use Rattle.status_word.specs.Anchors.{five, nine}
 use Rattle.packets.specs.Layouts.{content_at, unknown_nidc}
 use Rattle.packets.specs.Packets.{packet_bytes, joined, size_of, packet_of, written_count, written_memory, size_at, front_size, cut_packets}
+use Rattle.packets.specs.View.{status_number}
 use Rattle.packets.specs.declared.Header.{Header}
 use Rattle.packets.specs.declared.Packet.{Packet}
+use Rattle.packets.specs.declared.PointStatus.{PointStatus}
 
 -- ---- packets and their bytes
 
@@ -103,6 +105,8 @@ pub record InBytes : Type 0 where
   -- 1 + 2 × 2 + 8 × 1; "(0 passed, 1 stopped, 2 departed, 5 driver skip, 6 skip revoked)"
   pub point : Worked (timing_point 1 2 1 0x55) (timing_point_bytes 0x0D 0x55)
   pub ended : Worked (timing_point 0 1 2 0) (timing_point_bytes 0x12 0x00)
+  pub status_numbers : map status_number (PointStatus.Passed ∷ PointStatus.Stopped ∷ PointStatus.Departed ∷ PointStatus.Skipped ∷ PointStatus.Revoked ∷ [])
+      ≡ 0 ∷ 1 ∷ 2 ∷ 5 ∷ 6 ∷ []
   pub journey : Worked jp_received jp_received_bytes
   -- 5 + 32 + 64 + 512 + 2,048 + 4,096
   pub status : Worked (ato_status 5 five) ato_status_bytes
