@@ -134,7 +134,8 @@ begin
    Call ((Kind_Mode, Mode_Other));
    Position (39_900, 0);                  --  P7: the stop is reached
    Show;
-   Position (39_900, 50);                 --  departed
+   Position (40_150, 50);                 --  a creep within R 150: still reached
+   Position (40_151, 50);                 --  beyond R: departed
    Position (90_001, 50);                 --  P6: 7002 is passed
    Show;
    Show_Damaged_Packets;

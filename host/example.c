@@ -107,7 +107,8 @@ int main(void) {
     call(mode_other, sizeof mode_other);
     position(39900, 0); /* P7: the stop is reached */
     show();
-    position(39900, 50); /* departed */
+    position(40150, 50); /* a creep within R 150: still reached */
+    position(40151, 50); /* beyond R: departed */
     position(90001, 50); /* P6: 7002 is passed */
     show();
     damaged_packets();

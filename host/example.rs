@@ -107,7 +107,8 @@ fn main() {
     call(&mut e, &[KIND_MODE, MODE_OTHER]);
     position(&mut e, 39_900, 0); // P7: the stop is reached
     show(&e);
-    position(&mut e, 39_900, 50); // departed
+    position(&mut e, 40_150, 50); // a creep within R 150: still reached
+    position(&mut e, 40_151, 50); // beyond R: departed
     position(&mut e, 90_001, 50); // P6: 7002 is passed
     show(&e);
     damaged_packets();

@@ -10,7 +10,7 @@ package Hollwern is
    --  The version of these declarations; Linked_Version tells that of the archive. They must be equal.
    Version_Major : constant := 1;
    Version_Minor : constant := 1;
-   Version_Patch : constant := 0;
+   Version_Patch : constant := 1;
    Version : constant := Version_Major * 65_536 + Version_Minor * 256 + Version_Patch;
 
    --  Bytes of an engine.

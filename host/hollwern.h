@@ -38,7 +38,7 @@
 /* The version of these declarations; hollwern_version tells that of the archive. They must be equal. */
 #define HOLLWERN_VERSION_MAJOR 1
 #define HOLLWERN_VERSION_MINOR 1
-#define HOLLWERN_VERSION_PATCH 0
+#define HOLLWERN_VERSION_PATCH 1
 #define HOLLWERN_VERSION (HOLLWERN_VERSION_MAJOR * 65536 + HOLLWERN_VERSION_MINOR * 256 + HOLLWERN_VERSION_PATCH)
 
 /* Bytes of an engine; its alignment is 4. */

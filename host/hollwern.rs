@@ -11,7 +11,7 @@ compile_error!("hollwern.rs: libhollwern.a is for x86-64 Linux only");
 /// The version of these declarations; `version` tells that of the archive. They must be equal.
 pub const VERSION_MAJOR: u32 = 1;
 pub const VERSION_MINOR: u32 = 1;
-pub const VERSION_PATCH: u32 = 0;
+pub const VERSION_PATCH: u32 = 1;
 pub const VERSION: u32 = VERSION_MAJOR * 65_536 + VERSION_MINOR * 256 + VERSION_PATCH;
 
 /// Bytes of an engine.

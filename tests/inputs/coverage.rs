@@ -1,7 +1,7 @@
 //! Counts what the lists of calls bring up.
 
 use model::calls::Call;
-use model::engine::{Answer, Engine, Traction, DE, EG, NP};
+use model::engine::{behind_front, Answer, Engine, Traction, DE, EG, NP};
 use model::events::{LOAD, POSITION_REPORT, TRACTION, UNDEFINED};
 use model::packets::{split_packets, Content, Packet};
 use model::route::Segment;
@@ -22,6 +22,19 @@ pub struct Coverage {
     /// From the range that was remembered, if one was, to that of the request.
     jumps: BTreeMap<(Option<u8>, u8), usize>,
     situations: BTreeMap<&'static str, usize>,
+    /// The stop that is reached was crept at.
+    crept: bool,
+}
+
+/// How far the train is beyond the first point not passed, which is placed, and the point's R; `None` unless the
+/// position is known.
+fn beyond_first(engine: &Engine) -> Option<(i64, i64)> {
+    let (now, route) = (&engine.now, &engine.route);
+    let segment = &route.segments()[..usize::from(route.placed_segments)].get(usize::from(now.segment?))?;
+    let point = &route.points()[usize::from(now.first)];
+    let front = i64::from(segment.start) + i64::from(now.position.offset);
+    let d = front - i64::from(behind_front(now.length, point.alignment)) - i64::from(point.place);
+    (now.position.offset <= segment.length).then_some((d, i64::from(point.reach)))
 }
 
 impl Coverage {
@@ -38,6 +51,7 @@ impl Coverage {
                 *self.moves.entry((before.now.state, state)).or_default() += 1;
                 split_packets(&out[..bytes]).iter().for_each(|packet| self.count_packet(packet));
                 self.count_situations(call.event[0], before, after);
+                self.count_creeps(call.event[0], before, after, bytes);
                 self.count_traction(call.event[0], before, after, bytes);
             }
         }
@@ -74,6 +88,26 @@ impl Coverage {
         note("within a zone", now.conditions & 0x80 == 0);
         note("driver skip in force", now.skips != 0);
         note("reached stop held in EG", now.reached && now.state == EG);
+    }
+
+    /// Reports at a reached stop, by document 02: one that does not depart writes no other packet than 68.
+    fn count_creeps(&mut self, kind: u8, before: &Engine, after: &Engine, bytes: usize) {
+        let (was, now) = (&before.now, &after.now);
+        let report = kind == POSITION_REPORT && was.reached;
+        let stays = report && now.first == was.first;
+        let creeps = stays && now.speed > 0;
+        let place = if stays { beyond_first(after) } else { None };
+        let mut note = |name, holds: bool| *self.situations.entry(name).or_default() += usize::from(holds);
+        note("crept within R", creeps && place.is_some_and(|(d, reach)| -reach <= d && d <= reach));
+        note("crept behind -R", creeps && place.is_some_and(|(d, reach)| d < -reach));
+        note("crept, position unknown", creeps && place.is_none());
+        note("stood beyond R, still reached", stays && now.speed == 0 && place.is_some_and(|(d, reach)| d > reach));
+        note("68 at the start of a creep", creeps && was.speed == 0 && bytes > 0);
+        note("creep begun in EG, no 68", creeps && was.speed == 0 && now.state == EG && bytes == 0);
+        note("departed", report && now.first > was.first);
+        note("departed after a creep", report && now.first > was.first && self.crept);
+        note("load after a creep", kind == LOAD && self.crept);
+        self.crept = now.reached && (creeps || self.crept);
     }
 
     /// What is remembered of traction requests, and whether packet 61 is written: a request writes no other.

@@ -1,6 +1,7 @@
 //! A long fixed list of calls at the edges that document 01 names and one beside. Each case begins with power on and ends
 //! with power off.
 
+use crate::creeps::creeps;
 use crate::faults::good_events;
 use crate::profiles::{base, ending, greatest_values, one_segment, p_journey, passing, record, stop};
 use crate::script::{Script, Start, STARTS};
@@ -69,7 +70,8 @@ fn places_around(reach: i64) -> Vec<i64> {
     places
 }
 
-/// d about −R, 0 and R for each alignment, with even and odd train length, for reports and for loads.
+/// d about −R, 0 and R for each alignment, with even and odd train length, for reports and for loads; then a creep to R,
+/// and the departure.
 fn distances(script: &mut Script) {
     for (alignment, length) in
         [(None, 200), (Some(0), 201), (Some(1), 200), (Some(1), 201), (Some(2), 201), (Some(2), 100_000)]
@@ -80,6 +82,7 @@ fn distances(script: &mut Script) {
             let point = JourneyPoint { alignment, stop: is_stop, skipped, stopping: Some(9), ..passing(7001, 0) };
             let profiles = one_segment(&[(point, 400_000, 150)]);
             let shift = behind_front(length, alignment.unwrap_or(0));
+            let beyond = 400_000 + shift + 151;
             script.on().length(length);
             for d in places_around(150) {
                 let front = (400_000 + i64::from(shift) + d) as u32;
@@ -87,8 +90,8 @@ fn distances(script: &mut Script) {
                 if driver {
                     script.skip(7001);
                 }
-                script.at(front, 0).at(front, 1);
-                script.load(&profiles).at(front, 0);
+                script.at(front, 0).at(front, 1).load(&profiles).at(front, 0);
+                script.at(beyond - 1, 1).at(beyond, 1);
             }
             script.off();
         }
@@ -101,7 +104,7 @@ fn reaches(script: &mut Script) {
         for d in places_around(i64::from(reach)) {
             let profiles = one_segment(&[(stop(7001, 0), 20_000, reach), (ending(passing(7002, 0)), 90_000, 3)]);
             script.on().load(&profiles).at((20_000 + d) as u32, 65_535).at((20_000 + d) as u32, 0);
-            script.at((20_000 + d) as u32, 1).off();
+            script.at((20_000 + d) as u32, 1).at(20_000 + u32::from(reach) + 1, 1).off();
         }
     }
 }
@@ -127,19 +130,8 @@ fn many_points(script: &mut Script) {
     script.position(1023, 0xFFFF_FF00 + 39, 16_777_214, 0).off();
 }
 
-/// A departure with and without a known position; a reached stop keeps still at speed 0 wherever the train is.
-fn departures(script: &mut Script) {
-    let profiles = p_journey();
-    for moved in [Call::position(17, 500, 40_000, 1), Call::position(17, 500, UNDEFINED, 1), Call::position(1, 1, 5, 9)]
-    {
-        script.on().load(&profiles).at(40_000, 0).at(39_000, 0).at(90_001, 0).nowhere();
-        script.call(moved.clone()).at(90_001, 0).at(90_002, 4).off();
-    }
-    script.on().load(&profiles).at(40_000, 0).at(90_001, 1).off();
-    script.on().load(&profiles).at(40_000, 0).at(39_000, 1).at(40_000, 0).off();
-}
-
-/// A load between stop and departure: targeted again, reached again, also engaged; then one that lacks the stop.
+/// A load between stop and departure: targeted again, reached again, crept at and departed, also engaged; then one that
+/// lacks the stop.
 fn loads_at_the_platform(script: &mut Script) {
     let profiles = p_journey();
     let mut skipped = profiles.clone();
@@ -149,7 +141,8 @@ fn loads_at_the_platform(script: &mut Script) {
     let mut bare = profiles.clone();
     bare.book.clear();
     for next in [&profiles, &skipped, &gone, &bare] {
-        script.on().load(&profiles).at(40_000, 0).load(next).at(40_000, 0).at(40_000, 5).at(40_100, 0).off();
+        script.on().load(&profiles).at(40_000, 0).load(next).at(40_000, 0).at(40_000, 5).at(40_151, 5);
+        script.at(40_100, 0).off();
         script
             .start(Start::Ready)
             .at(40_000, 0)
@@ -158,6 +151,7 @@ fn loads_at_the_platform(script: &mut Script) {
             .load(next)
             .at(40_000, 0)
             .at(40_000, 5)
+            .at(40_151, 5)
             .mode(0)
             .off();
         script
@@ -168,6 +162,7 @@ fn loads_at_the_platform(script: &mut Script) {
             .load(&profiles)
             .at(40_100, 0)
             .at(40_101, 1)
+            .at(40_151, 1)
             .off();
         script.on().load(&profiles).at(40_150, 0).load(next).at(40_151, 0).load(&profiles).off();
     }
@@ -281,7 +276,7 @@ fn skips(script: &mut Script) {
     for nidtp in [7001, 7002, 7003, 7004, 7005, 7007, 7008, 6000, 0, u32::MAX] {
         script.revoke(nidtp).skip(nidtp).skip(nidtp).revoke(nidtp).revoke(nidtp);
     }
-    script.skip(7001).at(40_000, 0).revoke(7001).at(40_000, 0).skip(7001).revoke(7001).at(40_000, 1);
+    script.skip(7001).at(40_000, 0).revoke(7001).at(40_000, 0).skip(7001).revoke(7001).at(40_151, 1);
     script.skip(7001).revoke(7001).skip(7003).position(17, 501, 10_000, 0).revoke(7003).position(17, 501, 10_001, 0);
     script.skip(7003).skip(7004).load(&base).revoke(7004).skip(7007).off();
     script.on().revoke(7007).load(&base).revoke(7007).skip(7001).at(40_001, 0).at(40_000, 0).off();
@@ -383,7 +378,7 @@ pub fn all_edges() -> Vec<Call> {
         distances,
         reaches,
         many_points,
-        departures,
+        creeps,
         loads_at_the_platform,
         segments,
         length_of_unplaced,

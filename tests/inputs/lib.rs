@@ -1,6 +1,7 @@
 //! What the engine is called with: fixed lists of calls and guided random ones, and a count of what they bring up.
 
 pub mod coverage;
+mod creeps;
 pub mod edges;
 mod faults;
 mod journeys;

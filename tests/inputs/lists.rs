@@ -272,6 +272,9 @@ impl Generator {
         if self.engine.route.segments().is_empty() || !now.loaded {
             return Call::position(17, 500, self.random.between(0, 60_000), speed);
         }
+        if now.reached && self.random.chance(55) {
+            return self.leave();
+        }
         match self.random.weighed(&[62, 12, 6, 8, 4, 4, 4]) {
             0 => self.near_point(usize::from(now.first), speed),
             1 => self.advance(speed),
@@ -286,11 +289,11 @@ impl Generator {
         }
     }
 
-    /// d at the edges of a point's reach, by the train length as it stands.
+    /// d at the edges of a point's reach.
     fn near_point(&mut self, k: usize, speed: u16) -> Call {
         let points = self.engine.route.points();
-        let point = points[k.min(points.len() - 1)];
-        let reach = i64::from(point.reach);
+        let k = k.min(points.len() - 1);
+        let reach = i64::from(points[k].reach);
         let any = i64::from(self.random.between(0, 4_000)) - 3_000;
         let d = match self.random.weighed(&[10, 10, 16, 10, 10, 6, 22, 16]) {
             0 => -reach - 1,
@@ -302,6 +305,30 @@ impl Generator {
             6 => any,
             _ => -i64::from(self.random.between(0, 20_000)),
         };
+        self.at_distance(k, d, speed)
+    }
+
+    /// At the reached stop: a departure, at R + 1 or further, a halt there, or a creep, which is neither.
+    fn leave(&mut self) -> Call {
+        let speed = self.random.pick(&[1, 1, 500, 65_535]);
+        let now = self.engine.now;
+        let k = usize::from(now.first);
+        let reach = i64::from(self.engine.route.points()[k].reach);
+        let further = i64::from(self.random.between(0, 20_000));
+        match self.random.weighed(&[30, 34, 12, 6, 6, 6, 6]) {
+            0 => self.at_distance(k, reach + 1, speed),
+            1 => self.at_distance(k, reach + 1 + further, speed),
+            2 => self.at_distance(k, reach + 1 + further, 0),
+            3 => self.at_distance(k, reach, speed),
+            4 => self.at_distance(k, -reach - 1, speed),
+            5 => Call::position(now.position.nidc, now.position.nidsp, UNDEFINED, speed),
+            _ => self.elsewhere(speed),
+        }
+    }
+
+    /// The train so far beyond a point, by its length as it stands.
+    fn at_distance(&mut self, k: usize, d: i64, speed: u16) -> Call {
+        let point = self.engine.route.points()[k];
         let shift = behind_front(self.engine.now.length, point.alignment);
         self.at_front(i64::from(point.place) + i64::from(shift) + d, speed)
     }

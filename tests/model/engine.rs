@@ -302,7 +302,7 @@ impl Now {
             return Ok(Changes::None);
         }
         let from = self.first;
-        let departed = self.reached && speed > 0;
+        let departed = self.reached && speed > 0 && self.beyond_reach(route);
         if departed {
             self.first += 1;
             self.reached = false;
@@ -314,6 +314,12 @@ impl Now {
             self.reached = reached;
         }
         Ok(Changes::Report { from, to: self.first, departed, reached })
+    }
+
+    /// The position is known, and the first point not passed, which is reached, has d > R.
+    fn beyond_reach(&self, route: &Route) -> bool {
+        let point = &route.points()[usize::from(self.first)];
+        self.front(route).is_some_and(|front| self.distance(front, point) > i32::from(point.reach))
     }
 
     /// The first point not passed is a placed, unskipped stop with d ≥ −R.

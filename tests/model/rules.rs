@@ -1,6 +1,6 @@
-//! The history rule and the engagement rule of document 01 and the range of document 02, read literally over the
-//! accepted events, and the States rows run over the conditions that follow from them. Nothing here looks at an engine,
-//! but for the comparison at the end.
+//! The history rule and the engagement rule of document 01, with the departure and the range of document 02,
+//! read literally over the accepted events, and the States rows run over the conditions that follow from them. Nothing
+//! here looks at an engine, but for the comparison at the end.
 
 use crate::calls::Call;
 use crate::engine::{Engine, Standing, AV, CO, DE, EG, FA, NA, NP, RE};
@@ -126,6 +126,11 @@ impl Values {
         self.unskipped_stop(point) && self.speed == 0 && near
     }
 
+    /// "A reached stop is now departed only by a report with speed above 0, a known position and d greater than R."
+    fn departs_from(&self, point: &JourneyPoint) -> bool {
+        self.speed > 0 && self.distance(point).is_some_and(|(d, reach)| d > reach)
+    }
+
     /// How many points the load just accepted puts behind.
     fn put_behind(&self, load: &Load) -> usize {
         load.journey.points.iter().take_while(|point| self.beyond(point)).count()
@@ -184,7 +189,7 @@ fn passing(moments: &[Moment], from: usize, point: &JourneyPoint) -> (Option<usi
         None => (None, false),
         Some((k, true)) => (Some(k), false),
         Some((k, false)) => {
-            let departs = |&later: &usize| moments[later].is_report() && moments[later].values.speed > 0;
+            let departs = |&later: &usize| moments[later].is_report() && moments[later].values.departs_from(point);
             ((k + 1..moments.len()).find(departs), true)
         }
     }

@@ -26,7 +26,7 @@ use Rattle.journey.specs.declared.Head.{Head}
 use Rattle.route.specs.Route.{LoadValue, load_of}
 use Rattle.position.specs.Position.{point_count, placed, known}
 use Rattle.timing.specs.Distance as distance
-use Rattle.timing.specs.Distance.{report_from, beyond, moving}
+use Rattle.timing.specs.Distance.{report_from, beyond, leaves}
 use Rattle.timing.specs.Report.{following, looked, looked_from, departs, first_looked, reported, became_reached}
 use Rattle.timing.specs.Changes.{change, passings, when, changes_of, report_changes, status_departed, status_stopped}
 use Rattle.position.specs.Standing.{standing, behind}
@@ -69,10 +69,10 @@ module _ (j : Route) (r : distance.Report) (p : Progress) where
   after_most : (k : ℕ) → (looked_from j r k).next - k ≤ 64
   after_most k = omega (arith, next-most j r (point_count j - k) k)
 
-  passed_most : (reported j r p).next - first_looked r p ≤ 64
-  passed_most = go p.reached refl (moving r) refl
+  passed_most : (reported j r p).next - first_looked j r p ≤ 64
+  passed_most = go p.reached refl (leaves j r p.next) refl
     where
-      go : (a : Bool) → p.reached ≡ a → (b : Bool) → moving r ≡ b → (reported j r p).next - first_looked r p ≤ 64
+      go : (a : Bool) → p.reached ≡ a → (b : Bool) → leaves j r p.next ≡ b → (reported j r p).next - first_looked j r p ≤ 64
       go false e b f = rw (reported_looks j r p e, e) (after_most p.next)
       go true e false f = rw (reported_stays j r p e f, e, f) (omega arith)
       go true e true f = rw (reported_departs j r p e f, e, f) (after_most (following p.next))
@@ -80,7 +80,7 @@ module _ (j : Route) (r : distance.Report) (p : Progress) where
   changes_most : length (report_changes j r p) ≤ 66
   unfolding report_changes
   changes_most =
-      let a = length-when (departs r p) (change p.next status_departed (progress (first_looked r p) false)) in
+      let a = length-when (departs j r p) (change p.next status_departed (progress (first_looked j r p) false)) in
       let b = length-when (became_reached j r p) (change (reported j r p).next status_stopped (reported j r p)) in
       simp (length-append, length-passings) (omega (arith, passed_most, a, b))
 

@@ -32,6 +32,7 @@ further = record {
   revoking = record { answer = refl; memory = refl };
   unreached = refl;
   stop = record { answer = refl; memory = refl };
+  creeps = record { answer = refl; memory = refl };
   leaves = record { answer = refl; memory = refl };
   ends = record { answer = refl; memory = refl };
   refused = refl;

@@ -184,8 +184,10 @@ pub record Further : Type 0 where
   pub unreached : standing (after_each ahead (skip 7001 ∷ at 39900 0 ∷ [])).progress 0 ≡ Targeted
   -- "half rounded down for middle"; "stopping data (1; 0 unless status 1)"; "0 once the End of Journey is reached or passed"
   pub stop : Gives (step_of full (at 40350 0)) 1 false (packet 62 40350 0 0x12345678 (point 7001 0x0B 0x55) ++ packet 68 40350 0 0x12345678 (0x0D ∷ 0xC1 ∷ []))
-  pub leaves : Gives (step_of (after_each full (at 40350 0 ∷ [])) (at 40351 1)) 1 false
-      (packet 62 40351 1 0x12345678 (point 7001 0x13 0x00) ++ packet 68 40351 1 0x12345678 (0x0D ∷ 0xC1 ∷ []))
+  -- 02, Q-3: "only by a report with speed above 0, a known position and d greater than R": the middle is 500 behind the front, R is 150
+  pub creeps : Gives (step_of (after_each full (at 40350 0 ∷ [])) (at 40650 1)) 1 false (packet 68 40650 1 0x12345678 (0x0D ∷ 0xC1 ∷ []))
+  pub leaves : Gives (step_of (after_each full (at 40350 0 ∷ [])) (at 40651 1)) 1 false
+      (packet 62 40651 1 0x12345678 (point 7001 0x13 0x00) ++ packet 68 40651 1 0x12345678 (0x0D ∷ 0xC1 ∷ []))
   pub ends : Gives (step_of full (at 90000 0)) 1 false
       (packet 62 90000 0 0x12345678 (point 7001 0x03 0x00) ++ (packet 62 90000 0 0x12345678 (point 7002 0x08 0x00) ++ packet 68 90000 0 0x12345678 (0x0D ∷ 0x81 ∷ [])))
   -- "Every refusal returns the number only and changes neither engine nor memory": a press in CO; a memory of one byte less than its packet

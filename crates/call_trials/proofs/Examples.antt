@@ -99,6 +99,7 @@ refused_later = record {
   skip_of_FFFFFFFF = refl;
   skip_with_no_journey = refl;
   skip_of_a_reached = refl;
+  skip_crept_at = refl;
   skip_of_a_passed = refl;
   skip_given_lem = refl;
   none_to_revoke = refl;
@@ -195,7 +196,11 @@ points = record {
   past_margin = record { answer = refl; memory = refl };
   still_reached = record { answer = refl; memory = refl };
   departs = record { answer = refl; memory = refl };
-  departs_unknown = record { answer = refl; memory = refl };
+  creeps = record { answer = refl; memory = refl };
+  creeps_on = record { answer = refl; memory = refl };
+  creeps_unknown = record { answer = refl; memory = refl };
+  creeps_in_C = record { answer = refl; memory = refl };
+  departs_later = record { answer = refl; memory = refl };
   departs_and_passes = record { answer = refl; memory = refl };
   middle = record { answer = refl; memory = refl };
   middle_passed = record { answer = refl; memory = refl };

@@ -125,6 +125,7 @@ pub record RefusedLater : Type 0 where
   pub skip_with_no_journey : Refuses on (skip 7001) 14
   -- "15 point reached or passed, driver skip already given, or no driver skip to revoke (a trackside skip counts for neither)"
   pub skip_of_a_reached : Refuses stopped (skip 7001) 15
+  pub skip_crept_at : Refuses (after_each stopped (report (in_a undefined 1) ∷ [])) (skip 7001) 15
   pub skip_of_a_passed : Refuses near_b (skip 7001) 15
   pub skip_given_lem : Refuses (after_each started (skip 7001 ∷ [])) (skip 7001) 15
   pub none_to_revoke : Refuses started (revoke 7001) 15
@@ -255,14 +256,19 @@ pub record Points : Type 0 where
   pub past_margin : Gives (step_of started (report (in_a 20151 0))) 1 false
       (packet 62 (in_a 20151 0) (point 17 7001 0x01 0x00)
       ++ packet 68 (in_a 20151 0) (0x0D ∷ 0xC1 ∷ []))
-  -- "(a) a reached point, speed above 0: departed, it is passed": a departure needs no known position; at speed 0 it stays reached
+  -- "(a) a reached point ..: departed, it is passed", 02, Q-3, "only by a report with speed above 0, a known position and d greater than R"
+  pub departs : Gives (step_of stopped (report (in_a 20151 1))) 1 false
+      (packet 62 (in_a 20151 1) (point 17 7001 0x11 0x00)
+      ++ packet 68 (in_a 20151 1) (0x0D ∷ 0xC1 ∷ []))
+  -- "Until then .. it stays reached, also behind −R or with an undefined position"; each start from speed 0 writes 68, and it alone
   pub still_reached : Gives (step_of stopped (report (in_a 30000 0))) 1 false []
-  pub departs : Gives (step_of stopped (report (in_a 19900 1))) 1 false
-      (packet 62 (in_a 19900 1) (point 17 7001 0x11 0x00)
-      ++ packet 68 (in_a 19900 1) (0x0D ∷ 0xC1 ∷ []))
-  pub departs_unknown : Gives (step_of stopped (report (in_a undefined 1))) 1 false
-      (packet 62 (in_a undefined 1) (point 17 7001 0x11 0x00)
-      ++ packet 68 (in_a undefined 1) (0x09 ∷ 0xC1 ∷ []))
+  pub creeps : Gives (step_of stopped (report (in_a 20150 1))) 1 false (packet 68 (in_a 20150 1) (0x0D ∷ 0xC1 ∷ []))
+  pub creeps_on : Gives (step_of (after_each stopped (report (in_a 20150 1) ∷ [])) (report (in_a 19849 2))) 1 false []
+  pub creeps_unknown : Gives (step_of stopped (report (in_a undefined 1))) 1 false (packet 68 (in_a undefined 1) (0x09 ∷ 0xC1 ∷ []))
+  pub creeps_in_C : Gives (step_of stopped (report (in_c 5 1))) 1 false (packet 68 (in_c 5 1) (0x0D ∷ 0xC1 ∷ []))
+  pub departs_later : Gives (step_of (after_each stopped (report (in_a undefined 1) ∷ report (in_a 30000 0) ∷ [])) (report (in_a 30000 1))) 1 false
+      (packet 62 (in_a 30000 1) (point 17 7001 0x11 0x00)
+      ++ packet 68 (in_a 30000 1) (0x0D ∷ 0xC1 ∷ []))
   pub departs_and_passes : Gives (step_of stopped (report (in_a 40501 1))) 1 false
       (packet 62 (in_a 40501 1) (point 17 7001 0x11 0x00)
       ++ (packet 62 (in_a 40501 1) (point 17 7002 0x03 0x00)

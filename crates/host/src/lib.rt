@@ -23,7 +23,7 @@ const MAJOR: u32 = 1;
 
 const MINOR: u32 = 1;
 
-const PATCH: u32 = 0;
+const PATCH: u32 = 1;
 
 // State, request and bytes written, where accepted; else the number of the row that refuses. The fields of the other case are 0: one struct for
 // both, since an exported function can hand over no enum.

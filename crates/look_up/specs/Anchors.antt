@@ -43,7 +43,8 @@ pub record Anchors : Type 0 where
   -- a position report moves the points, with the engine's train length and driver skips; another event none
   pub report_passes : report_as report engine (at 33 500 10302 1) ≡ brings (progress 3 false) 0 false false
   pub report_reaches : report_as report engine (at 17 500 40000 0) ≡ brings (progress 0 true) 0 false true
-  pub report_departs : report_as report (engine_at (at 17 500 40000 0) 0 true) (at 17 500 40000 1) ≡ brings (progress 1 false) 1 true false
+  pub report_creeps : report_as report (engine_at (at 17 500 40000 0) 0 true) (at 17 500 40150 1) ≡ brings (progress 0 true) 0 false false
+  pub report_departs : report_as report (engine_at (at 17 500 40000 0) 0 true) (at 17 500 40151 1) ≡ brings (progress 1 false) 1 true false
   pub report_skipped : report_as report engine (at 33 500 40150 0) ≡ brings (progress 3 false) 0 false false
   pub no_reports : map (λ r. (report_as r engine (at 33 500 10302 1)).progress.next) (report ∷ load ∷ other ∷ skip 7001 true ∷ []) ≡ 3 ∷ 0 ∷ 0 ∷ 0 ∷ []
   pub no_report_lem : report_as other (engine_at (at 17 500 40000 0) 0 true) (at 33 500 10302 1) ≡ brings (progress 0 true) 0 false false

@@ -1,7 +1,7 @@
 -- By computation.
 use mathlib.Core.Path.{refl}
 use Rattle.position.specs.Position.{front}
-use Rattle.timing.specs.Distance.{beyond, at_stop}
+use Rattle.timing.specs.Distance.{beyond, at_stop, leaves}
 use Rattle.timing.specs.Load.{target_from, target}
 use Rattle.timing.specs.Report.{looked, reported, run}
 use Rattle.timing.specs.Changes.{passings, report_changes}
@@ -9,7 +9,7 @@ use Rattle.timing.specs.Rule.{departing, through, point_outcome, standing_by_rep
 use Rattle.timing.specs.Anchors.{Anchors}
 
 pub anchors : Anchors
-unfolding front beyond at_stop target_from target looked reported run passings report_changes departing through point_outcome standing_by_reports
+unfolding front beyond at_stop leaves target_from target looked reported run passings report_changes departing through point_outcome standing_by_reports
 anchors = record {
   behind_front = refl;
   d_front = refl;
@@ -21,6 +21,9 @@ anchors = record {
   margins_skipped = refl;
   exceeds_R = refl;
   exceeds_0 = refl;
+  exceeds_reach_front = refl;
+  exceeds_reach_rear = refl;
+  exceeds_reach_middle = refl;
   stops_R = refl;
   stops_still = refl;
   stops_skipping = refl;
@@ -32,6 +35,10 @@ anchors = record {
   at_stop_not = refl;
   at_stop_length = refl;
   moves = refl;
+  leaving = refl;
+  leaving_not = refl;
+  leaving_skipped = refl;
+  leaving_length = refl;
   of_engine = refl;
   skips_of_engine = refl;
   load_R = refl;
@@ -54,6 +61,12 @@ anchors = record {
   reaches_later = refl;
   departing = refl;
   staying = refl;
+  staying_first = refl;
+  staying_next = refl;
+  departing_last = refl;
+  departing_64th = refl;
+  rule_last = refl;
+  rule_64th = refl;
   next_point = refl;
   became = refl;
   became_stays = refl;
@@ -78,7 +91,9 @@ anchors = record {
   rule_reached = refl;
   rule_first = refl;
   rule_stays = refl;
+  rule_creeps = refl;
   rule_departs = refl;
+  rule_departs_length = refl;
   rule_from = refl;
   rule_restarts = refl;
   rule_passes_on = refl;

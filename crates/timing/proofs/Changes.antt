@@ -13,10 +13,10 @@ use Rattle.wire.proofs.ListLaws.{and_left, and_right}
 use Rattle.engine_value.specs.Engine.{Route, progress}
 use Rattle.engine_value.specs.declared.Progress.{Progress}
 use Rattle.position.specs.Position.{point_count, placed, known}
-use Rattle.timing.specs.Distance.{Report, beyond, at_stop, moving}
-use Rattle.timing.specs.Report.{looked, looked_from, departs, stays, first_looked, reported, became_reached}
+use Rattle.timing.specs.Distance.{Report, beyond, at_stop, leaves}
+use Rattle.timing.specs.Report.{following, looked, looked_from, departs, stays, first_looked, reported, became_reached}
 use Rattle.timing.specs.Changes.{Change, change, status_passed, status_stopped, status_departed, passings, when, report_changes}
-use Rattle.timing.proofs.Steps.{look_zero, look_stops, look_passes, look_judges, reported_first, following-is, InRange, looked_range, reported_up, reported_range}
+use Rattle.timing.proofs.Steps.{look_zero, look_stops, look_passes, look_judges, reported_stays, reported_first, following-is, InRange, looked_range, reported_up, reported_range}
 
 -- ---- what passes is behind
 
@@ -96,56 +96,56 @@ passings-in (suc n) k c m = go (Memᴰ.cases_cons m) (passings-in n (k + 1) c)
 
 module _ (j : Route) (r : Report) (p : Progress) where
   -- at a reached point that is not departed nothing passes
-  first_stays : stays r p ≡ true → first_looked r p ≡ p.next
+  first_stays : stays j r p ≡ true → first_looked j r p ≡ p.next
   first_stays e = go _ refl _ refl e
     where
-      go : (a : Bool) → p.reached ≡ a → (b : Bool) → moving r ≡ b → (p.reached && not (moving r)) ≡ true → first_looked r p ≡ p.next
+      go : (a : Bool) → p.reached ≡ a → (b : Bool) → leaves j r p.next ≡ b → (p.reached && not (leaves j r p.next)) ≡ true → first_looked j r p ≡ p.next
       go true x false y e = rw (x, y)
       go true x true y e = absurd (false≢true (rw (x, y) at e))
       go false x b y e = rw x
 
-  reported_same : stays r p ≡ true → reported j r p ≡ p
+  reported_same : stays j r p ≡ true → reported j r p ≡ p
   unfolding reported
   reported_same e = rw e
 
   -- the points from the first looked at to the new first one
-  pub passed_behind : (k : ℕ) → first_looked r p ≤ k → k < (reported j r p).next → Behind j r k
+  pub passed_behind : (k : ℕ) → first_looked j r p ≤ k → k < (reported j r p).next → Behind j r k
   passed_behind k l h = go _ refl
     where
-      go : (b : Bool) → stays r p ≡ b → Behind j r k
-      go true e = let z : k < p.next = rw (reported_same e) at h in let f : first_looked r p ≡ p.next = first_stays e in absurd (omega arith)
-      go false e = looked-behind j r (point_count j - first_looked r p) (first_looked r p) k l (rw (reported_first j r p e) at h)
+      go : (b : Bool) → stays j r p ≡ b → Behind j r k
+      go true e = let z : k < p.next = rw (reported_same e) at h in let f : first_looked j r p ≡ p.next = first_stays e in absurd (omega arith)
+      go false e = looked-behind j r (point_count j - first_looked j r p) (first_looked j r p) k l (rw (reported_first j r p e) at h)
 
   became_rests : became_reached j r p ≡ true → AtRest j r (reported j r p).next
   became_rests e =
-      let s : reported j r p ≡ looked_from j r (first_looked r p) = reported_first j r p (not-true _ (and_left (not (stays r p)) _ e)) in
-      let h : (reported j r p).reached ≡ true = and_right (not (stays r p)) _ e in
-      rw s (looked_rests j r (point_count j - first_looked r p) (first_looked r p) (rw s at h))
+      let s : reported j r p ≡ looked_from j r (first_looked j r p) = reported_first j r p (not-true _ (and_left (not (stays j r p)) _ e)) in
+      let h : (reported j r p).reached ≡ true = and_right (not (stays j r p)) _ e in
+      rw s (looked_rests j r (point_count j - first_looked j r p) (first_looked j r p) (rw s at h))
 
-  first_range : InRange j p → (p.next ≤ first_looked r p) × (first_looked r p ≤ point_count j)
+  first_range : InRange j p → (p.next ≤ first_looked j r p) × (first_looked j r p ≤ point_count j)
   first_range h = go _ refl _ refl
     where
-      go : (a : Bool) → p.reached ≡ a → (b : Bool) → moving r ≡ b → (p.next ≤ first_looked r p) × (first_looked r p ≤ point_count j)
+      go : (a : Bool) → p.reached ≡ a → (b : Bool) → leaves j r p.next ≡ b → (p.next ≤ first_looked j r p) × (first_looked j r p ≤ point_count j)
       go true x true y = let l : p.next < point_count j = h.reached_one x in rw (x, y, following-is j p.next l) (omega arith, l)
       go true x false y = rw (x, y) (omega arith, h.most)
       go false x b y = rw x (omega arith, h.most)
 
-  first_up : InRange j p → first_looked r p ≤ (reported j r p).next
+  first_up : InRange j p → first_looked j r p ≤ (reported j r p).next
   first_up h = go _ refl
     where
-      go : (b : Bool) → stays r p ≡ b → first_looked r p ≤ (reported j r p).next
+      go : (b : Bool) → stays j r p ≡ b → first_looked j r p ≤ (reported j r p).next
       go true e = rw (reported_same e) (omega (arith, first_stays e))
-      go false e = rw (reported_first j r p e) (looked_range j r (first_looked r p) (first_range h).1).0
+      go false e = rw (reported_first j r p e) (looked_range j r (first_looked j r p) (first_range h).1).0
 
   -- ---- the changes by kind
 
   -- "A departure writes status 2 and no 0."
   pub record Departed (c : Change) : Type 0 where
-    pub departing : departs r p ≡ true
-    pub is : c ≡ change p.next status_departed (progress (first_looked r p) false)
+    pub departing : departs j r p ≡ true
+    pub is : c ≡ change p.next status_departed (progress (first_looked j r p) false)
 
   pub record Passing (c : Change) : Type 0 where
-    pub from : first_looked r p ≤ c.index
+    pub from : first_looked j r p ≤ c.index
     pub below : c.index < (reported j r p).next
     pub is : c ≡ change c.index status_passed (progress (c.index + 1) false)
 
@@ -155,17 +155,17 @@ module _ (j : Route) (r : Report) (p : Progress) where
 
   pub changes_are : (c : Change) → Memᴰ c (report_changes j r p) → Departed c ⊎ (Passing c ⊎ Stopped c)
   unfolding report_changes
-  changes_are c m = go (Memᴰ.append_cases (when (departs r p) (change p.next status_departed (progress (first_looked r p) false))) m)
+  changes_are c m = go (Memᴰ.append_cases (when (departs j r p) (change p.next status_departed (progress (first_looked j r p) false))) m)
     where
-      last : Memᴰ c (passings ((reported j r p).next - first_looked r p) (first_looked r p)) ⊎ Memᴰ c (when (became_reached j r p) (change (reported j r p).next status_stopped (reported j r p))) → Passing c ⊎ Stopped c
-      last (inl m) = let z = passings-in ((reported j r p).next - first_looked r p) (first_looked r p) c m in inl (record { from = z.0; below = omega (arith, z.0, z.1); is = z.2 })
+      last : Memᴰ c (passings ((reported j r p).next - first_looked j r p) (first_looked j r p)) ⊎ Memᴰ c (when (became_reached j r p) (change (reported j r p).next status_stopped (reported j r p))) → Passing c ⊎ Stopped c
+      last (inl m) = let z = passings-in ((reported j r p).next - first_looked j r p) (first_looked j r p) c m in inl (record { from = z.0; below = omega (arith, z.0, z.1); is = z.2 })
       last (inr m) = let z = when-in (became_reached j r p) _ c m in inr (record { became = z.0; is = z.1 })
 
-      go : Memᴰ c (when (departs r p) (change p.next status_departed (progress (first_looked r p) false)))
-          ⊎ Memᴰ c (passings ((reported j r p).next - first_looked r p) (first_looked r p) ++ when (became_reached j r p) (change (reported j r p).next status_stopped (reported j r p)))
+      go : Memᴰ c (when (departs j r p) (change p.next status_departed (progress (first_looked j r p) false)))
+          ⊎ Memᴰ c (passings ((reported j r p).next - first_looked j r p) (first_looked j r p) ++ when (became_reached j r p) (change (reported j r p).next status_stopped (reported j r p)))
           → Departed c ⊎ (Passing c ⊎ Stopped c)
-      go (inl m) = let z = when-in (departs r p) _ c m in inl (record { departing = z.0; is = z.1 })
-      go (inr m) = inr (last (Memᴰ.append_cases (passings ((reported j r p).next - first_looked r p) (first_looked r p)) m))
+      go (inl m) = let z = when-in (departs j r p) _ c m in inl (record { departing = z.0; is = z.1 })
+      go (inr m) = inr (last (Memᴰ.append_cases (passings ((reported j r p).next - first_looked j r p) (first_looked j r p)) m))
 
   module _ (c : Change) (m : Memᴰ c (report_changes j r p)) where
     -- what a packet 62 of status 0 stands for
@@ -186,6 +186,17 @@ module _ (j : Route) (r : Report) (p : Progress) where
         go (inr (inl q)) = absurd (eqb-false status_stopped status_passed refl (sym s ∙ ap (λ x. x.status) q.is))
         go (inr (inr q)) = rw (ap (λ x. x.index) q.is) (became_rests q.became)
 
+    -- what one of status 2 stands for
+    pub recorded_left : c.status ≡ status_departed → (p.reached ≡ true) × (c.index ≡ p.next) × (leaves j r c.index ≡ true)
+    recorded_left s = go (changes_are c m)
+      where
+        go : Departed c ⊎ (Passing c ⊎ Stopped c) → (p.reached ≡ true) × (c.index ≡ p.next) × (leaves j r c.index ≡ true)
+        go (inl d) =
+            let i : c.index ≡ p.next = ap (λ x. x.index) d.is in
+            (and_left p.reached _ d.departing, i, rw i (and_right p.reached _ d.departing))
+        go (inr (inl q)) = absurd (eqb-false status_departed status_passed refl (sym s ∙ ap (λ x. x.status) q.is))
+        go (inr (inr q)) = absurd (eqb-false status_departed status_stopped refl (sym s ∙ ap (λ x. x.status) q.is))
+
     -- each names a point of the journey
     pub index_below : InRange j p → c.index < point_count j
     index_below h = go (changes_are c m)
@@ -195,7 +206,7 @@ module _ (j : Route) (r : Report) (p : Progress) where
         go (inr (inl q)) = omega (arith, q.below, (reported_range j r p h).most)
         go (inr (inr q)) =
             let i : c.index ≡ (reported j r p).next = ap (λ x. x.index) q.is in
-            let l : (reported j r p).next < point_count j = (reported_range j r p h).reached_one (and_right (not (stays r p)) _ q.became) in
+            let l : (reported j r p).next < point_count j = (reported_range j r p h).reached_one (and_right (not (stays j r p)) _ q.became) in
             omega arith
 
     -- the progress after it lies between those before and after the report
@@ -203,9 +214,26 @@ module _ (j : Route) (r : Report) (p : Progress) where
     after_between h = go (changes_are c m)
       where
         go : Departed c ⊎ (Passing c ⊎ Stopped c) → (p.next ≤ c.after.next) × (c.after.next ≤ (reported j r p).next)
-        go (inl d) = let a : c.after.next ≡ first_looked r p = ap (λ x. x.after.next) d.is in (omega (arith, (first_range h).0), omega (arith, first_up h))
+        go (inl d) = let a : c.after.next ≡ first_looked j r p = ap (λ x. x.after.next) d.is in (omega (arith, (first_range h).0), omega (arith, first_up h))
         go (inr (inl q)) = let a : c.after.next ≡ c.index + 1 = ap (λ x. x.after.next) q.is in (omega (arith, (first_range h).0, q.from), omega (arith, q.below))
         go (inr (inr q)) = let a : c.after.next ≡ (reported j r p).next = ap (λ x. x.after.next) q.is in (omega (arith, reported_up j r p h), omega arith)
+
+  -- a reached point that is not departed: nothing changes
+  pub changes_stay : p.reached ≡ true → leaves j r p.next ≡ false → report_changes j r p ≡ []
+  unfolding report_changes passings
+  changes_stay e l =
+      let q : reported j r p ≡ p = reported_stays j r p e l in
+      let z : p.next - p.next ≡ 0 = omega arith in
+      rw (q, e, l, z)
+
+  -- one that is: its departure comes first
+  pub changes_leave : p.reached ≡ true → leaves j r p.next ≡ true
+      → (l : List Change) × (report_changes j r p ≡ change p.next status_departed (progress (following p.next) false) ∷ l)
+  unfolding report_changes
+  changes_leave e l = (
+    passings ((reported j r p).next - following p.next) (following p.next) ++ when (became_reached j r p) (change (reported j r p).next status_stopped (reported j r p)),
+    rw (e, l),
+  )
 
   -- status 1 stands at the end only
   pub stopped_last : (a b : List Change) (c : Change) → report_changes j r p ≡ a ++ (c ∷ b) → c.status ≡ status_stopped → b ≡ []
@@ -214,14 +242,14 @@ module _ (j : Route) (r : Report) (p : Progress) where
       last_only (became_reached j r p) (change (reported j r p).next status_stopped (reported j r p)) (front ++ middle) a b c unstopped (append_assoc front middle _ ∙ e) s
     where
       front : List Change
-      front = when (departs r p) (change p.next status_departed (progress (first_looked r p) false))
+      front = when (departs j r p) (change p.next status_departed (progress (first_looked j r p) false))
 
       middle : List Change
-      middle = passings ((reported j r p).next - first_looked r p) (first_looked r p)
+      middle = passings ((reported j r p).next - first_looked j r p) (first_looked j r p)
 
       unstopped : (y : Change) → Memᴰ y (front ++ middle) → y.status ≡ status_stopped → ⊥
       unstopped y m s = go (Memᴰ.append_cases front m)
         where
           go : Memᴰ y front ⊎ Memᴰ y middle → ⊥
-          go (inl m) = eqb-false status_departed status_stopped refl (sym (ap (λ x. x.status) (when-in (departs r p) _ y m).1) ∙ s)
-          go (inr m) = eqb-false status_passed status_stopped refl (sym (ap (λ x. x.status) (passings-in ((reported j r p).next - first_looked r p) (first_looked r p) y m).2) ∙ s)
+          go (inl m) = eqb-false status_departed status_stopped refl (sym (ap (λ x. x.status) (when-in (departs j r p) _ y m).1) ∙ s)
+          go (inr m) = eqb-false status_passed status_stopped refl (sym (ap (λ x. x.status) (passings-in ((reported j r p).next - first_looked j r p) (first_looked j r p) y m).2) ∙ s)

@@ -3,17 +3,18 @@ use Rattle.std.specs.Prelude.{Option, Some, None, MatchOption, max}
 use Rattle.std.specs.Option.{unwrap_or}
 use Prim.Native.Nat.{ℕ, zero, suc, ◌+◌, ◌-◌, ◌<◌, ◌≤◌}
 use mathlib.Core.Path.{◌≡◌, refl, sym, ap, ◌∙◌}
-use mathlib.Core.Bool.{Bool, true, false, ◌&&◌, and-false}
+use mathlib.Core.Bool.{Bool, true, false, ◌&&◌, and-false, false≢true}
 use mathlib.Core.Logic.{◌⊎◌, inl, inr}
 use native.Mathlib.Omega.{arith}
 use lib.Dec.{ltb}
 use lib.ListN.{get_or, replicate}
-use borrow.Author.Tests.{lt-ltb, le-ltb}
+use borrow.Author.Tests.{ltb-true, lt-ltb, le-ltb}
 use Rattle.std.proofs.lemmas.Bool.{cases_lt}
+use Rattle.wire.proofs.ListLaws.{and_left, and_right}
 use Rattle.engine_value.specs.Engine.{Route, progress}
 use Rattle.engine_value.specs.declared.Position.{Position}
 use Rattle.position.specs.Position.{point, point_count, placed, front_at}
-use Rattle.timing.specs.Distance.{Report, beyond, at_stop, exceeds}
+use Rattle.timing.specs.Distance.{Report, at_front, beyond, at_stop, exceeds, exceeds_reach, moving, leaves}
 use Rattle.timing.specs.Load.{unskipped_report, put_behind, target_from, target}
 use Rattle.timing.specs.Report.{looked}
 
@@ -21,6 +22,22 @@ use Rattle.timing.specs.Report.{looked}
 pub beyond_known : (j : Route) (r : Report) (f : ℕ) → front_at j r.position ≡ Some f → (k : ℕ) → beyond j r k ≡ exceeds f r.length (point j k) (r.skips k)
 unfolding beyond
 beyond_known j r f at k = rw at
+
+-- where a point is left: the speed, the front, and d > R
+pub leaves_when : (j : Route) (r : Report) (k : ℕ) → leaves j r k ≡ true
+    → (0 < r.position.speed) × ((f : ℕ) × (front_at j r.position ≡ Some f) × (exceeds_reach f r.length (point j k) ≡ true))
+unfolding leaves
+leaves_when j r k e = (ltb-true 0 _ (and_left (moving r) _ e), at (front_at j r.position) refl (and_right (moving r) _ e))
+  where
+    at : (x : Option ℕ) → front_at j r.position ≡ x → at_front x (λ f. exceeds_reach f r.length (point j k)) ≡ true
+        → (f : ℕ) × (front_at j r.position ≡ Some f) × (exceeds_reach f r.length (point j k) ≡ true)
+    at None q h = absurd (false≢true h)
+    at (Some f) q h = (f, q, h)
+
+pub leaves_so : (j : Route) (r : Report) (k f : ℕ) → 0 < r.position.speed → front_at j r.position ≡ Some f → exceeds_reach f r.length (point j k) ≡ true
+    → leaves j r k ≡ true
+unfolding leaves
+leaves_so j r k f m q b = rw (lt-ltb 0 r.position.speed m, q) b
 
 -- ---- the first point that a load would not put behind, from k on among the first n
 

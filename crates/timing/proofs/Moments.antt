@@ -13,7 +13,7 @@ use Rattle.engine_value.specs.Engine.{Route, progress}
 use Rattle.position.specs.declared.Standing.{Standing}
 use Rattle.position.specs.declared.Standing.TheVariants.{Unused, Targeted, Reached, Passed}
 use Rattle.position.specs.Position.{point_count}
-use Rattle.timing.specs.Distance.{Report, beyond, moving}
+use Rattle.timing.specs.Distance.{Report, beyond, leaves}
 use Rattle.position.specs.Standing.{standing}
 use Rattle.timing.specs.Report.{run}
 use Rattle.timing.specs.History.{report_number, first_of, settles, Settled, Departs, Passes, Moment, Before, HasMoment, IsSettled, Stands}
@@ -52,35 +52,36 @@ module _ (j : Route) (start : ℕ) (reports : List Report) where
       go (inl e) = rw (← e) here
       go (inr q) = up u q h
 
-  -- what comes of a reached point at the reports a .. B - 1
-  abbrev Dep : ℕ → ℕ → PointOutcome → Type 0
-  Dep a B (passes l) = (t : ℕ) × (a ≤ t) × (t < B) × (moving (rep t) ≡ true) × ((u : ℕ) → a ≤ u → u < t → moving (rep u) ≡ false) × (l ≡ span rep t (B - t))
-  Dep a B reaches = (u : ℕ) → a ≤ u → u < B → moving (rep u) ≡ false
-  Dep a B not_settled = ⊥
-  Dep a B not_looked_at = ⊥
+  -- what comes of point k, reached before, at the reports a .. B - 1
+  abbrev Dep : ℕ → ℕ → ℕ → PointOutcome → Type 0
+  Dep k a B (passes l) =
+      (t : ℕ) × (a ≤ t) × (t < B) × (leaves j (rep t) k ≡ true) × ((u : ℕ) → a ≤ u → u < t → leaves j (rep u) k ≡ false) × (l ≡ span rep t (B - t))
+  Dep k a B reaches = (u : ℕ) → a ≤ u → u < B → leaves j (rep u) k ≡ false
+  Dep k a B not_settled = ⊥
+  Dep k a B not_looked_at = ⊥
 
-  dep_cons : (a B : ℕ) (f : PointOutcome) → moving (rep a) ≡ false → Dep (suc a) B f → Dep a B f
-  dep_cons a B (passes l) e (t, i, i', m, n, q) = (t, omega arith, i', m, from_on (λ u. moving (rep u) ≡ false) a t e n, q)
-  dep_cons a B reaches e d = from_on (λ u. moving (rep u) ≡ false) a B e d
-  dep_cons a B not_settled e d = d
-  dep_cons a B not_looked_at e d = d
+  dep_cons : (k a B : ℕ) (f : PointOutcome) → leaves j (rep a) k ≡ false → Dep k (suc a) B f → Dep k a B f
+  dep_cons k a B (passes l) e (t, i, i', m, n, q) = (t, omega arith, i', m, from_on (λ u. leaves j (rep u) k ≡ false) a t e n, q)
+  dep_cons k a B reaches e d = from_on (λ u. leaves j (rep u) k ≡ false) a B e d
+  dep_cons k a B not_settled e d = d
+  dep_cons k a B not_looked_at e d = d
 
   cut : (a c B : ℕ) → B ≡ a + c → span rep a c ≡ span rep a (B - a)
   cut a c B z = let e : c ≡ B - a = omega arith in rw (← e) refl
 
-  dep : (a c B : ℕ) → B ≡ a + c → Dep a B (departing (span rep a c))
+  dep : (k a c B : ℕ) → B ≡ a + c → Dep k a B (departing j k (span rep a c))
   unfolding departing
-  dep a zero B z = λ u l h. absurd (omega arith)
-  dep a (suc c) B z = go _ refl (dep (suc a) c B (omega arith))
+  dep k a zero B z = λ u l h. absurd (omega arith)
+  dep k a (suc c) B z = go _ refl (dep k (suc a) c B (omega arith))
     where
-      go : (b : Bool) → moving (rep a) ≡ b → Dep (suc a) B (departing (span rep (suc a) c)) → Dep a B (departing (span rep a (suc c)))
-      go true e d = rw (departing_passes (rep a) (span rep (suc a) c) e) (a, omega arith, omega arith, e, (λ u l h. absurd (omega arith)), cut a (suc c) B z)
-      go false e d = rw (departing_on (rep a) (span rep (suc a) c) e) (dep_cons a B (departing (span rep (suc a) c)) e d)
+      go : (b : Bool) → leaves j (rep a) k ≡ b → Dep k (suc a) B (departing j k (span rep (suc a) c)) → Dep k a B (departing j k (span rep a (suc c)))
+      go true e d = rw (departing_passes j k (rep a) (span rep (suc a) c) e) (a, omega arith, omega arith, e, (λ u l h. absurd (omega arith)), cut a (suc c) B z)
+      go false e d = rw (departing_on j k (rep a) (span rep (suc a) c) e) (dep_cons k a B (departing j k (span rep (suc a) c)) e d)
 
   -- what comes of point k at the reports a .. B - 1
   abbrev Thr : ℕ → ℕ → ℕ → PointOutcome → Type 0
   Thr k a B (passes l) = (t : ℕ) × Passes j start reports k a t × (a ≤ t) × (t < B) × (l ≡ span rep t (B - t))
-  Thr k a B reaches = (s : ℕ) × Settled j start reports k a s × (s < B) × (beyond j (rep s) k ≡ false) × ((u : ℕ) → s < u → u < B → moving (rep u) ≡ false)
+  Thr k a B reaches = (s : ℕ) × Settled j start reports k a s × (s < B) × (beyond j (rep s) k ≡ false) × ((u : ℕ) → s < u → u < B → leaves j (rep u) k ≡ false)
   Thr k a B not_settled = (u : ℕ) → a ≤ u → u < B → settles j (rep u) k ≡ false
   Thr k a B not_looked_at = ⊥
 
@@ -96,8 +97,8 @@ module _ (j : Route) (start : ℕ) (reports : List Report) where
   here : (k a : ℕ) → settles j (rep a) k ≡ true → Settled j start reports k a a
   here k a e = record { from = omega arith; settled = e; none_before = λ u l h. absurd (omega arith) }
 
-  of_dep : (k a B : ℕ) (f : PointOutcome) → a < B → settles j (rep a) k ≡ true → beyond j (rep a) k ≡ false → Dep (suc a) B f → Thr k a B f
-  of_dep k a B (passes l) z e b (t, i, i', m, n, q) = (t, (a, here k a e, inr (b, record { later = i; moves = m; none_before = n })), omega arith, i', q)
+  of_dep : (k a B : ℕ) (f : PointOutcome) → a < B → settles j (rep a) k ≡ true → beyond j (rep a) k ≡ false → Dep k (suc a) B f → Thr k a B f
+  of_dep k a B (passes l) z e b (t, i, i', m, n, q) = (t, (a, here k a e, inr (b, record { later = i; leaves_it = m; none_before = n })), omega arith, i', q)
   of_dep k a B reaches z e b d = (a, here k a e, z, b, d)
   of_dep k a B not_settled z e b d = absurd d
   of_dep k a B not_looked_at z e b d = absurd d
@@ -105,12 +106,12 @@ module _ (j : Route) (start : ℕ) (reports : List Report) where
   thr : (k a c B : ℕ) → B ≡ a + c → Thr k a B (through j k (span rep a c))
   unfolding through
   thr k a zero B z = λ u l h. absurd (omega arith)
-  thr k a (suc c) B z = go _ refl _ refl (thr k (suc a) c B (omega arith)) (dep (suc a) c B (omega arith))
+  thr k a (suc c) B z = go _ refl _ refl (thr k (suc a) c B (omega arith)) (dep k (suc a) c B (omega arith))
     where
-      go : (x : Bool) → settles j (rep a) k ≡ x → (y : Bool) → beyond j (rep a) k ≡ y → Thr k (suc a) B (through j k (span rep (suc a) c)) → Dep (suc a) B (departing (span rep (suc a) c)) → Thr k a B (through j k (span rep a (suc c)))
+      go : (x : Bool) → settles j (rep a) k ≡ x → (y : Bool) → beyond j (rep a) k ≡ y → Thr k (suc a) B (through j k (span rep (suc a) c)) → Dep k (suc a) B (departing j k (span rep (suc a) c)) → Thr k a B (through j k (span rep a (suc c)))
       go false e y f t d = rw (through_on j k (rep a) (span rep (suc a) c) e) (thr_cons k a B (through j k (span rep (suc a) c)) e t)
       go true e true f t d = rw (through_passes j k (rep a) (span rep (suc a) c) e f) (a, (a, here k a e, inl (f, refl)), omega arith, omega arith, cut a (suc c) B z)
-      go true e false f t d = rw (through_reaches j k (rep a) (span rep (suc a) c) e f) (of_dep k a B (departing (span rep (suc a) c)) (omega arith) e f d)
+      go true e false f t d = rw (through_reaches j k (rep a) (span rep (suc a) c) e f) (of_dep k a B (departing j k (span rep (suc a) c)) (omega arith) e f d)
 
   -- ---- a passing moment is one
   apart : (s t : ℕ) → (s < t → ⊥) → (t < s → ⊥) → s ≡ t
@@ -119,8 +120,8 @@ module _ (j : Route) (start : ℕ) (reports : List Report) where
   settled_unique : (k a s t : ℕ) → Settled j start reports k a s → Settled j start reports k a t → s ≡ t
   settled_unique k a s t x y = apart s t (λ h. cc (y.none_before s x.from h, x.settled)) (λ h. cc (x.none_before t y.from h, y.settled))
 
-  departs_unique : (p s t : ℕ) → Departs j start reports p s → Departs j start reports p t → s ≡ t
-  departs_unique p s t x y = apart s t (λ h. cc (y.none_before s x.later h, x.moves)) (λ h. cc (x.none_before t y.later h, y.moves))
+  departs_unique : (k p s t : ℕ) → Departs j start reports k p s → Departs j start reports k p t → s ≡ t
+  departs_unique k p s t x y = apart s t (λ h. cc (y.none_before s x.later h, x.leaves_it)) (λ h. cc (x.none_before t y.later h, y.leaves_it))
 
   passes_unique : (k a t u : ℕ) → Passes j start reports k a t → Passes j start reports k a u → t ≡ u
   passes_unique k a t u (s, x, c) (r, y, d) = go c d
@@ -128,11 +129,11 @@ module _ (j : Route) (start : ℕ) (reports : List Report) where
       e : s ≡ r
       e = settled_unique k a s r x y
 
-      go : (((beyond j (rep s) k ≡ true) × (t ≡ s)) ⊎ ((beyond j (rep s) k ≡ false) × Departs j start reports s t)) → (((beyond j (rep r) k ≡ true) × (u ≡ r)) ⊎ ((beyond j (rep r) k ≡ false) × Departs j start reports r u)) → t ≡ u
+      go : (((beyond j (rep s) k ≡ true) × (t ≡ s)) ⊎ ((beyond j (rep s) k ≡ false) × Departs j start reports k s t)) → (((beyond j (rep r) k ≡ true) × (u ≡ r)) ⊎ ((beyond j (rep r) k ≡ false) × Departs j start reports k r u)) → t ≡ u
       go (inl (f, p)) (inl (g, q)) = p ∙ e ∙ sym q
       go (inl (f, p)) (inr (g, q)) = cc (e)
       go (inr (f, p)) (inl (g, q)) = cc (e)
-      go (inr (f, p)) (inr (g, q)) = departs_unique s t u p (rw (← e) at q)
+      go (inr (f, p)) (inr (g, q)) = departs_unique k s t u p (rw (← e) at q)
 
   unroll : (k t : ℕ) → start ≤ k → Moment j start reports k t → (m : ℕ) × Before j start reports k m × Passes j start reports k (first_of m) t
   unroll zero t h (inl (b, e)) = absurd (omega arith)
@@ -207,9 +208,9 @@ module _ (j : Route) (start : ℕ) (reports : List Report) where
               same : r ≡ s
               same = settled_unique k (first_of m) r s (rw (before_unique k n m c b) at z) x
 
-              two : (((beyond j (rep r) k ≡ true) × (t ≡ r)) ⊎ ((beyond j (rep r) k ≡ false) × Departs j start reports r t)) → ⊥
+              two : (((beyond j (rep r) k ≡ true) × (t ≡ r)) ⊎ ((beyond j (rep r) k ≡ false) × Departs j start reports k r t)) → ⊥
               two (inl (f, g)) = cc (same)
-              two (inr (f, g)) = cc (g.moves, w t (omega (arith, same, g.later)) (omega arith))
+              two (inr (f, g)) = cc (g.leaves_it, w t (omega (arith, same, g.later)) (omega arith))
   says k m not_settled h b all w = (record { itself = never; before = all }, unsettled)
     where
       unsettled : ¬ IsSettled j start reports k

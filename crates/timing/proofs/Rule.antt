@@ -12,7 +12,7 @@ use Rattle.engine_value.specs.Engine.{Route, progress}
 use Rattle.engine_value.specs.declared.Progress.{Progress}
 use Rattle.position.specs.declared.Standing.TheVariants.{Reached}
 use Rattle.position.specs.Position.{point_count, placed, known}
-use Rattle.timing.specs.Distance.{Report, beyond, at_stop, moving}
+use Rattle.timing.specs.Distance.{Report, beyond, at_stop, leaves}
 use Rattle.position.specs.Standing.{standing}
 use Rattle.timing.specs.Report.{looked, looked_from, stays, reported, became_reached, run}
 use Rattle.position.proofs.Laws.{standing_passed, standing_unused, standing-at, standing-reached, standing-targeted, reached-only}
@@ -33,16 +33,15 @@ module _ (j : Route) (k : ℕ) (r : Report) (rs : List Report) where
   unfolding through
   through_passes e b = rw (e, b)
 
-  pub through_reaches : settles j r k ≡ true → beyond j r k ≡ false → through j k (r ∷ rs) ≡ departing rs
+  pub through_reaches : settles j r k ≡ true → beyond j r k ≡ false → through j k (r ∷ rs) ≡ departing j k rs
   unfolding through
   through_reaches e b = rw (e, b)
 
-module _ (r : Report) (rs : List Report) where
-  pub departing_on : moving r ≡ false → departing (r ∷ rs) ≡ departing rs
+  pub departing_on : leaves j r k ≡ false → departing j k (r ∷ rs) ≡ departing j k rs
   unfolding departing
   departing_on e = rw e
 
-  pub departing_passes : moving r ≡ true → departing (r ∷ rs) ≡ passes (r ∷ rs)
+  pub departing_passes : leaves j r k ≡ true → departing j k (r ∷ rs) ≡ passes (r ∷ rs)
   unfolding departing
   departing_passes e = rw e
 
@@ -67,14 +66,14 @@ module _ (j : Route) where
     onward r rs p e =
         run_more j p r rs ∙ ap (λ q. run j q rs) (e ∙ sym (reported_looks j r (progress (suc k) false) refl)) ∙ sym (run_more j (progress (suc k) false) r rs)
 
-    departing_told : (rs : List Report) → Told (run j (progress k true) rs) k (departing rs)
+    departing_told : (rs : List Report) → Told (run j (progress k true) rs) k (departing j k rs)
     unfolding run departing
     departing_told [] = refl
     departing_told (r ∷ rs) = go _ refl (departing_told rs)
       where
-        go : (b : Bool) → moving r ≡ b → Told (run j (progress k true) rs) k (departing rs) → Told (run j (progress k true) (r ∷ rs)) k (departing (r ∷ rs))
-        go false e t = told_is k (ap (λ q. run j q rs) (reported_stays j r (progress k true) refl e)) (departing_on r rs e) t
-        go true e t = told_is k (onward r rs (progress k true) (reported_departs j r (progress k true) refl e ∙ ap (looked_from j r) (following-is j k h))) (departing_passes r rs e) refl
+        go : (b : Bool) → leaves j r k ≡ b → Told (run j (progress k true) rs) k (departing j k rs) → Told (run j (progress k true) (r ∷ rs)) k (departing j k (r ∷ rs))
+        go false e t = told_is k (ap (λ q. run j q rs) (reported_stays j r (progress k true) refl e)) (departing_on j k r rs e) t
+        go true e t = told_is k (onward r rs (progress k true) (reported_departs j r (progress k true) refl e ∙ ap (looked_from j r) (following-is j k h))) (departing_passes j k r rs e) refl
 
     left : point_count j - k ≡ suc (point_count j - suc k)
     left = omega arith
@@ -167,15 +166,15 @@ module _ (j : Route) (r : Report) (p : Progress) (h : InRange j p) where
   abbrev pub Became : ℕ → Type 0
   Became k = (standing (reported j r p) k ≡ Reached) × (standing p k ≡ Reached → ⊥)
 
-  stayed : stays r p ≡ true → reported j r p ≡ p
+  stayed : stays j r p ≡ true → reported j r p ≡ p
   unfolding reported
   stayed e = rw e
 
   -- a point that was reached, and is no longer waited at, is passed
-  gone_on : p.reached ≡ true → stays r p ≡ false → p.next < (reported j r p).next
+  pub gone_on : p.reached ≡ true → stays j r p ≡ false → p.next < (reported j r p).next
   gone_on e s = go _ refl
     where
-      go : (b : Bool) → moving r ≡ b → p.next < (reported j r p).next
+      go : (b : Bool) → leaves j r p.next ≡ b → p.next < (reported j r p).next
       go true m =
           let l : p.next < point_count j = h.reached_one e in
           rw (reported_departs j r p e m, following-is j p.next l) (looked_range j r (suc p.next) l).0
@@ -186,13 +185,13 @@ module _ (j : Route) (r : Report) (p : Progress) (h : InRange j p) where
     where
       there : became_reached j r p ≡ true → (k : ℕ) × (k < point_count j) × Became k
       there e =
-          let a : stays r p ≡ false = not-true _ (and_left (not (stays r p)) _ e) in
-          let b : (reported j r p).reached ≡ true = and_right (not (stays r p)) _ e in
+          let a : stays j r p ≡ false = not-true _ (and_left (not (stays j r p)) _ e) in
+          let b : (reported j r p).reached ≡ true = and_right (not (stays j r p)) _ e in
           ((reported j r p).next, (reported_range j r p h).reached_one b, (standing-at (reported j r p) b, λ s. let z = reached-only p _ s in let l : p.next < (reported j r p).next = gone_on z.1 a in omega (arith, z.0)))
 
       back : (k : ℕ) × (k < point_count j) × Became k → became_reached j r p ≡ true
       back (k, l, (s, n)) = go _ refl
         where
-          go : (b : Bool) → stays r p ≡ b → became_reached j r p ≡ true
+          go : (b : Bool) → stays j r p ≡ b → became_reached j r p ≡ true
           go true e = absurd (n (rw (stayed e) at s))
           go false e = rw (e, (reached-only (reported j r p) k s).1)

@@ -4,7 +4,7 @@ use Prim.Native.Nat.{ℕ, zero, suc, ◌+◌, ◌<◌, ◌≤◌}
 use mathlib.Core.Path.{◌≡◌, refl, sym, subst, ◌∙◌}
 use mathlib.Core.Logic.{◌↔◌, ◌⊎◌, inl, inr}
 use mathlib.Core.List.{List}
-use mathlib.Core.Bool.{Bool, true, false, false≢true}
+use mathlib.Core.Bool.{Bool, true, false, ◌&&◌, false≢true}
 use native.Mathlib.Omega.{arith}
 use native.Mathlib.Nat.{eq-or-lt_of_le}
 use lib.ListN.{length, get_or-eq_default}
@@ -19,13 +19,16 @@ use Rattle.engine_value.specs.declared.Point.{Point}
 use Rattle.engine_value.specs.declared.Position.{Position}
 use Rattle.position.specs.declared.Named.{Named}
 use Rattle.position.specs.Position.{point_count, point, placed, segment_named, front, front_at, known}
-use Rattle.timing.specs.Distance.{Report, back, distance, unskipped, margin, exceeds, stops_at, beyond, moving}
+use Rattle.timing.specs.Distance.{Report, back, distance, unskipped, margin, at_front, exceeds, exceeds_reach, stops_at, beyond, moving, leaves}
 use Rattle.timing.specs.Load.{unskipped_report, put_behind, target_from, target}
 use Rattle.timing.specs.History.{report_number, settles}
 use Rattle.timing.specs.Sentences.{Sentences}
-use Rattle.timing.proofs.Laws.{beyond_known}
+use Rattle.timing.proofs.Laws.{beyond_known, leaves_when}
 
 -- ---- d, without a sign
+
+above : (m f b k : ℕ) → lt_z (pos m) (pos f -ℤ pos b -ℤ pos k) ≡ ltb (m + (b + k)) f
+above m f b k = grind (arith, ints)
 
 module _ (f length : ℕ) (p : Point) (driver : Bool) where
   abbrev far : ℕ
@@ -33,9 +36,6 @@ module _ (f length : ℕ) (p : Point) (driver : Bool) where
 
   exceeds_is : exceeds f length p driver ≡ ltb (margin p driver + far) f
   exceeds_is = above (margin p driver) f (back length p.alignment) p.place
-    where
-      above : (m f b k : ℕ) → lt_z (pos m) (pos f -ℤ pos b -ℤ pos k) ≡ ltb (m + (b + k)) f
-      above m f b k = grind (arith, ints)
 
   beyond_margin : (exceeds f length p driver ≡ true) ↔ (p.place + back length p.alignment + margin p driver < f)
   beyond_margin = (
@@ -62,6 +62,32 @@ module _ (f length : ℕ) (p : Point) (driver : Bool) where
 
       again : (unskipped p driver ≡ true) × (speed ≡ 0) × (p.place + back length p.alignment ≤ f + p.reach) → stops_at f length speed p driver ≡ true
       again (u, s, h) = rw (u, eq-eqb _ _ s, at_least_is) (le-leb far (f + p.reach) (omega arith))
+
+-- ---- the departure
+
+leaving_margin : (f length : ℕ) (p : Point) (driver : Bool) → unskipped p driver ≡ true → exceeds_reach f length p ≡ exceeds f length p driver
+leaving_margin f length p driver u = rw u refl
+
+module _ (j : Route) (r : Report) (k : ℕ) where
+  abbrev beyond_reach : ℕ → Type 0
+  beyond_reach f = (point j k).place + back r.length (point j k).alignment + (point j k).reach < f
+
+  reach_is : (f : ℕ) → exceeds_reach f r.length (point j k) ≡ ltb ((point j k).reach + (back r.length (point j k).alignment + (point j k).place)) f
+  reach_is f = above (point j k).reach f (back r.length (point j k).alignment) (point j k).place
+
+  leaving : (leaves j r k ≡ true) ↔ ((0 < r.position.speed) × ((f : ℕ) × (front_at j r.position ≡ Some f) × beyond_reach f))
+  unfolding leaves
+  leaving = (there, back_lem)
+    where
+      there : leaves j r k ≡ true → (0 < r.position.speed) × ((f : ℕ) × (front_at j r.position ≡ Some f) × beyond_reach f)
+      there e =
+          let (m, (f, q, x)) = leaves_when j r k e in
+          let h : (point j k).reach + (back r.length (point j k).alignment + (point j k).place) < f = ltb-true _ _ (sym (reach_is f) ∙ x) in
+          (m, (f, q, omega arith))
+
+      back_lem : (0 < r.position.speed) × ((f : ℕ) × (front_at j r.position ≡ Some f) × beyond_reach f)
+          → moving r && at_front (front_at j r.position) (λ f. exceeds_reach f r.length (point j k)) ≡ true
+      back_lem (m, (f, q, h)) = rw (q, lt-ltb 0 r.position.speed m) (reach_is f ∙ lt-ltb _ f (omega arith))
 
 -- ---- the load
 
@@ -134,19 +160,25 @@ unfolding front
 nowhere None = refl
 nowhere (Some s) = refl
 
+left_not : (j : Route) (k : ℕ) → leaves j (unskipped_report fresh_position 0) k ≡ false
+unfolding leaves
+left_not j k = refl
+
 stand_in : (l : List Report) (t : ℕ) → (t ≡ 0) ⊎ (length l < t)
-    → ((j : Route) (k : ℕ) → settles j (report_number l t) k ≡ false) × (moving (report_number l t) ≡ false)
-stand_in l zero h = (λ j k. rw (nowhere (segment_named j fresh_position)), refl)
+    → (j : Route) (k : ℕ) → (settles j (report_number l t) k ≡ false) × (leaves j (report_number l t) k ≡ false)
+stand_in l zero h = λ j k. (rw (nowhere (segment_named j fresh_position)), left_not j k)
 stand_in l (suc t) (inl e) = absurd (omega arith)
 stand_in l (suc t) (inr h) =
-    subst (λ q. ((j : Route) (k : ℕ) → settles j q k ≡ false) × (moving q ≡ false))
+    subst (λ q. (j : Route) (k : ℕ) → (settles j q k ≡ false) × (leaves j q k ≡ false))
     (sym (get_or-eq_default l (unskipped_report fresh_position 0) (omega arith)))
-    (λ j k. rw (nowhere (segment_named j fresh_position)), refl)
+    (λ j k. (rw (nowhere (segment_named j fresh_position)), left_not j k))
 
 pub sentences : Sentences
 sentences = record {
   beyond_margin = beyond_margin;
   at_stop_lem = λ f length speed p driver. at_stop_lem f length p driver speed;
+  leaving = leaving;
+  leaving_margin = leaving_margin;
   load_behind = load_behind;
   stand_in = stand_in;
 }

@@ -9,7 +9,7 @@ use Rattle.engine_value.specs.Engine.{Route, progress}
 use Rattle.engine_value.specs.declared.Position.{Position}
 use Rattle.engine_value.specs.declared.Progress.{Progress}
 use Rattle.position.specs.Position.{point_count, placed, known}
-use Rattle.timing.specs.Distance.{Report, beyond, at_stop, moving}
+use Rattle.timing.specs.Distance.{Report, beyond, at_stop, leaves}
 use Rattle.timing.specs.Load.{unskipped_report, put_behind, target_from, target}
 use Rattle.timing.specs.Report.{following, looked, looked_from, stays, first_looked, reported, run}
 
@@ -35,11 +35,11 @@ look_zero j r k = refl
 -- ---- (a) and (b)
 
 module _ (j : Route) (r : Report) (p : Progress) where
-  pub reported_stays : p.reached ≡ true → moving r ≡ false → reported j r p ≡ p
+  pub reported_stays : p.reached ≡ true → leaves j r p.next ≡ false → reported j r p ≡ p
   unfolding reported
   reported_stays e m = rw (e, m)
 
-  pub reported_departs : p.reached ≡ true → moving r ≡ true → reported j r p ≡ looked_from j r (following p.next)
+  pub reported_departs : p.reached ≡ true → leaves j r p.next ≡ true → reported j r p ≡ looked_from j r (following p.next)
   unfolding reported
   reported_departs e m = rw (e, m)
 
@@ -47,7 +47,7 @@ module _ (j : Route) (r : Report) (p : Progress) where
   unfolding reported
   reported_looks e = rw e
 
-  pub reported_first : stays r p ≡ false → reported j r p ≡ looked_from j r (first_looked r p)
+  pub reported_first : stays j r p ≡ false → reported j r p ≡ looked_from j r (first_looked j r p)
   unfolding reported
   reported_first e = rw e
 
@@ -88,7 +88,7 @@ module _ (j : Route) (r : Report) where
     both : (p.next ≤ (reported j r p).next) × InRange j (reported j r p)
     both = go _ refl _ refl
       where
-        go : (a : Bool) → p.reached ≡ a → (b : Bool) → moving r ≡ b → (p.next ≤ (reported j r p).next) × InRange j (reported j r p)
+        go : (a : Bool) → p.reached ≡ a → (b : Bool) → leaves j r p.next ≡ b → (p.next ≤ (reported j r p).next) × InRange j (reported j r p)
         go false e b f = rw (reported_looks j r p e) (looked_range p.next h.most)
         go true e false f = rw (reported_stays j r p e f) (omega arith, h)
         go true e true f =

@@ -1,8 +1,9 @@
--- Values that the definitions must give for the journey of position/Sample, worked out by hand from document 01, "Timing points": points at 40,000
+-- Values that the definitions must give for the journey of position/Sample, worked out by hand from document 01, "Timing points", and from
+-- document 02, Q-3: points at 40,000
 -- (front, R 150), 90,000 (middle, passing), 110,000 (rear, skipped by trackside), 140,000 (middle, R 100), and one that is not placed; the train is
 -- 301 long, and its half 150.
-use Rattle.std.specs.Prelude.{ℕ, ◌≡◌, List, [], ◌∷◌, map, Bool, true, false, pos, neg_ℤ, eqb}
-use Rattle.engine_value.specs.Engine.{Route, undefined, progress}
+use Rattle.std.specs.Prelude.{ℕ, ◌≡◌, List, [], ◌∷◌, ◌++◌, map, replicate, Bool, true, false, pos, neg_ℤ, eqb}
+use Rattle.engine_value.specs.Engine.{Route, undefined, progress, blank_point}
 use Rattle.engine_value.specs.declared.Point.{Point}
 use Rattle.engine_value.specs.declared.Progress.{Progress}
 use Rattle.engine_value.specs.declared.Position.{Position}
@@ -10,7 +11,7 @@ use Rattle.position.specs.Position.{point}
 use Rattle.position.specs.Sample.{journey_to, journey, at, engine_at}
 use Rattle.position.specs.declared.Standing.{Standing}
 use Rattle.position.specs.declared.Standing.TheVariants.{Unused, Targeted, Reached, Passed}
-use Rattle.timing.specs.Distance.{Report, report_from, back, distance, unskipped, margin, exceeds, stops_at, beyond, at_stop, moving}
+use Rattle.timing.specs.Distance.{Report, report_from, back, distance, unskipped, margin, exceeds, exceeds_reach, stops_at, beyond, at_stop, moving, leaves}
 use Rattle.timing.specs.Load.{put_behind, target}
 use Rattle.timing.specs.Report.{following, reported, became_reached, report_of, no_report, run}
 use Rattle.timing.specs.Changes.{change, status_passed, status_stopped, status_departed, status_skipped, status_revoked, report_changes}
@@ -61,6 +62,10 @@ near place reach = record {
 abbrev crowded : Route
 crowded = record { load = (journey_to 2).load; points = near 40000 500 ∷ near 40100 0 ∷ []; segments = journey.segments }
 
+-- the most points that there are, of which the last is a stop at 40,000 with R 500
+abbrev longest : Route
+longest = record { load = (journey_to 64).load; points = replicate 63 blank_point ++ (near 40000 500 ∷ []); segments = journey.segments }
+
 -- ---- progress: n points are passed, and the next is targeted or reached
 
 abbrev targeted : ℕ → Progress
@@ -93,6 +98,10 @@ pub record Anchors : Type 0 where
   -- "d > margin"
   pub exceeds_R : map (λ f. exceeds f 301 (point journey 0) false) (0 ∷ 40150 ∷ 40151 ∷ []) ≡ false ∷ false ∷ true ∷ []
   pub exceeds_0 : map (λ f. exceeds f 301 (point journey 0) true) (40000 ∷ 40001 ∷ []) ≡ false ∷ true ∷ []
+  -- 02, Q-3: "d greater than R": the point's own, not its margin: point 2 is skipped by trackside; R 200 from 110,301 on, R 100 from 140,150
+  pub exceeds_reach_front : map (λ f. exceeds_reach f 301 (point journey 0)) (0 ∷ 40150 ∷ 40151 ∷ []) ≡ false ∷ false ∷ true ∷ []
+  pub exceeds_reach_rear : map (λ f. exceeds_reach f 301 (point journey 2)) (110501 ∷ 110502 ∷ []) ≡ false ∷ true ∷ []
+  pub exceeds_reach_middle : map (λ f. exceeds_reach f 301 (point journey 3)) (140250 ∷ 140251 ∷ []) ≡ false ∷ true ∷ []
   -- "speed 0 and d ≥ −R", and "an unskipped stop"
   pub stops_R : map (λ f. stops_at f 301 0 (point journey 0) false) (39849 ∷ 39850 ∷ 40150 ∷ []) ≡ false ∷ true ∷ true ∷ []
   pub stops_still : map (λ s. stops_at 40000 301 s (point journey 0) false) (0 ∷ 1 ∷ []) ≡ true ∷ false ∷ []
@@ -109,6 +118,13 @@ pub record Anchors : Type 0 where
   pub at_stop_length : map (λ r. at_stop journey r 3) (two 40050 0 ∷ skipping (two 40050 0) ∷ longer 303 (two 40050 0) ∷ []) ≡ true ∷ true ∷ false ∷ []
   -- "speed above 0"
   pub moves : map (λ s. moving (one 0 s)) (0 ∷ 1 ∷ []) ≡ false ∷ true ∷ []
+  -- 02, Q-3: "a report with speed above 0, a known position and d greater than R"; no skip counts, the train length as it stands at that report does
+  pub leaving : map (λ r. leaves journey r 0) (one 40150 1 ∷ one 40151 1 ∷ one 39849 1 ∷ two 0 65535 ∷ []) ≡ false ∷ true ∷ false ∷ true ∷ []
+  pub leaving_not : map (λ r. leaves journey r 0) (one 40151 0 ∷ two 50000 0 ∷ nowhere 1 ∷ reported_at (at 33 503 5 1) ∷ [])
+      ≡ false ∷ false ∷ false ∷ false ∷ []
+  pub leaving_skipped : map (λ r. leaves journey r 0) (skipping (one 40001 1) ∷ skipping (one 40151 1) ∷ []) ≡ false ∷ true ∷ []
+  pub leaving_length : map (λ r. leaves journey r 3) (two 40250 1 ∷ two 40251 1 ∷ longer 302 (two 40251 1) ∷ longer 299 (two 40250 1) ∷ [])
+      ≡ false ∷ true ∷ false ∷ true ∷ []
   -- of an engine: its train length and its driver skips
   pub of_engine : let r = report_from (engine_at (at 17 500 0 0) 0 false) (at 33 500 7 8) in
       r.position.offset ∷ r.position.speed ∷ r.length ∷ [] ≡ 7 ∷ 8 ∷ 301 ∷ []
@@ -139,17 +155,27 @@ pub record Anchors : Type 0 where
       ≡ targeted 0 ∷ stopped 0 ∷ stopped 0 ∷ targeted 1 ∷ []
   pub reaches_not : map (λ r. reported journey r (targeted 0)) (one 40000 1 ∷ skipping (one 40000 0) ∷ []) ≡ targeted 0 ∷ targeted 0 ∷ []
   pub reaches_later : reported journey (two 40150 0) (targeted 0) ∷ reported journey (two 40049 0) (targeted 0) ∷ [] ≡ stopped 3 ∷ targeted 3 ∷ []
-  -- (a) "a reached point, speed above 0: departed, it is passed, the next is targeted", also with no known position; then (b) in the same report
-  pub departing : map (λ r. reported journey r (stopped 0)) (one 39900 1 ∷ nowhere 1 ∷ two 10302 1 ∷ []) ≡ targeted 1 ∷ targeted 1 ∷ targeted 3 ∷ []
-  -- at speed 0 a reached point stays so, wherever the train is
-  pub staying : map (λ r. reported journey r (stopped 0)) (one 39900 0 ∷ nowhere 0 ∷ two 50000 0 ∷ []) ≡ stopped 0 ∷ stopped 0 ∷ stopped 0 ∷ []
+  -- (a) "a reached point ..: departed, it is passed, the next is targeted", where 02, Q-3, has it; then (b) in the same report
+  pub departing : map (λ r. reported journey r (stopped 0)) (one 40150 1 ∷ one 40151 1 ∷ two 10302 1 ∷ []) ≡ stopped 0 ∷ targeted 1 ∷ targeted 3 ∷ []
+  -- "Until then .. it stays reached, also behind −R or with an undefined position"; at speed 0 wherever the train is
+  pub staying : map (λ r. reported journey r (stopped 0)) (one 39849 1 ∷ nowhere 1 ∷ one 39900 0 ∷ nowhere 0 ∷ two 50000 0 ∷ [])
+      ≡ stopped 0 ∷ stopped 0 ∷ stopped 0 ∷ stopped 0 ∷ stopped 0 ∷ []
+  -- and while it does, no later point passes, though the second has d > margin
+  pub staying_first : map (λ o. reported crowded (one o 9) (stopped 0)) (40500 ∷ 40501 ∷ []) ≡ stopped 0 ∷ targeted 2 ∷ []
+  pub staying_next : reported crowded (one 40100 0) (stopped 0) ≡ stopped 0
+  -- the last point departs like any other, also with R 0, and the 64th
+  pub departing_last : map (λ o. reported crowded (one o 1) (stopped 1)) (40100 ∷ 40101 ∷ []) ≡ stopped 1 ∷ targeted 2 ∷ []
+  pub departing_64th : map (λ o. reported longest (one o 1) (stopped 63)) (40500 ∷ 40501 ∷ []) ≡ stopped 63 ∷ targeted 64 ∷ []
+  pub rule_last : map (λ o. standing_by_reports crowded 1 (one 40100 0 ∷ one o 1 ∷ []) 1) (40100 ∷ 40101 ∷ []) ≡ Reached ∷ Passed ∷ []
+  pub rule_64th : map (λ o. standing_by_reports longest 63 (one 40000 0 ∷ one o 1 ∷ []) 63) (40500 ∷ 40501 ∷ []) ≡ Reached ∷ Passed ∷ []
   -- "points: count (1, 1-64)"
   pub next_point : map following (0 ∷ 62 ∷ 63 ∷ []) ≡ 1 ∷ 63 ∷ 64 ∷ []
   -- "a point reached in this event"
   pub became : map (λ r. became_reached journey r (targeted 0)) (one 39850 0 ∷ one 39850 1 ∷ two 40150 0 ∷ []) ≡ true ∷ false ∷ true ∷ []
-  pub became_stays : map (λ r. became_reached journey r (stopped 0)) (one 39850 0 ∷ two 40150 0 ∷ []) ≡ false ∷ false ∷ []
+  pub became_stays : map (λ r. became_reached journey r (stopped 0)) (one 39850 0 ∷ one 40000 1 ∷ two 40150 0 ∷ []) ≡ false ∷ false ∷ false ∷ []
   pub report_departs : report_of journey (two 10302 1) (stopped 0) ≡ brings (targeted 3) 1 true false
-  pub report_stays : report_of journey (two 10302 0) (stopped 0) ≡ brings (stopped 0) 0 false false
+  pub report_stays : map (λ r. report_of journey r (stopped 0)) (two 10302 0 ∷ one 40150 1 ∷ [])
+      ≡ brings (stopped 0) 0 false false ∷ brings (stopped 0) 0 false false ∷ []
   pub report_passes : report_of journey (two 50000 9) (targeted 3) ≡ brings (targeted 4) 3 false false
   pub report_reaches : report_of journey (two 40150 0) (targeted 1) ≡ brings (stopped 3) 1 false true
   pub no_report_lem : no_report (targeted 4) ∷ no_report (stopped 0) ∷ [] ≡ brings (targeted 4) 4 false false ∷ brings (stopped 0) 0 false false ∷ []
@@ -162,7 +188,8 @@ pub record Anchors : Type 0 where
       ≡ change 0 2 (targeted 1) ∷ change 1 0 (targeted 2) ∷ change 2 0 (targeted 3) ∷ []
   pub changes_reaching : report_changes journey (two 40150 0) (targeted 1)
       ≡ change 1 0 (targeted 2) ∷ change 2 0 (targeted 3) ∷ change 3 1 (stopped 3) ∷ []
-  pub changes_none : report_changes journey (two 40150 0) (stopped 3) ∷ report_changes journey (two 40049 0) (targeted 3) ∷ [] ≡ [] ∷ [] ∷ []
+  pub changes_none : report_changes journey (two 40150 0) (stopped 3) ∷ report_changes journey (two 40250 1) (stopped 3)
+      ∷ report_changes journey (two 40049 0) (targeted 3) ∷ [] ≡ [] ∷ [] ∷ [] ∷ []
   -- moments: report t of a list, from 1
   pub numbered : map (λ t. (report_number (one 7 1 ∷ one 8 1 ∷ []) t).position.offset) (0 ∷ 1 ∷ 2 ∷ 3 ∷ []) ≡ 16777215 ∷ 7 ∷ 8 ∷ 16777215 ∷ []
   -- "that very report included (for the first point, from the load)"
@@ -177,11 +204,13 @@ pub record Anchors : Type 0 where
   pub rule_unsettled : stand 0 (one 39849 0 ∷ one 40150 5 ∷ []) ≡ Targeted ∷ Unused ∷ Unused ∷ Unused ∷ Unused ∷ []
   pub rule_reached : stand 0 (one 39849 0 ∷ one 39850 0 ∷ []) ≡ Reached ∷ Unused ∷ Unused ∷ Unused ∷ Unused ∷ []
   pub rule_first : map (standing_by_reports crowded 0 (one 40500 9 ∷ [])) (0 ∷ 1 ∷ []) ≡ Targeted ∷ Unused ∷ []
-  -- "departs, thus passes, at the first later position report with speed above 0": not before, wherever the train stands
+  -- "departs, thus passes, at the first later position report", 02, Q-3, "with speed above 0, a known position and d greater than R": not before
   pub rule_stays : stand 0 (one 39850 0 ∷ two 50000 0 ∷ []) ≡ Reached ∷ Unused ∷ Unused ∷ Unused ∷ Unused ∷ []
-  pub rule_departs : stand 0 (one 39850 0 ∷ nowhere 1 ∷ []) ≡ Passed ∷ Targeted ∷ Unused ∷ Unused ∷ Unused ∷ []
+  pub rule_creeps : stand 0 (one 39850 0 ∷ one 40150 9 ∷ one 39849 9 ∷ nowhere 9 ∷ two 50000 0 ∷ []) ≡ Reached ∷ Unused ∷ Unused ∷ Unused ∷ Unused ∷ []
+  pub rule_departs : stand 0 (one 39850 0 ∷ nowhere 1 ∷ one 40151 1 ∷ []) ≡ Passed ∷ Targeted ∷ Unused ∷ Unused ∷ Unused ∷ []
+  pub rule_departs_length : map (λ n. standing_by_reports journey 3 (two 40150 0 ∷ longer n (two 40251 1) ∷ []) 3) (301 ∷ 302 ∷ []) ≡ Passed ∷ Reached ∷ []
   -- "from the passing moment of the point before, that very report included": not from one before it, though 7002 had d > margin there
-  pub rule_from : stand 0 (one 39850 0 ∷ two 50000 0 ∷ one 40000 1 ∷ []) ≡ Passed ∷ Targeted ∷ Unused ∷ Unused ∷ Unused ∷ []
+  pub rule_from : stand 0 (one 39850 0 ∷ two 50000 0 ∷ one 40151 1 ∷ []) ≡ Passed ∷ Targeted ∷ Unused ∷ Unused ∷ Unused ∷ []
   pub rule_restarts : stand 0 (one 39850 0 ∷ two 10302 1 ∷ []) ≡ Passed ∷ Passed ∷ Passed ∷ Targeted ∷ Unused ∷ []
   pub rule_passes_on : stand 0 (two 40150 0 ∷ []) ≡ Passed ∷ Passed ∷ Passed ∷ Reached ∷ Unused ∷ []
   pub rule_later : stand 0 (two 10302 1 ∷ one 40000 0 ∷ []) ≡ Passed ∷ Passed ∷ Passed ∷ Targeted ∷ Unused ∷ []
@@ -198,7 +227,7 @@ pub record Anchors : Type 0 where
   pub rule_load_then : stand 2 (one 39850 0 ∷ two 10302 1 ∷ []) ≡ Passed ∷ Passed ∷ Passed ∷ Targeted ∷ Unused ∷ []
   -- what came of a point, with the reports from its passing moment on
   pub outcome_departs : point_outcome journey 0 (one 39850 0 ∷ one 39900 0 ∷ one 39950 1 ∷ two 10302 1 ∷ []) 0
-      ≡ passes (one 39950 1 ∷ two 10302 1 ∷ [])
+      ≡ passes (two 10302 1 ∷ [])
   pub outcomes : map (point_outcome journey 1 (one 40000 0 ∷ two 10302 1 ∷ two 40150 0 ∷ [])) (0 ∷ 1 ∷ 2 ∷ 3 ∷ 4 ∷ [])
       ≡ passes (one 40000 0 ∷ two 10302 1 ∷ two 40150 0 ∷ []) ∷ passes (two 10302 1 ∷ two 40150 0 ∷ []) ∷ passes (two 10302 1 ∷ two 40150 0 ∷ [])
       ∷ reaches ∷ not_looked_at ∷ []

@@ -1,4 +1,4 @@
--- d and margin, at a position report.
+-- d and margin, at a position report; what departs a reached stop.
 use Rattle.std.specs.Prelude.{ℕ, ◌/◌, Option, Some, None, Bool, false, not, ◌&&◌, get_or, ℤ, pos, neg_ℤ, ◌-ℤ◌, eqb, ltb, if◌then◌else◌}
 use Rattle.std.specs.Int.Signed.{lt_z, le_z}
 use Rattle.engine_value.specs.Engine.{Route}
@@ -42,6 +42,10 @@ at_front (Some f) test = test f
 abbrev pub exceeds : ℕ → ℕ → Point → Bool → Bool
 exceeds f length p driver = lt_z (pos (margin p driver)) (distance f length p)
 
+-- document 02, Q-3: "d greater than R", the point's reached distance itself
+abbrev pub exceeds_reach : ℕ → ℕ → Point → Bool
+exceeds_reach f length p = lt_z (pos p.reach) (distance f length p)
+
 -- "an unskipped stop with speed 0 and d ≥ −R"
 abbrev pub stops_at : ℕ → ℕ → ℕ → Point → Bool → Bool
 stops_at f length speed p driver = unskipped p driver && (eqb speed 0 && le_z (neg_ℤ (pos p.reach)) (distance f length p))
@@ -56,3 +60,7 @@ at_stop j r k = at_front (front_at j r.position) (λ f. stops_at f r.length r.po
 -- "speed above 0"
 abbrev pub moving : Report → Bool
 moving r = ltb 0 r.position.speed
+
+-- 02, Q-3: "a report with speed above 0, a known position and d greater than R"; so a reached point k is departed, and not otherwise
+unfoldable pub leaves : Route → Report → ℕ → Bool
+leaves j r k = moving r && at_front (front_at j r.position) (λ f. exceeds_reach f r.length (point j k))

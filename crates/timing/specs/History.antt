@@ -1,8 +1,9 @@
--- The history rule. The moments since the load in force are numbered: 0 is the load, t (from 1) the t-th accepted position report.
+-- The history rule; by document 02, Q-3, it "is about this meaning of departure". The moments since the load in force are numbered: 0 is the load,
+-- t (from 1) the t-th accepted position report.
 use Rattle.std.specs.Prelude.{◌≡◌, ◌⊎◌, List, Bool, true, false, ◌&&◌, ◌||◌, get_or, length, ℕ, zero, suc, ◌≤◌, ◌<◌}
 use Rattle.engine_value.specs.Engine.{Route, fresh_position}
 use Rattle.position.specs.Position.{known, placed}
-use Rattle.timing.specs.Distance.{Report, beyond, at_stop, moving}
+use Rattle.timing.specs.Distance.{Report, beyond, at_stop, leaves}
 use Rattle.timing.specs.Load.{unskipped_report}
 use Rattle.position.specs.declared.Standing.{Standing}
 use Rattle.position.specs.declared.Standing.TheVariants.{Unused, Targeted, Reached, Passed}
@@ -29,15 +30,18 @@ module _ (j : Route) (start : ℕ) (reports : List Report) where
     pub settled : settles j (report_number reports s) k ≡ true
     pub none_before : (u : ℕ) → a ≤ u → u < s → settles j (report_number reports u) k ≡ false
 
-  -- "departs, thus passes, at the first later position report with speed above 0"
-  pub record Departs (s t : ℕ) : Type 0 where
+  -- "departs, thus passes, at the first later position report" t that departs it: by document 02, Q-3, not any "with speed above 0", but "only by a
+  -- report with speed above 0, a known position and d greater than R"
+  pub record Departs (k s t : ℕ) : Type 0 where
     pub later : s < t
-    pub moves : moving (report_number reports t) ≡ true
-    pub none_before : (u : ℕ) → s < u → u < t → moving (report_number reports u) ≡ false
+    pub leaves_it : leaves j (report_number reports t) k ≡ true
+    pub none_before : (u : ℕ) → s < u → u < t → leaves j (report_number reports u) k ≡ false
 
   -- "With d > margin the point passes there; otherwise it is reached there and departs, thus passes, .."
   abbrev pub Passes : ℕ → ℕ → ℕ → Type 0
-  Passes k a t = (s : ℕ) × Settled k a s × (((beyond j (report_number reports s) k ≡ true) × (t ≡ s)) ⊎ ((beyond j (report_number reports s) k ≡ false) × Departs s t))
+  Passes k a t =
+      (s : ℕ) × Settled k a s
+      × (((beyond j (report_number reports s) k ≡ true) × (t ≡ s)) ⊎ ((beyond j (report_number reports s) k ≡ false) × Departs k s t))
 
   -- "a point may have a passing moment. Where the load put it behind, that is the load. For any other, go through the accepted position reports
   -- from the passing moment of the point before"

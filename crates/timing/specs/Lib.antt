@@ -1,4 +1,4 @@
--- Document 01, "Timing points", in its order.
+-- Document 01, "Timing points", in its order; document 02, Q-3.
 pub mod Distance
 pub mod Load
 pub mod Report

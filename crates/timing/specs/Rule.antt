@@ -2,7 +2,7 @@
 -- It is proved to say the same as the rule with numbered moments.
 use Rattle.std.specs.Prelude.{List, [], ◌∷◌, ℕ, zero, suc, ltb, if◌then◌else◌}
 use Rattle.engine_value.specs.Engine.{Route}
-use Rattle.timing.specs.Distance.{Report, beyond, moving}
+use Rattle.timing.specs.Distance.{Report, beyond, leaves}
 use Rattle.timing.specs.History.{settles}
 use Rattle.position.specs.declared.Standing.{Standing}
 use Rattle.position.specs.declared.Standing.TheVariants.{Unused, Targeted, Reached, Passed}
@@ -12,16 +12,16 @@ pub data PointOutcome : Type 0 where
   passes : List Report → PointOutcome
   reaches not_settled not_looked_at : PointOutcome
 
--- "departs, thus passes, at the first later position report with speed above 0"
-unfoldable pub departing : List Report → PointOutcome
-departing [] = reaches
-departing (r ∷ rs) = if moving r then passes (r ∷ rs) else departing rs
+-- "departs, thus passes, at the first later position report" that, by document 02, Q-3, has "speed above 0, a known position and d greater than R"
+unfoldable pub departing : Route → ℕ → List Report → PointOutcome
+departing j k [] = reaches
+departing j k (r ∷ rs) = if leaves j r k then passes (r ∷ rs) else departing j k rs
 
 -- "The first of them with .. settles it. With d > margin the point passes there; otherwise it is reached there"
 unfoldable pub through : Route → ℕ → List Report → PointOutcome
 through j k [] = not_settled
 through j k (r ∷ rs) =
-    if settles j r k then (if beyond j r k then passes (r ∷ rs) else departing rs) else through j k rs
+    if settles j r k then (if beyond j r k then passes (r ∷ rs) else departing j k rs) else through j k rs
 
 -- "go through the accepted position reports from the passing moment of the point before"
 abbrev pub after : Route → ℕ → PointOutcome → PointOutcome

@@ -4,7 +4,7 @@
 ghost use Rattle.std.specs.Prelude.{◌≡◌, ◌&&◌, ◌-◌, Some, None, MatchOption};
 ghost use Rattle.engine_value.specs.View.{route_view};
 ghost use Rattle.position.specs.Position.{point_count, point, placed, front_at};
-ghost use Rattle.timing.specs.Distance.{back, distance, unskipped, margin, exceeds, stops_at, at_stop};
+ghost use Rattle.timing.specs.Distance.{back, distance, unskipped, margin, exceeds, exceeds_reach, stops_at, at_stop, leaves};
 ghost use Rattle.timing.specs.Load.{put_behind, target_from, target};
 ghost use Rattle.timing.specs.Report.{looked_from, following, report_of, no_report};
 ghost use Rattle.timing.specs.View.{journey_of, report_view};
@@ -101,6 +101,13 @@ impl<'a> Located<'a> {
         ensures { result ≡ exceeds self.now.front.at self.now.report.length p.now.point p.now.skipped }
     {
         self.distance(&p.point) > p.margin() as i64
+    }
+
+    // d > R
+    fn exceeds_reach(&self, p: &Point) -> bool
+        ensures { result ≡ exceeds_reach self.now.front.at self.now.report.length p.now }
+    {
+        self.distance(p) > p.reach as i64
     }
 
     // An unskipped stop at speed 0 with d ≥ −R.
@@ -201,16 +208,25 @@ fn following(k: u8) -> u8
     k.saturating_add(1).min(MAX_POINTS as u8)
 }
 
+// Speed above 0, a known position and d > R: so point k, where it is reached, is departed.
+#[tactic(auto, unfolding(crate::specs::Distance::leaves))]
+fn leaves(r: PositionReport, k: u8) -> bool
+    ensures { result ≡ leaves (journey_of r.entry) (report_view r.entry) k }
+{
+    let moving = 0 < r.place.position.speed;
+    let point = position::point(r.place.journey, k);
+    moving && Located::new(r).is_some_and(|l| l.exceeds_reach(&point))
+}
+
 // A position report: (a), then (b).
 #[tactic(auto, unfolding(crate::specs::Report::reported))]
 pub fn report(r: PositionReport, p: Progress) -> Reported
     ensures { result ≡ report_of (journey_of r.entry) (report_view r.entry) p }
 {
-    let moving = 0 < r.place.position.speed;
-    if p.reached && !moving {
+    let departed = p.reached && leaves(r, p.next);
+    if p.reached && !departed {
         return no_report(p);
     }
-    let departed = p.reached;
     let from = if departed { following(p.next) } else { p.next };
     let progress = look(r, from);
     Reported {

@@ -22,7 +22,7 @@ use Rattle.whole_list.specs.Recorded.{packets_after}
 use Rattle.whole_list.specs.WholeList.{bytes_of_each}
 use Rattle.whole_list.proofs.Recorded.{memory_read}
 use Rattle.whole_list.proofs.Fields.{progress_run, engine_of, in-range}
-use Rattle.whole_list.proofs.FieldsStep.{route_kept, progress_new}
+use Rattle.whole_list.proofs.FieldsStep.{run_kept, route_kept, progress_new}
 use Rattle.whole_list.proofs.WholeList.{outcome_by, outcome-is, kept}
 use Rattle.told_once.specs.Recording.{Told, goes_on, goes_on_if, recording_from, told_in}
 use Rattle.told_once.specs.ToldOnce.{told_since}
@@ -50,12 +50,7 @@ module _ (h : History) (c : Call) where
   -- the points stand as they did, and nothing is told
   goes_on_lem : route_by (c ∷ h) ≡ route_by h → behind_at_load (c ∷ h) ≡ behind_at_load h → reports_since (c ∷ h) ≡ reports_since h
       → (told : List Told) → StoryBy h told → StoryBy (c ∷ h) told
-  unfolding progress_run
-  goes_on_lem a b d told s =
-      moved (sym a) (sym b)
-      (sym (ap (λ j. run j (progress (behind_at_load (c ∷ h)) false) (reports_since (c ∷ h))) a
-      ∙ ap (λ n. run (route_by h) (progress n false) (reports_since (c ∷ h))) b
-      ∙ ap (λ l. run (route_by h) (progress (behind_at_load h) false) l) d)) refl s
+  goes_on_lem a b d told s = moved (sym a) (sym b) (sym (run_kept h c a b d)) refl s
 
   reports_on : (x : Position) → event_of_call c ≡ PositionReport x → behind_at_load (c ∷ h) ≡ behind_at_load h → (told : List Told) → StoryBy h told
       → StoryBy (c ∷ h) (told ++ told_in (bytes_of_each (packets_by h c)))

@@ -10,7 +10,7 @@ use Rattle.std.proofs.lemmas.List.Elements.{filter-append}
 use Rattle.engine_value.specs.Engine.{Route, progress}
 use Rattle.engine_value.specs.declared.Progress.{Progress}
 use Rattle.position.specs.Position.{point_count}
-use Rattle.timing.specs.Distance.{Report, moving}
+use Rattle.timing.specs.Distance.{Report, leaves}
 use Rattle.timing.specs.Report.{departs, first_looked, reported, became_reached}
 use Rattle.timing.specs.Changes.{Change, change, status_passed, status_stopped, status_departed, passings, when, report_changes}
 use Rattle.timing.proofs.Steps.{InRange, following-is, looked_range, reported_stays, reported_departs, reported_looks}
@@ -73,11 +73,11 @@ module _ (j : Route) (start : ℕ) where
         ++ (passings (q.next - f) f ++ when reached (change q.next status_stopped q))
 
     changes_by_lem : (departed : Bool) (f : ℕ) (reached : Bool) (q : Progress)
-        → departs r p ≡ departed → first_looked r p ≡ f → became_reached j r p ≡ reached → reported j r p ≡ q
+        → departs j r p ≡ departed → first_looked j r p ≡ f → became_reached j r p ≡ reached → reported j r p ≡ q
         → report_changes j r p ≡ by departed f reached q
     unfolding report_changes
     changes_by_lem departed f reached q a b c d =
-        ap (λ x. by x (first_looked r p) (became_reached j r p) (reported j r p)) a
+        ap (λ x. by x (first_looked j r p) (became_reached j r p) (reported j r p)) a
         ∙ ap (λ x. by departed x (became_reached j r p) (reported j r p)) b
         ∙ ap (λ x. by departed f x (reported j r p)) c
         ∙ ap (λ x. by departed f reached x) d
@@ -92,7 +92,7 @@ module _ (j : Route) (start : ℕ) where
         Goes : List Change → Type 0
         Goes l = Story j start (reported j r p) (told ++ map (marked j) l)
 
-        go : (a : Bool) → p.reached ≡ a → (b : Bool) → moving r ≡ b → Goes (report_changes j r p)
+        go : (a : Bool) → p.reached ≡ a → (b : Bool) → leaves j r p.next ≡ b → Goes (report_changes j r p)
         go true e false m =
             let z : p.next - p.next ≡ 0 = omega arith in
             subst Goes (sym (changes_by_lem false p.next false p (rw (e, m)) (rw (e, m)) (rw (e, m)) (reported_stays j r p e m)))
@@ -101,7 +101,7 @@ module _ (j : Route) (start : ℕ) where
             s)
         go true e true m =
             let l : p.next < point_count j = range.reached_one e in
-            let f : first_looked r p ≡ p.next + 1 = rw (e, m) (omega (arith, following-is j p.next l)) in
+            let f : first_looked j r p ≡ p.next + 1 = rw (e, m) (omega (arith, following-is j p.next l)) in
             let z : suc p.next ≡ p.next + 1 = omega arith in
             let q = reported j r p in
             let up : p.next + 1 ≤ q.next =
@@ -142,9 +142,9 @@ module _ (j : Route) where
   pub all_count : (r : Report) (p : Progress) → those counts (map (marked j) (report_changes j r p)) ≡ map (marked j) (report_changes j r p)
   unfolding report_changes
   all_count r p =
-      let f = first_looked r p in
+      let f = first_looked j r p in
       let q = reported j r p in
-      let first = when (departs r p) (change p.next status_departed (progress f false)) in
+      let first = when (departs j r p) (change p.next status_departed (progress f false)) in
       let last = when (became_reached j r p) (change q.next status_stopped q) in
-      all_append first (passings (q.next - f) f ++ last) (departure (departs r p) _ _)
+      all_append first (passings (q.next - f) f ++ last) (departure (departs j r p) _ _)
       (all_append (passings (q.next - f) f) last (all_passings (q.next - f) f) (stop (became_reached j r p) _ _))

@@ -8,7 +8,7 @@ use Prim.Native.Nat.{ℕ, zero, suc, ◌+◌, ◌-◌, min, ◌≤◌, ◌<◌}
 use native.Mathlib.Omega.{arith}
 use lib.Dec.{eqb, ltb, leb}
 use lib.ListN.{length, length-map}
-use borrow.Author.Tests.{ltb-true, ltb-false, leb-true, leb-false, eqb-true}
+use borrow.Author.Tests.{ltb-true, ltb-false, leb-true, leb-false}
 use Rattle.wire.specs.Lists.{any, those, tabulate}
 use Rattle.std.specs.List.{range_with_len}
 use Rattle.std.proofs.lemmas.List.{map-id}
@@ -19,15 +19,14 @@ use Rattle.engine_value.specs.Engine.{Route}
 use Rattle.engine_value.specs.declared.Progress.{Progress}
 use Rattle.position.specs.Position.{point_count}
 use Rattle.position.specs.Standing.{standing, is_passed}
-use Rattle.position.specs.declared.Standing.{Standing}
 use Rattle.position.specs.declared.Standing.TheVariants.{Unused, Targeted, Reached, Passed}
+use Rattle.position.proofs.Laws.{standing-at, reached-only}
 use Rattle.timing.specs.Changes.{status_stopped, status_departed}
 use Rattle.call_values.specs.Call.{Call}
 use Rattle.whole_list.specs.Values.{History, route_by, behind_at_load}
 use Rattle.whole_list.specs.Rules.{StandsBy}
 use Rattle.whole_list.specs.Calls.{history_of}
 use Rattle.whole_list.proofs.Fields.{progress_run, in-range, stands_at}
-use Rattle.whole_list.proofs.TableChanges.{standing-reached}
 use Rattle.whole_list.proofs.Engaged.{stands_exactly}
 use Rattle.told_once.specs.Recording.{Name, Told, departs, passes}
 use Rattle.told_once.specs.ToldOnce.{name_of, indices, passed_since, StoppedLast, last_stops, standing_told, ToldOnce, InOrder}
@@ -72,25 +71,6 @@ passed_below p k = go (ltb k p.next) (eqb k p.next) p.reached
     go false true false = refl
     go false false c = refl
 
-reached_there : (p : Progress) (k : ℕ) → standing p k ≡ Reached → (k ≡ p.next) × (p.reached ≡ true)
-reached_there p k = go _ refl _ refl _ refl
-  where
-    code : Standing → ℕ
-    code Unused = 0
-    code Targeted = 1
-    code Reached = 2
-    code Passed = 3
-
-    apart : (s : Standing) → (code s ≡ 2 → ⊥) → {A : Type 0} → s ≡ Reached → A
-    apart s n e = absurd (n (ap code e))
-
-    go : (a : Bool) → ltb k p.next ≡ a → (b : Bool) → eqb k p.next ≡ b → (c : Bool) → p.reached ≡ c
-        → (if a then Passed else if b then (if c then Reached else Targeted) else Unused) ≡ Reached → (k ≡ p.next) × (p.reached ≡ true)
-    go true x b y c z e = apart Passed (λ q. omega arith) e
-    go false x true y true z e = (eqb-true k p.next y, z)
-    go false x true y false z e = apart Targeted (λ q. omega arith) e
-    go false x false y c z e = apart Unused (λ q. omega arith) e
-
 -- ---- what the story says
 
 module _ (h : History) (told : List Told) (s : StoryBy h told) where
@@ -126,7 +106,7 @@ module _ (h : History) (told : List Told) (s : StoryBy h told) where
   module _ (k : ℕ) (l : k < point_count j) where
     stopped_last : StandsBy h k Reached → StoppedLast told (name_of j k)
     stopped_last e =
-        let r = reached_there p k (stands_at h k l ∙ (stands_exactly h k Reached).1 e) in
+        let r = reached-only p k (stands_at h k l ∙ (stands_exactly h k Reached).1 e) in
         let t = s.resting r.1 in
         record {
           before = t.0;
@@ -157,7 +137,7 @@ module _ (h : History) (told : List Told) (s : StoryBy h told) where
         let at = s.resting rests in
         let same : t.stop ≡ tell j p.next status_stopped = last_same t.before at.0 (sym ends ∙ at.1) in
         let here : k ≡ p.next = one_name k p.next l ((in-range h).reached_one rests) (sym t.same_point ∙ ap (λ (x : Told). x.name) same) in
-        (stands_exactly h k Reached).0 (sym (stands_at h k l) ∙ ap (standing p) here ∙ standing-reached p rests)
+        (stands_exactly h k Reached).0 (sym (stands_at h k l) ∙ ap (standing p) here ∙ standing-at p rests)
       where
         last_same : (a b : List Told) {x y : Told} → a ++ (x ∷ []) ≡ b ++ (y ∷ []) → x ≡ y
         last_same a b {x} {y} e = go (parted a b [] x y e)

@@ -1,14 +1,28 @@
--- The two lists by computation, and what the claim says of them.
-use mathlib.Core.Path.{◌≡◌, refl}
+-- The lists by computation, and what the claim says of two of them.
+use mathlib.Core.Path.{◌≡◌, refl, sym, ◌∙◌, ap, subst}
+use mathlib.Core.Logic.{inl}
+use mathlib.Core.List.{List, [], ◌∷◌, ◌++◌}
+use mathlib.Core.Bool.{false, false≢true}
+use Prim.Native.Nat.{ℕ, zero, suc, ◌<◌}
+use lib.ListN.{get_or, take, length}
 use native.Mathlib.Omega.{arith}
+use Rattle.packets.specs.Packets.{packet_of, judged_packet}
 use Rattle.position.specs.Position.{point_count}
 use Rattle.position.specs.declared.Standing.TheVariants.{Reached, Passed}
-use Rattle.whole_list.specs.Values.{route_by}
-use Rattle.whole_list.specs.Rules.{StandsBy, Engaged}
+use Rattle.wire.specs.Judged.Judged.{accept}
+use Rattle.event.specs.Kinds.{off, load, report}
+use Rattle.timing.specs.Distance.{leaves}
+use Rattle.whole_list.specs.Values.{History, role_of_call, route_by, report_at}
+use Rattle.whole_list.specs.Table.{table_by}
+use Rattle.call_values.specs.Call.{Call}
+use Rattle.call.specs.Trials.{at, plainly, point}
+use Rattle.whole_list.specs.Rules.{StandsBy, Engaged, no_call}
 use Rattle.whole_list.specs.Calls.{history_of, engine_after}
-use Rattle.whole_list.specs.Example.{Example, stopped, driven, finished}
+use Rattle.whole_list.specs.Creeping.{TrulyDeparted, Leaving, SurelyDeparted, Keeps, NoTraceOfCreeping}
+use Rattle.whole_list.specs.Example.{Example, stopped, driven, finished, crept}
 use Rattle.whole_list.proofs.Computed.{worked}
 use Rattle.whole_list.proofs.WholeList.{whole_list}
+use Rattle.whole_list.proofs.Creeping.{by_leaves, truly-departed, surely-departed, no_trace_of_creeping}
 
 pub example : Example
 unfolding worked
@@ -25,8 +39,13 @@ example = record {
   degraded = refl;
   accepted_too = refl;
   last_status_too = refl;
+  answers_crept = refl;
+  reached_still = refl;
+  departed = refl;
   by_rule = refl;
   by_rule_passed = refl;
+  by_rule_crept = refl;
+  by_rule_departed = refl;
   by_rows = refl;
   by_rows_too = refl;
   all_nine_lem = refl;
@@ -62,3 +81,72 @@ reached_there = ((whole_list stopped).points.each 0 (omega (arith, two-points)) 
 
 pub passed_there : StandsBy (history_of finished) 1 Passed
 passed_there = ((whole_list finished).points.each 1 (omega (arith, two-points_too)) Passed).0 example.passed_too
+
+-- the packet 62 of the departure stands for one
+pub departed_there : TrulyDeparted (at 40151 50 ∷ history_of crept) (plainly 62 40151 50 (point 7001 0x11 0x00))
+unfolding worked packet_of judged_packet
+departed_there =
+    truly-departed crept (at 40151 50) _ (inl refl)
+    (record {
+      header = record { nidc = 17; nidsp = 500; offset = 40151; speed = 50; operational = 0xFFFFFFFF };
+      nidc = 17;
+      nidtp = 7001;
+      q_eoj_reached = 1;
+      alignment = 0;
+      status = 2;
+      stopping = 0;
+    })
+    refl refl
+
+-- it is reached, and that report leaves it
+leaving_there : Leaving crept (at 40151 50) 0
+unfolding worked
+leaving_there = record {
+  before = record { one_of_them = omega arith; reached = ((whole_list crept).points.each 0 (omega arith) Reached).0 example.reached_still };
+  position = record { nidsp = 500; offset = 40151; nidc = 17; speed = 50 };
+  is_report_lem = refl;
+  accepted = refl;
+  left = record { moves = omega arith; front = 40151; is_known = refl; is_beyond = refl };
+}
+
+pub surely_there : SurelyDeparted crept (at 40151 50) 0
+surely_there = surely-departed crept (at 40151 50) 0 leaving_there
+
+-- each of these four reports keeps 7001 reached: within R, behind −R, with the offset undefined, at speed 0 beyond R
+abbrev pub creep : List Call
+creep = at 40150 50 ∷ at 39849 50 ∷ at 16777215 50 ∷ at 40151 0 ∷ []
+
+keeps_if : (h : History) (c : Call) (k : ℕ) → role_of_call c ≡ report → leaves (route_by h) (report_at (c ∷ h)) k ≡ false → Keeps h k c
+keeps_if h c k r n = record {
+  no_load = λ q. let z : report ≡ load = sym r ∙ q in cc;
+  no_power_off = λ q. let z : report ≡ off = sym r ∙ q in cc;
+  no_departure = λ x e v. false≢true (sym n ∙ by_leaves h c x e k v);
+}
+
+kept_so : (n : ℕ) → n < 4 → Keeps (history_of (stopped ++ take n creep)) 0 (get_or creep n no_call)
+unfolding worked
+kept_so zero l = keeps_if _ _ 0 refl refl
+kept_so (suc zero) l = keeps_if _ _ 0 refl refl
+kept_so (suc (suc zero)) l = keeps_if _ _ 0 refl refl
+kept_so (suc (suc (suc zero))) l = keeps_if _ _ 0 refl refl
+kept_so (suc (suc (suc (suc n)))) l = absurd (omega arith)
+
+-- a list in two parts, by the first one's length
+parts : (some : List Call) (c : Call) (others : List Call)
+    → (take (length some) (some ++ (c ∷ others)) ≡ some) × (get_or (some ++ (c ∷ others)) (length some) no_call ≡ c) × (length some < length (some ++ (c ∷ others)))
+parts [] c others = (refl, refl, omega arith)
+parts (x ∷ some) c others = let (a, b, l) = parts some c others in (ap (λ (y : List Call). x ∷ y) a, b, omega (arith, l))
+
+pub crept_there : NoTraceOfCreeping stopped creep 0
+crept_there =
+    no_trace_of_creeping stopped creep 0
+    (record { before = record { one_of_them = omega (arith, two-points); reached = reached_there }; each = each })
+  where
+    each : (some : List Call) (c : Call) (others : List Call) → creep ≡ some ++ (c ∷ others)
+        → table_by (history_of (stopped ++ some)) c ≡ accept tt → Keeps (history_of (stopped ++ some)) 0 c
+    each some c others e t =
+        let (a, b, l) = parts some c others in
+        let n = length some in
+        let few : n < 4 = subst (λ (y : List Call). n < length y) (sym e) l in
+        subst (λ y. Keeps (history_of (stopped ++ y)) 0 c) (ap (take n) e ∙ a)
+        (subst (λ y. Keeps (history_of (stopped ++ take n creep)) 0 y) (ap (λ (y : List Call). get_or y n no_call) e ∙ b) (kept_so n few))

@@ -36,6 +36,16 @@ use Rattle.whole_list.proofs.FieldsReached.{same_bool_lem, newly}
 use Rattle.whole_list.proofs.Fields.{progress_run, engine_of, skips-at, in-range, stands_at, end_ext}
 use Rattle.whole_list.proofs.TableChanges.{changes_ext, changes_same}
 
+-- ---- what moves no point
+
+pub run_kept : (h : History) (c : Call) → route_by (c ∷ h) ≡ route_by h → behind_at_load (c ∷ h) ≡ behind_at_load h → reports_since (c ∷ h) ≡ reports_since h
+    → progress_run (c ∷ h) ≡ progress_run h
+unfolding progress_run
+run_kept h c a b d =
+    ap (λ j. run j (progress (behind_at_load (c ∷ h)) false) (reports_since (c ∷ h))) a
+    ∙ ap (λ n. run (route_by h) (progress n false) (reports_since (c ∷ h))) b
+    ∙ ap (λ l. run (route_by h) (progress (behind_at_load h) false) l) d
+
 -- ---- a position report
 
 role_is : (c : Call) (e : Event) → event_of_call c ≡ e → role_of_call c ≡ role_of e

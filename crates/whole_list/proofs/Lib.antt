@@ -15,5 +15,6 @@ pub mod Engaged
 pub mod Shown
 pub mod Passed
 pub mod WholeList
+pub mod Creeping
 pub mod Computed
 pub mod Example

@@ -1,10 +1,10 @@
--- Nothing ahead is recorded as passed: what a packet 62 of status 0 stands for.
+-- What a packet 62 of status 0, 1 or 2 stands for. Nothing ahead is recorded as passed.
 use Rattle.std.specs.Prelude.{Option, Some, None}
 use mathlib.Core.Path.{◌≡◌, refl, sym, ◌∙◌, ap, subst}
 use mathlib.Core.Logic.{◌⊎◌, inl, inr}
 use mathlib.Core.Bool.{Bool, true, false}
 use mathlib.Core.List.{List, [], ◌∷◌, ◌++◌, map, Memᴰ}
-use Prim.Native.Nat.{ℕ, ◌<◌}
+use Prim.Native.Nat.{ℕ, ◌≤◌}
 use native.Mathlib.Omega.{arith}
 use Rattle.wire.specs.Judged.{Judged}
 use Rattle.wire.specs.Judged.Judged.{refuse, accept}
@@ -18,8 +18,8 @@ use Rattle.packets.specs.declared.TimingPoint.{TimingPoint}
 use Rattle.status_word.specs.declared.OperationalConditions.{OperationalConditions}
 use Rattle.packets.specs.declared.Requested.{Requested}
 use Rattle.packets.specs.declared.Packet.{Packet}
-use Rattle.position.specs.Position.{point, point_count}
-use Rattle.timing.specs.Changes.{status_passed, when, report_changes}
+use Rattle.position.specs.Position.{point}
+use Rattle.timing.specs.Changes.{Change, status_passed, status_departed, when, report_changes}
 use Rattle.position.specs.Skips.{stop_named}
 use Rattle.timing.proofs.Changes.{Behind, recorded_behind, index_below}
 use Rattle.journey.specs.declared.Head.{Head}
@@ -35,8 +35,8 @@ use Rattle.traction.specs.Requests.{written_content}
 use Rattle.whole_list.specs.Requests.{traction_by}
 use Rattle.whole_list.specs.Calls.{engine_after, history_of}
 use Rattle.whole_list.specs.Recorded.{In}
-use Rattle.whole_list.specs.WholeList.{bytes_of_each, JudgedByTable, TrulyPassed, NothingAhead}
-use Rattle.whole_list.proofs.Requests.{in-append}
+use Rattle.whole_list.specs.WholeList.{bytes_of_each, JudgedByTable, WrittenAt, Each62, TrulyPassed, NothingAhead}
+use Rattle.whole_list.proofs.Requests.{in_left, in_right, in-append}
 use Rattle.whole_list.proofs.Fields.{progress_run, in-range}
 use Rattle.whole_list.proofs.FieldsStep.{route_kept, position_new, changes_is}
 use Rattle.whole_list.proofs.Readable.{packets_fit, read_as}
@@ -54,46 +54,29 @@ in_map f y (x ∷ l) (inr i) = let r = in_map f y l i in (r.0, inr r.1, r.2)
 -- ---- a history that ends with a position report
 
 module _ (c : Call) (h : History) (x : Position) (e : event_of_call c ≡ kind.PositionReport x) where
-  -- what such a change of a report stands for
-  passed_so : (d : PointChange) → In d (changes_by h c) → d.status ≡ status_passed → (d.index < point_count (route_by h)) × Behind (route_by h) (report_at (c ∷ h)) d.index
+  -- the changes by the rules are those of the steps
+  pub by_steps : changes_by h c ≡ map (change_in (route_by h).load) (report_changes (route_by h) (report_at (c ∷ h)) (progress_run h))
   unfolding changes_by
-  passed_so d i s =
-      let r = report_at (c ∷ h) in
-      let told : changes_by h c ≡ map (change_in (route_by h).load) (report_changes (route_by h) r (progress_run h)) = rw (e, changes_by) (changes_is c h x e) in
-      let (a, k, z) = in_map (change_in (route_by h).load) d (report_changes (route_by h) r (progress_run h)) (subst (In d) told i) in
-      let m = member a (report_changes (route_by h) r (progress_run h)) k in
-      let index : d.index ≡ a.index = ap (λ (y : PointChange). y.index) z in
-      let status : a.status ≡ status_passed = sym (ap (λ (y : PointChange). y.status) z) ∙ s in
-      rw index (index_below (route_by h) r (progress_run h) a m (in-range h), recorded_behind (route_by h) r (progress_run h) a m status)
+  by_steps = rw (e, changes_by) (changes_is c h x e)
 
-  truly_at : (packet : List ℕ) (k : ℕ) → k < point_count (route_by h) → Behind (route_by h) (report_at (c ∷ h)) k
-      → ((p : TimingPoint) → packet_of packet ≡ accept (Packet.TimingPoint p) → p.nidtp ≡ (point (route_by (c ∷ h)) k).nidtp) → TrulyPassed (c ∷ h) packet
-  truly_at packet k l b n =
-      record {
-        position = x;
-        c = c;
-        earlier = h;
-        at_report = refl;
-        is_report_lem = e;
-        index = k;
-        one_of_them = rw (route_kept c h x e) l;
-        its_name = n;
-        is_known = rw (route_kept c h x e) (rw (position_new c h x e) at b.position_known);
-        is_placed = rw (route_kept c h x e) b.point_placed;
-        is_beyond = rw (route_kept c h x e) b.is_beyond;
-      }
+  pub step_change : (d : PointChange) → In d (changes_by h c)
+      → (a : Change) × Memᴰ a (report_changes (route_by h) (report_at (c ∷ h)) (progress_run h)) × (d.index ≡ a.index) × (d.status ≡ a.status)
+  step_change d i =
+      let l = report_changes (route_by h) (report_at (c ∷ h)) (progress_run h) in
+      let (a, k, z) = in_map (change_in (route_by h).load) d l (subst (In d) by_steps i) in
+      (a, member a l k, ap (λ (y : PointChange). y.index) z, ap (λ (y : PointChange). y.status) z)
 
--- ---- the changes that a packet 62 of status 0 tells of
+-- ---- the changes that a packet 62 of status 0, 1 or 2 tells of
 
-skip_no : (f : Option ℕ) (on x : Bool) (d : PointChange) → In d (skip_change f on x) → d.status ≡ status_passed → ⊥
+skip_no : (f : Option ℕ) (on x : Bool) (d : PointChange) → In d (skip_change f on x) → d.status ≤ status_departed → ⊥
 skip_no None on x d i s = i
-skip_no (Some k) true x d (inl e) s = let z : ◌≡◌ {A = ℕ} 5 0 = sym (ap (λ (c : PointChange). c.status) e) ∙ s in omega arith
+skip_no (Some k) true x d (inl e) s = let z : d.status ≡ 5 = ap (λ (c : PointChange). c.status) e in omega arith
 skip_no (Some k) true x d (inr i) s = i
-skip_no (Some k) false x d (inl e) s = let z : ◌≡◌ {A = ℕ} 6 0 = sym (ap (λ (c : PointChange). c.status) e) ∙ s in omega arith
+skip_no (Some k) false x d (inl e) s = let z : d.status ≡ 6 = ap (λ (c : PointChange). c.status) e in omega arith
 skip_no (Some k) false x d (inr i) s = i
 
 -- such a change is of a position report
-module _ (h : History) (c : Call) (d : PointChange) (i : In d (changes_by h c)) (s : d.status ≡ status_passed) where
+module _ (h : History) (c : Call) (d : PointChange) (i : In d (changes_by h c)) (s : d.status ≤ status_departed) where
   at_report : (x : Position) × (event_of_call c ≡ kind.PositionReport x)
   unfolding changes_by
   at_report = go (role_of_call c) refl (known (event_of_call c)).role
@@ -137,7 +120,7 @@ module _ (j : Route) (x : Position) (p : TimingPoint) where
   values_62 d e = (cc, cc)
 
 -- only the 62s are of timing points
-timing_among : (h : History) (c : Call) (p : TimingPoint) → In (Packet.TimingPoint p) (packets_by h c)
+pub timing_among : (h : History) (c : Call) (p : TimingPoint) → In (Packet.TimingPoint p) (packets_by h c)
     → (d : PointChange) × In d (changes_by h c) × (Packet.TimingPoint p ≡ timing_point (route_by (c ∷ h)) (position_by (c ∷ h)) d)
 unfolding packets_by packets_of
 timing_among h c p i = first (in-append (Packet.TimingPoint p) (received (route_by (c ∷ h)) (position_by (c ∷ h)) (head_of_call c)) _ i)
@@ -161,27 +144,98 @@ timing_among h c p i = first (in-append (Packet.TimingPoint p) (received (route_
     first (inl q) = absurd (not_65 (route_by (c ∷ h)) (position_by (c ∷ h)) p (head_of_call c) q)
     first (inr q) = second (in-append (Packet.TimingPoint p) (map (timing_point (route_by (c ∷ h)) (position_by (c ∷ h))) (changes_by h c)) _ q)
 
--- every packet 62 of status 0 that an accepted call writes
-pub truly : (h : History) (c : Call) (packet : List ℕ) → In packet (bytes_of_each (packets_by h c))
-    → (p : TimingPoint) → packet_of packet ≡ accept (Packet.TimingPoint p) → p.status ≡ status_passed → TrulyPassed (c ∷ h) packet
-truly h c packet i p e s =
-    let a = read_as packet (packets_by h c) (packets_fit h c) i in
-    let same : a.packet ≡ Packet.TimingPoint p = cc (a.read, e) in
-    let t = timing_among h c p (subst (λ (q : Packet). In q (packets_by h c)) same a.one_of_them) in
-    let d = t.0 in
-    let v = values_62 (route_by (c ∷ h)) (position_by (c ∷ h)) p d t.2 in
-    let z : d.status ≡ status_passed = sym v.0 ∙ s in
-    let w = at_report h c d t.1 z in
-    let x = w.0 in
-    let g = passed_so c h x w.1 d t.1 z in
-    truly_at c h x w.1 packet d.index g.0 g.1
-    (λ p₂ e₂. let k : p₂ ≡ p = cc (e, e₂) in ap (λ (y : TimingPoint). y.nidtp) k ∙ v.1)
+-- and each change is told by one
+in_mapped : {A B : Type 0} (f : A → B) (x : A) (l : List A) → In x l → In (f x) (map f l)
+in_mapped f x [] i = absurd i
+in_mapped f x (y ∷ l) (inl e) = inl (ap f e)
+in_mapped f x (y ∷ l) (inr i) = inr (in_mapped f x l i)
+
+pub told_by : (h : History) (c : Call) (d : PointChange) → In d (changes_by h c)
+    → (p : TimingPoint) × In (Packet.TimingPoint p) (packets_by h c) × (p.status ≡ d.status) × (p.nidtp ≡ (point (route_by (c ∷ h)) d.index).nidtp)
+unfolding packets_by packets_of timing_point
+told_by h c d i = (_, among, refl, refl)
+  where
+    j : Route
+    j = route_by (c ∷ h)
+
+    among : In (timing_point j (position_by (c ∷ h)) d) (packets_by h c)
+    among =
+        in_right _ (received j (position_by (c ∷ h)) (head_of_call c)) _
+        (in_left _ (map (timing_point j (position_by (c ∷ h))) (changes_by h c)) _ (in_mapped (timing_point j (position_by (c ∷ h))) d (changes_by h c) i))
+
+-- what a packet 62 of status 0, 1 or 2 stands for: a change of the steps, at a position report
+pub record Told (h : History) (c : Call) (packet : List ℕ) (p : TimingPoint) : Type 0 where
+  pub position : Position
+  pub is_report_lem : event_of_call c ≡ kind.PositionReport position
+  pub change : Change
+  pub one_of_them : Memᴰ change (report_changes (route_by h) (report_at (c ∷ h)) (progress_run h))
+  pub status_is : change.status ≡ p.status
+  pub its_name : (q : TimingPoint) → packet_of packet ≡ accept (Packet.TimingPoint q) → q.nidtp ≡ (point (route_by (c ∷ h)) change.index).nidtp
+
+module _ (h : History) (c : Call) (packet : List ℕ) (p : TimingPoint) (e : packet_of packet ≡ accept (Packet.TimingPoint p)) (s : p.status ≤ status_departed) where
+  -- of the change d, by its values
+  told_of : (d : PointChange) → In d (changes_by h c) → p.status ≡ d.status → p.nidtp ≡ (point (route_by (c ∷ h)) d.index).nidtp → Told h c packet p
+  told_of d i status name = step (at_report h c d i (omega (arith, status, s)))
+    where
+      step : (x : Position) × (event_of_call c ≡ kind.PositionReport x) → Told h c packet p
+      step (x, r) = made (step_change c h x r d i)
+        where
+          made : (a : Change) × Memᴰ a (report_changes (route_by h) (report_at (c ∷ h)) (progress_run h)) × (d.index ≡ a.index) × (d.status ≡ a.status) → Told h c packet p
+          made (a, m, index_is, status_is) = record {
+            position = x;
+            is_report_lem = r;
+            change = a;
+            one_of_them = m;
+            status_is = sym (status ∙ status_is);
+            its_name = λ q f. let y : q ≡ p = cc (e, f) in ap (λ (t : TimingPoint). t.nidtp) y ∙ name ∙ ap (λ n. (point (route_by (c ∷ h)) n).nidtp) index_is;
+          }
+
+  told : In packet (bytes_of_each (packets_by h c)) → Told h c packet p
+  told i =
+      let a = read_as packet (packets_by h c) (packets_fit h c) i in
+      let same : a.packet ≡ Packet.TimingPoint p = cc (a.read, e) in
+      let (d, k, z) = timing_among h c p (subst (λ (q : Packet). In q (packets_by h c)) same a.one_of_them) in
+      let v = values_62 (route_by (c ∷ h)) (position_by (c ∷ h)) p d z in
+      told_of d k v.0 v.1
+
+-- it is of a point of the journey
+abbrev pub where_written : (h : History) (c : Call) (packet : List ℕ) (p : TimingPoint) → Told h c packet p → WrittenAt (c ∷ h) packet
+where_written h c packet p t =
+    record {
+      position = t.position;
+      c = c;
+      earlier = h;
+      at_report = refl;
+      is_report_lem = t.is_report_lem;
+      index = t.change.index;
+      one_of_them =
+          rw (route_kept c h t.position t.is_report_lem)
+          (index_below (route_by h) (report_at (c ∷ h)) (progress_run h) t.change t.one_of_them (in-range h));
+      its_name = t.its_name;
+    }
 
 -- the packets of a call are those of the rules where it is accepted, and none where it is refused
-pub nothing-ahead : (earlier : List Call) (c : Call) → JudgedByTable (engine_after earlier) (history_of earlier) c (step_of (engine_after earlier) c) → NothingAhead earlier c
+pub each-told : (earlier : List Call) (c : Call) → JudgedByTable (engine_after earlier) (history_of earlier) c (step_of (engine_after earlier) c)
+    → Each62 earlier c (λ packet p. p.status ≤ status_departed → Told (history_of earlier) c packet p)
 unfolding cut_packets cut
-nothing-ahead earlier c w packet i p e s = go (table_by (history_of earlier) c) refl
+each-told earlier c w packet i p e s = go (table_by (history_of earlier) c) refl
   where
-    go : (t : Judged (Unit {0})) → table_by (history_of earlier) c ≡ t → TrulyPassed (c ∷ history_of earlier) packet
+    go : (t : Judged (Unit {0})) → table_by (history_of earlier) c ≡ t → Told (history_of earlier) c packet p
     go (refuse n) q = absurd (rw ((w.number n).1 q) at i)
-    go (accept u) q = truly (history_of earlier) c packet (subst (In packet) (w.packets q) i) p e s
+    go (accept u) q = told (history_of earlier) c packet p e s (subst (In packet) (w.packets q) i)
+
+-- ---- nothing ahead is recorded as passed
+
+truly : (h : History) (c : Call) (packet : List ℕ) (p : TimingPoint) → Told h c packet p → p.status ≡ status_passed → TrulyPassed (c ∷ h) packet
+truly h c packet p t s =
+    let b : Behind (route_by h) (report_at (c ∷ h)) t.change.index =
+    recorded_behind (route_by h) (report_at (c ∷ h)) (progress_run h) t.change t.one_of_them (t.status_is ∙ s) in
+    record {
+      written = where_written h c packet p t;
+      is_known = rw (route_kept c h t.position t.is_report_lem) (rw (position_new c h t.position t.is_report_lem) at b.position_known);
+      is_placed = rw (route_kept c h t.position t.is_report_lem) b.point_placed;
+      is_beyond = rw (route_kept c h t.position t.is_report_lem) b.is_beyond;
+    }
+
+pub nothing-ahead : (earlier : List Call) (c : Call) → JudgedByTable (engine_after earlier) (history_of earlier) c (step_of (engine_after earlier) c) → NothingAhead earlier c
+nothing-ahead earlier c w packet i p e s = truly (history_of earlier) c packet p (each-told earlier c w packet i p e (omega (arith, s))) s

@@ -225,6 +225,12 @@ pub read_back : (ps : List Packet) → All Fits ps → map packet_of (bytes_of_e
 read_back [] a = refl
 read_back (p ∷ ps) a = ap (λ x. x ∷ map packet_of (bytes_of_each ps)) (read-written p a.0.0 a.0.1) ∙ ap (λ l. accept p ∷ l) (read_back ps a.1)
 
+-- the bytes of one of them are among theirs, and read as it
+pub written_as : (p : Packet) (ps : List Packet) → All Fits ps → In p ps → In (packet_bytes p) (bytes_of_each ps) × (packet_of (packet_bytes p) ≡ accept p)
+written_as p [] a i = absurd i
+written_as p (x ∷ ps) a (inl e) = (inl (ap packet_bytes e), ap (λ y. packet_of (packet_bytes y)) e ∙ read-written x a.0.0 a.0.1 ∙ ap accept (sym e))
+written_as p (x ∷ ps) a (inr i) = let r = written_as p ps a.1 i in (inr r.0, r.1)
+
 -- bytes among those of packets are the bytes of one of them, and read so
 pub record ReadAs (bytes : List ℕ) (ps : List Packet) : Type 0 where
   pub packet : Packet

@@ -14,14 +14,14 @@ use Rattle.engine_value.specs.Engine.{Route, progress}
 use Rattle.engine_value.specs.declared.Load.{Load}
 use Rattle.engine_value.specs.declared.Progress.{Progress}
 use Rattle.position.specs.Position.{point_count}
-use Rattle.timing.specs.Distance.{Report, moving}
+use Rattle.timing.specs.Distance.{Report, leaves}
 use Rattle.position.specs.Standing.{standing, behind}
 use Rattle.timing.specs.Report.{departs, stays, first_looked, reported, became_reached}
 use Rattle.timing.specs.Changes.{Change, change, status_passed, status_stopped, status_departed, passings, when, report_changes}
 use Rattle.position.specs.declared.Standing.{Standing}
 use Rattle.position.specs.declared.Standing.TheVariants.{Unused, Targeted, Reached}
 use Rattle.timing.proofs.Steps.{InRange, following-is, looked_range, reported_first, reported_up, reported_range}
-use Rattle.position.proofs.Laws.{standing_passed, standing_unused}
+use Rattle.position.proofs.Laws.{standing_passed, standing_unused, standing-at}
 use Rattle.conditions.specs.Conditions.{end_ahead}
 use Rattle.call_values.specs.Packets.{PointChange}
 use Rattle.call.specs.Packets.{change_in}
@@ -70,10 +70,7 @@ changes_ext e b a b' a' (suc n) k p q s =
 
 -- ---- where the first point not passed stands
 
-pub standing-reached : (p : Progress) → p.reached ≡ true → standing p p.next ≡ Reached
-standing-reached p e = rw (le-ltb p.next p.next (omega arith), eq-eqb p.next p.next refl, e)
-
-pub standing-targeted : (p : Progress) → p.reached ≡ false → standing p p.next ≡ Targeted
+standing-targeted : (p : Progress) → p.reached ≡ false → standing p p.next ≡ Targeted
 standing-targeted p e = rw (le-ltb p.next p.next (omega arith), eq-eqb p.next p.next refl, e)
 
 module _ (j : Route) (r : Report) (p : Progress) (range : InRange j p) where
@@ -81,29 +78,29 @@ module _ (j : Route) (r : Report) (p : Progress) (range : InRange j p) where
   q = reported j r p
 
   abbrev F : ℕ
-  F = first_looked r p
+  F = first_looked j r p
 
-  stayed : stays r p ≡ true → q ≡ p
+  stayed : stays j r p ≡ true → q ≡ p
   unfolding reported
   stayed e = rw e
 
   -- the three ways of a report: nothing is done at a reached point; it is departed; or none is reached
   data Way : Type 0 where
-    not_settled : p.reached ≡ true → stays r p ≡ true → departs r p ≡ false → F ≡ p.next → q ≡ p → Way
-    leaves : p.reached ≡ true → stays r p ≡ false → departs r p ≡ true → F ≡ suc p.next → p.next < q.next → Way
-    looks : p.reached ≡ false → stays r p ≡ false → departs r p ≡ false → F ≡ p.next → Way
+    not_settled : p.reached ≡ true → stays j r p ≡ true → departs j r p ≡ false → F ≡ p.next → q ≡ p → Way
+    goes_on : p.reached ≡ true → stays j r p ≡ false → departs j r p ≡ true → F ≡ suc p.next → p.next < q.next → Way
+    looks : p.reached ≡ false → stays j r p ≡ false → departs j r p ≡ false → F ≡ p.next → Way
 
   way : Way
   way = go _ refl _ refl
     where
-      go : (x : Bool) → p.reached ≡ x → (y : Bool) → moving r ≡ y → Way
-      go true e false f = let s : stays r p ≡ true = rw (e, f) in not_settled e s (rw (e, f)) (rw (e, f)) (stayed s)
+      go : (x : Bool) → p.reached ≡ x → (y : Bool) → leaves j r p.next ≡ y → Way
+      go true e false f = let s : stays j r p ≡ true = rw (e, f) in not_settled e s (rw (e, f)) (rw (e, f)) (stayed s)
       go true e true f =
           let l : p.next < point_count j = range.reached_one e in
-          let s : stays r p ≡ false = rw (e, f) in
+          let s : stays j r p ≡ false = rw (e, f) in
           let g : F ≡ suc p.next = rw (e, f, following-is j p.next l) in
           let z : q ≡ _ = reported_first j r p s in
-          leaves e s (rw (e, f)) g (rw (z, g) (looked_range j r (suc p.next) l).0)
+          goes_on e s (rw (e, f)) g (rw (z, g) (looked_range j r (suc p.next) l).0)
       go false e y f = looks e (rw e) (rw e) (rw e)
 
   first_up : (p.next ≤ F) × (F ≤ q.next)
@@ -111,7 +108,7 @@ module _ (j : Route) (r : Report) (p : Progress) (range : InRange j p) where
     where
       go : Way → (p.next ≤ F) × (F ≤ q.next)
       go (not_settled e s d g z) = rw (g, z) (omega arith, omega arith)
-      go (leaves e s d g l) = rw g (omega arith, omega arith)
+      go (goes_on e s d g l) = rw g (omega arith, omega arith)
       go (looks e s d g) = rw g (omega arith, reported_up j r p range)
 
   abbrev told : Change → PointChange
@@ -157,21 +154,21 @@ module _ (j : Route) (r : Report) (p : Progress) (range : InRange j p) where
   before_first : (i : ℕ) → i < p.next → change_at_lem i ≡ []
   before_first i l = rw (standing_passed p i l)
 
-  departed : changes_from j.load (standing p) (standing q) (F - p.next) p.next ≡ map told (when (departs r p) (change p.next status_departed (progress F false)))
+  departed : changes_from j.load (standing p) (standing q) (F - p.next) p.next ≡ map told (when (departs j r p) (change p.next status_departed (progress F false)))
   unfolding changes_from
   departed = go way
     where
       none_looked : F ≡ p.next → F - p.next ≡ 0
       none_looked e = omega arith
 
-      go : Way → changes_from j.load (standing p) (standing q) (F - p.next) p.next ≡ map told (when (departs r p) (change p.next status_departed (progress F false)))
+      go : Way → changes_from j.load (standing p) (standing q) (F - p.next) p.next ≡ map told (when (departs j r p) (change p.next status_departed (progress F false)))
       go (not_settled e s d g z) = rw (none_looked g, d)
       go (looks e s d g) = rw (none_looked g, d)
-      go (leaves e s d g l) =
+      go (goes_on e s d g l) =
           let one : F - p.next ≡ 1 = omega arith in
           let k : p.next + 1 ≡ F = omega arith in
           ap (λ n. changes_from j.load (standing p) (standing q) n p.next) one
-          ∙ ap (λ x. x ++ []) (changed p.next (standing-reached p e) (standing_passed q p.next l) (end_passed p.next (omega arith) l))
+          ∙ ap (λ x. x ++ []) (changed p.next (standing-at p e) (standing_passed q p.next l) (end_passed p.next (omega arith) l))
           ∙ ap (λ n. told (change p.next status_departed (progress n false)) ∷ []) k
           ∙ sym (ap (λ b. map told (when b (change p.next status_departed (progress F false)))) d)
 
@@ -182,7 +179,7 @@ module _ (j : Route) (r : Report) (p : Progress) (range : InRange j p) where
       go : Way → (p.next ≡ i) ⊎ (p.next < i) → change_at_lem i ≡ told (change i status_passed (progress (i + 1) false)) ∷ []
       go w (inr n) = changed i (standing_unused p i n) (standing_passed q i m) (end_passed i (omega arith) m)
       go (not_settled e s d g z) (inl n) = let y : q.next ≡ p.next = ap (λ x. x.next) z in absurd (omega arith)
-      go (leaves e s d g y) (inl n) = absurd (omega arith)
+      go (goes_on e s d g y) (inl n) = absurd (omega arith)
       go (looks e s d g) (inl n) = changed i (ap (standing p) (sym n) ∙ standing-targeted p e) (standing_passed q i m) (end_passed i (omega arith) m)
 
   -- the first point not passed after the report
@@ -193,12 +190,12 @@ module _ (j : Route) (r : Report) (p : Progress) (range : InRange j p) where
           → change_at_lem q.next ≡ map told (when (became_reached j r p) (change q.next status_stopped q))
       as_before b e f = f ∙ sym (ap (λ x. map told (when x (change q.next status_stopped q))) e)
 
-      reached_there : (s : Standing) → standing p q.next ≡ s → q.reached ≡ true → stays r p ≡ false
+      reached_there : (s : Standing) → standing p q.next ≡ s → q.reached ≡ true → stays j r p ≡ false
           → change_at s Reached q.next (end_ahead j.load (standing q)) ≡ told (change q.next status_stopped q) ∷ []
           → change_at_lem q.next ≡ map told (when (became_reached j r p) (change q.next status_stopped q))
-      reached_there s e x y f = as_before true (ap (λ b. not b && q.reached) y ∙ x) (changed q.next e (standing-reached q x) end_reached ∙ f)
+      reached_there s e x y f = as_before true (ap (λ b. not b && q.reached) y ∙ x) (changed q.next e (standing-at q x) end_reached ∙ f)
 
-      targeted_there : (s : Standing) → standing p q.next ≡ s → q.reached ≡ false → stays r p ≡ false → ((x : Bool) → change_at s Targeted q.next x ≡ [])
+      targeted_there : (s : Standing) → standing p q.next ≡ s → q.reached ≡ false → stays j r p ≡ false → ((x : Bool) → change_at s Targeted q.next x ≡ [])
           → change_at_lem q.next ≡ map told (when (became_reached j r p) (change q.next status_stopped q))
       targeted_there s e x y f = as_before false (ap (λ b. not b && q.reached) y ∙ x) (changed q.next e (standing-targeted q x) refl ∙ f _)
 
@@ -207,14 +204,14 @@ module _ (j : Route) (r : Report) (p : Progress) (range : InRange j p) where
 
       go : (b : Bool) → q.reached ≡ b → Way → (p.next ≡ q.next) ⊎ (p.next < q.next) → change_at_lem q.next ≡ map told (when (became_reached j r p) (change q.next status_stopped q))
       go b x (not_settled e s d g z) (inr n) = let y : q.next ≡ p.next = ap (λ x. x.next) z in absurd (omega arith)
-      go true x (leaves e s d g y) (inr n) = reached_there Unused (standing_unused p q.next n) x s refl
+      go true x (goes_on e s d g y) (inr n) = reached_there Unused (standing_unused p q.next n) x s refl
       go true x (looks e s d g) (inr n) = reached_there Unused (standing_unused p q.next n) x s refl
-      go false x (leaves e s d g y) (inr n) = targeted_there Unused (standing_unused p q.next n) x s (λ b. refl)
+      go false x (goes_on e s d g y) (inr n) = targeted_there Unused (standing_unused p q.next n) x s (λ b. refl)
       go false x (looks e s d g) (inr n) = targeted_there Unused (standing_unused p q.next n) x s (λ b. refl)
       go b x (not_settled e s d g z) (inl n) =
           as_before false (ap (λ b. not b && q.reached) s)
-          (changed q.next (before Reached (standing-reached p e) n) (standing-reached q (ap (λ x. x.reached) z ∙ e)) refl)
-      go b x (leaves e s d g y) (inl n) = absurd (omega arith)
+          (changed q.next (before Reached (standing-at p e) n) (standing-at q (ap (λ x. x.reached) z ∙ e)) refl)
+      go b x (goes_on e s d g y) (inl n) = absurd (omega arith)
       go true x (looks e s d g) (inl n) = reached_there Targeted (before Targeted (standing-targeted p e) n) x s refl
       go false x (looks e s d g) (inl n) = targeted_there Targeted (before Targeted (standing-targeted p e) n) x s (λ b. refl)
 
@@ -228,7 +225,7 @@ module _ (j : Route) (r : Report) (p : Progress) (range : InRange j p) where
       beyond_all : (b : Bool) → became_reached j r p ≡ b → q.next ≡ point_count j → [] ≡ map told (when (became_reached j r p) (change q.next status_stopped q))
       beyond_all false e n = sym (ap (λ b. map told (when b (change q.next status_stopped q))) e)
       beyond_all true e n =
-          let l : q.next < point_count j = (reported_range j r p range).reached_one (and_right (not (stays r p)) _ e) in
+          let l : q.next < point_count j = (reported_range j r p range).reached_one (and_right (not (stays j r p)) _ e) in
           absurd (omega arith)
 
       go : (q.next ≡ point_count j) ⊎ (q.next < point_count j) → changes_from j.load (standing p) (standing q) (point_count j - q.next) q.next ≡ map told (when (became_reached j r p) (change q.next status_stopped q))
@@ -250,7 +247,7 @@ module _ (j : Route) (r : Report) (p : Progress) (range : InRange j p) where
       let e = j.load in
       let b = standing p in
       let a = standing q in
-      let first = when (departs r p) (change p.next status_departed (progress F false)) in
+      let first = when (departs j r p) (change p.next status_departed (progress F false)) in
       let last = when (became_reached j r p) (change q.next status_stopped q) in
       split e b a p.next (point_count j - p.next) 0 p.next (point_count j) (omega arith) (omega arith)
       ∙ ap (λ x. x ++ changes_from e b a (point_count j - p.next) p.next) (unchanged e b a p.next 0 (λ i l m. before_first i (omega arith)))

@@ -1,4 +1,4 @@
--- The claim is not empty: lists of calls, refused ones among them: one that ends in EG, one that ends in DE, one with traction requests.
+-- The claim is not empty: lists of calls, refused ones among them: one that ends in EG, one that ends in DE, one that creeps, one with traction requests.
 use Rattle.std.specs.Prelude.{◌≡◌, true, false, List, [], ◌∷◌, ◌++◌, map, ℕ, length, Some, None}
 use Rattle.status_word.specs.View.{conditions_number}
 use Rattle.wire.specs.Judged.{Judged}
@@ -29,6 +29,13 @@ driven = stopped ++ (reports 31 ∷ configured ∷ press ∷ plain [] ∷ mode 1
 -- then past 7002, the End of Journey; a press is refused again
 abbrev pub finished : List Call
 finished = driven ++ (at 90001 500 ∷ press ∷ [])
+
+-- stopped at 7001, R 150, and crept: within R, behind −R, with the offset undefined; then beyond R at speed 0, and departed from there
+abbrev pub crept : List Call
+crept = stopped ++ (at 40150 50 ∷ at 39849 50 ∷ at 16777215 50 ∷ at 40151 0 ∷ [])
+
+abbrev pub left : List Call
+left = crept ++ (at 40151 50 ∷ [])
 
 -- engaged, requests of 20 and 75 (range 2), −72, which range 2 holds, and −72 with another Q_ATO_SupTB; one in RE, and one of 101, which is refused
 abbrev pub request : ℕ → ℕ → Call
@@ -64,9 +71,17 @@ pub record Example : Type 0 where
   pub degraded : (engine_after finished).control.state ≡ 6
   pub accepted_too : length (history_of finished) ≡ 9
   pub last_status_too : last_status None (trace fresh finished) ≡ Some (plainly 68 90001 500 (0x1F ∷ 0x36 ∷ []))
+  -- creeping writes 68 at the start, and where condition 6 goes and comes, but no 62; the departure writes 62 and 68
+  pub answers_crept : answers_of left
+      ≡ answered 1 false 19 ∷ refuse 6 ∷ answered 1 false 48 ∷ answered 1 false 44 ∷ answered 1 false 19 ∷ answered 1 false 0
+      ∷ answered 1 false 19 ∷ answered 1 false 19 ∷ answered 1 false 44 ∷ []
+  pub reached_still : stands crept 0 ≡ Reached
+  pub departed : map (stands left) (0 ∷ 1 ∷ []) ≡ Passed ∷ Targeted ∷ []
   -- the rules over the history say the same
   pub by_rule : standing_by (history_of stopped) 0 ≡ Reached
   pub by_rule_passed : standing_by (history_of finished) 1 ≡ Passed
+  pub by_rule_crept : standing_by (history_of crept) 0 ≡ Reached
+  pub by_rule_departed : map (standing_by (history_of left)) (0 ∷ 1 ∷ []) ≡ Passed ∷ Targeted ∷ []
   pub by_rows : code (state_by (history_of driven)) ≡ 5
   pub by_rows_too : code (state_by (history_of finished)) ≡ 6
   pub all_nine_lem : conditions_number (conditions_by (history_of driven)) ≡ 511

@@ -6,4 +6,5 @@ pub mod Table
 pub mod Calls
 pub mod Recorded
 pub mod WholeList
+pub mod Creeping
 pub mod Example

@@ -125,9 +125,8 @@ pub record WholeList (calls : List Call) : Type 0 where
 
 -- ---- corollaries
 
--- nothing ahead is recorded as passed: a packet 62 of status 0 was written at a position report, which ends the history h, is of a point of the
--- journey in force, and at that very report the position was known, the point placed and d > margin
-pub record TrulyPassed (h : History) (packet : List ℕ) : Type 0 where
+-- a packet 62 that was written at a position report, which ends the history h, and is of a point of the journey in force
+pub record WrittenAt (h : History) (packet : List ℕ) : Type 0 where
   pub position : Position
   pub c : Call
   pub earlier : History
@@ -136,16 +135,23 @@ pub record TrulyPassed (h : History) (packet : List ℕ) : Type 0 where
   pub index : ℕ
   pub one_of_them : index < point_count (route_by h)
   pub its_name : (p : TimingPoint) → packet_of packet ≡ accept (Packet.TimingPoint p) → p.nidtp ≡ (point (route_by h) index).nidtp
-  pub is_known : known (route_by h) position ≡ true
-  pub is_placed : placed (route_by h) index ≡ true
-  pub is_beyond : beyond (route_by h) (report_at h) index ≡ true
+
+-- what holds of each packet 62 that the call c writes after the calls `earlier`
+abbrev pub Each62 : List Call → Call → (List ℕ → TimingPoint → Type 0) → Type 0
+Each62 earlier c Holds =
+    let r = step_of (engine_after earlier) c in
+    (packet : List ℕ) → In packet (packets_after r.answer r.memory) → (p : TimingPoint) → packet_of packet ≡ accept (Packet.TimingPoint p) → Holds packet p
+
+-- nothing ahead is recorded as passed: a packet 62 of status 0 was written at a position report, is of a point of the journey in force, and at that
+-- very report the position was known, the point placed and d > margin
+pub record TrulyPassed (h : History) (packet : List ℕ) : Type 0 where
+  pub written : WrittenAt h packet
+  pub is_known : known (route_by h) written.position ≡ true
+  pub is_placed : placed (route_by h) written.index ≡ true
+  pub is_beyond : beyond (route_by h) (report_at h) written.index ≡ true
 
 abbrev pub NothingAhead : List Call → Call → Type 0
-NothingAhead earlier c =
-    let r = step_of (engine_after earlier) c in
-    (packet : List ℕ) → In packet (packets_after r.answer r.memory)
-    → (p : TimingPoint) → packet_of packet ≡ accept (Packet.TimingPoint p) → p.status ≡ status_passed
-    → TrulyPassed (c ∷ history_of earlier) packet
+NothingAhead earlier c = Each62 earlier c (λ packet p. p.status ≡ status_passed → TrulyPassed (c ∷ history_of earlier) packet)
 
 -- refused calls leave no trace: the list with its refused calls taken out ends in the same engine, with the same history
 pub record NoTrace (calls : List Call) : Type 0 where

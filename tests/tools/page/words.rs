@@ -1,8 +1,9 @@
 //! What the page lists: states, conditions, reports, standings, numbers, application conditions.
 
 use crate::engines::play;
-use crate::text::{number_of, same, wrong, Checked, Page};
+use crate::text::{number_of, same, wrong, Checked, Page, Row};
 use model::calls::Call;
+use model::events::UNDEFINED;
 use model::values::{write_book, Journey, JourneyPoint, Record, RecordPoint};
 use model::words::{DRIVER, STATES, STATE_NAMES};
 use proved::hollwern::read;
@@ -61,15 +62,37 @@ fn two_points() -> Call {
     Call::load(journey.write(), write_book(&[record]))
 }
 
+/// The two as the row has them.
+fn check_two(row: &Row, pair: &Pair) -> Checked<()> {
+    for (column, standing) in ["The stop", "The passing point"].into_iter().zip(pair.model.standings()) {
+        same(row.line, column, row.text(column)?, STANDINGS[standing as usize])?;
+    }
+    Ok(())
+}
+
 /// Where the two stand after one report at speed 0.
 fn check_standings(page: &Page) -> Checked<()> {
     for row in page.table("7. Timing points", "Front at")? {
         let report = Call::position(17, 500, row.number("Front at")? as u32, 0);
         let mut pair = Pair::fresh();
         play(&mut pair, &[Call::power_on(), two_points(), report], row.line)?;
-        for (column, standing) in ["The stop", "The passing point"].into_iter().zip(pair.model.standings()) {
-            same(row.line, column, row.text(column)?, STANDINGS[standing as usize])?;
-        }
+        check_two(&row, &pair)?;
+    }
+    Ok(())
+}
+
+/// Where they stand after one report more at the reached stop, and the packets that it writes.
+fn check_creeps(page: &Page) -> Checked<()> {
+    for row in page.table("7. Timing points", "Then at")? {
+        let offset = if row.text("Then at")? == "undefined" { UNDEFINED } else { row.number("Then at")? as u32 };
+        let report = Call::position(17, 500, offset, row.number("Speed")? as u16);
+        let mut pair = Pair::fresh();
+        play(&mut pair, &[Call::power_on(), two_points(), Call::position(17, 500, 40_000, 0)], row.line)?;
+        let (_, packets) = play(&mut pair, &[report], row.line)?;
+        check_two(&row, &pair)?;
+        let numbers: Vec<String> = packets.iter().map(|packet| packet[0].to_string()).collect();
+        let numbers = if numbers.is_empty() { "none".into() } else { numbers.join(" ") };
+        same(row.line, "packets", row.text("Packets")?, &numbers)?;
     }
     Ok(())
 }
@@ -81,7 +104,7 @@ fn check_statuses(page: &Page) -> Checked<()> {
         ("driver skip", Call::skip(7001)),
         ("skip revoked", Call::revoke(7001)),
         ("stopped", report(40_000, 0)),
-        ("departed", report(40_000, 1)),
+        ("departed", report(40_151, 1)),
         ("passed", report(90_001, 1)),
     ];
     let rows = page.table("Packet 62", "Status")?;
@@ -158,6 +181,7 @@ pub fn check(page: &Page, header: &str) -> Checked<usize> {
     check_states(page)?;
     check_reports(page)?;
     check_standings(page)?;
+    check_creeps(page)?;
     check_statuses(page)?;
     check_numbers(page)?;
     check_lines(page)?;
