@@ -52,15 +52,16 @@ procedure Example is
       end case;
    end Show_Packet;
 
-   procedure Call (Event : Byte_Array) is
-      A : constant Answer := Step (E, Event, Journey, Book, Output);
+   --  What was written is for the recorder, accepted or refused.
+   procedure Call (Event : Byte_Array; Lent : Byte_Array := Journey) is
+      A : constant Answer := Step (E, Event, Lent, Book, Output);
       First, Next : size_t := 0;
    begin
-      if not A.Accepted then
-         Put_Line ("R " & A.Number);
-         return;
+      if A.Accepted then
+         Put_Line ("A " & A.State & " " & Unsigned_8 (C_bool'Pos (A.Request)) & " " & A.Bytes);
+      else
+         Put_Line ("R " & A.Number & " " & A.Bytes);
       end if;
-      Put_Line ("A " & A.State & " " & Unsigned_8 (C_bool'Pos (A.Request)) & " " & A.Bytes);
       while First < A.Bytes loop
          Next := First + Front_Size (Output (First .. A.Bytes - 1));
          for Byte of Output (First .. Next - 1) loop
@@ -134,6 +135,8 @@ begin
    Call ((Kind_Mode, Mode_Other));
    Position (39_900, 0);                  --  P7: the stop is reached
    Show;
+   --  a byte short: turned down by 9, and recorded
+   Call ((1 => Kind_Load), Journey (Journey'First .. Journey'Last - 1));
    Position (40_150, 50);                 --  a creep within R 150: still reached
    Position (40_151, 50);                 --  beyond R: departed
    Position (90_001, 50);                 --  P6: 7002 is passed

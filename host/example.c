@@ -32,13 +32,13 @@ static void show_packet(const uint8_t *bytes, size_t n) {
         printf(" state %u conditions %03X\n", p.state, p.conditions);
 }
 
-static void call(const uint8_t *event, size_t n) {
-    hollwern_answer a = hollwern_step(&engine, event, n, journey, sizeof journey, book, sizeof book, out, sizeof out);
-    if (!a.accepted) {
-        printf("R %u\n", a.number);
-        return;
-    }
-    printf("A %u %u %zu\n", a.state, a.request, a.bytes);
+/* Lends so many bytes of the journey. What was written is for the recorder, accepted or refused. */
+static void call_lending(const uint8_t *event, size_t n, size_t journey_n) {
+    hollwern_answer a = hollwern_step(&engine, event, n, journey, journey_n, book, sizeof book, out, sizeof out);
+    if (a.accepted)
+        printf("A %u %u %zu\n", a.state, a.request, a.bytes);
+    else
+        printf("R %u %zu\n", a.number, a.bytes);
     for (size_t at = 0, size; at < a.bytes; at += size) {
         size = hollwern_front_size(out + at, a.bytes - at);
         for (size_t k = 0; k < size; k++) printf("%02X", out[at + k]);
@@ -46,6 +46,8 @@ static void call(const uint8_t *event, size_t n) {
         show_packet(out + at, size);
     }
 }
+
+static void call(const uint8_t *event, size_t n) { call_lending(event, n, sizeof journey); }
 
 static void call_kind(uint8_t kind) { call(&kind, 1); }
 
@@ -87,6 +89,7 @@ int main(void) {
     const uint8_t all_reports[] = {HOLLWERN_KIND_REPORTS, 31};
     const uint8_t mode_ad[] = {HOLLWERN_KIND_MODE, HOLLWERN_MODE_AD};
     const uint8_t mode_other[] = {HOLLWERN_KIND_MODE, HOLLWERN_MODE_OTHER};
+    const uint8_t load[] = {HOLLWERN_KIND_LOAD};
     if (hollwern_version() != HOLLWERN_VERSION) {
         fprintf(stderr, "example: header and libhollwern.a are of different versions\n");
         return 1;
@@ -107,6 +110,7 @@ int main(void) {
     call(mode_other, sizeof mode_other);
     position(39900, 0); /* P7: the stop is reached */
     show();
+    call_lending(load, 1, sizeof journey - 1); /* a byte short: turned down by 9, and recorded */
     position(40150, 50); /* a creep within R 150: still reached */
     position(40151, 50); /* beyond R: departed */
     position(90001, 50); /* P6: 7002 is passed */

@@ -39,18 +39,23 @@ fn show_packet(bytes: &[u8]) {
     }
 }
 
-fn call(e: &mut Engine, event: &[u8]) {
+/// What was written is for the recorder, accepted or refused.
+fn call_lending(e: &mut Engine, event: &[u8], journey: &[u8]) {
     let mut out = [0; BYTES_MOST];
-    let a = e.step(event, &JOURNEY, &BOOK, &mut out);
-    if !a.accepted {
-        println!("R {}", a.number);
-        return;
+    let a = e.step(event, journey, &BOOK, &mut out);
+    if a.accepted {
+        println!("A {} {} {}", a.state, a.request as u8, a.bytes);
+    } else {
+        println!("R {} {}", a.number, a.bytes);
     }
-    println!("A {} {} {}", a.state, a.request as u8, a.bytes);
     for packet in packets(&out[..a.bytes]) {
         println!("{}", packet.iter().map(|byte| format!("{byte:02X}")).collect::<String>());
         show_packet(packet);
     }
+}
+
+fn call(e: &mut Engine, event: &[u8]) {
+    call_lending(e, event, &JOURNEY);
 }
 
 fn position(e: &mut Engine, offset: u32, speed: u16) {
@@ -107,6 +112,7 @@ fn main() {
     call(&mut e, &[KIND_MODE, MODE_OTHER]);
     position(&mut e, 39_900, 0); // P7: the stop is reached
     show(&e);
+    call_lending(&mut e, &[KIND_LOAD], &JOURNEY[..27]); // a byte short: turned down by 9, and recorded
     position(&mut e, 40_150, 50); // a creep within R 150: still reached
     position(&mut e, 40_151, 50); // beyond R: departed
     position(&mut e, 90_001, 50); // P6: 7002 is passed

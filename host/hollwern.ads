@@ -8,9 +8,9 @@ private with System;
 
 package Hollwern is
    --  The version of these declarations; Linked_Version tells that of the archive. They must be equal.
-   Version_Major : constant := 1;
-   Version_Minor : constant := 1;
-   Version_Patch : constant := 1;
+   Version_Major : constant := 2;
+   Version_Minor : constant := 0;
+   Version_Patch : constant := 0;
    Version : constant := Version_Major * 65_536 + Version_Minor * 256 + Version_Patch;
 
    --  Bytes of an engine.
@@ -135,6 +135,10 @@ package Hollwern is
    Status_Skipped : constant := 5;
    Status_Revoked : constant := 6;
 
+   --  Status in packet 65: of a load that is accepted, and of one that 7 to 12 refuse.
+   Jp_Accepted : constant := 0;
+   Jp_Turned_Down : constant := 1;
+
    --  Why a call was refused; hollwern.h has each in words.
    Refused_Event_Form : constant := 1;
    Refused_Event_Range : constant := 2;
@@ -161,8 +165,8 @@ package Hollwern is
    --  An engine: all zero until it is made fresh. Equal calls on equal engines leave equal ones.
    type Engine is private;
 
-   --  Where accepted: Number 0, state, request (whether AD is requested) and bytes written. Where refused: Number, all
-   --  else 0.
+   --  Where accepted: Number 0, state, request (whether AD is requested) and bytes written. Where refused: Number, and
+   --  bytes written, 29 for a load that is turned down, else 0; state and request are 0.
    type Answer is record
       Accepted : C_bool;
       Number : Unsigned_8;
@@ -223,7 +227,8 @@ package Hollwern is
    --  Makes the engine fresh. To be called once before the first event.
    procedure Fresh (E : in out Engine) with Import, Convention => C, External_Name => "hollwern_fresh";
 
-   --  Takes one event. Accepted, its packets stand at the front of Output; refused, nothing is changed.
+   --  Takes one event. Accepted, its packets stand at the front of Output; refused, the engine is as it was, and so is
+   --  Output, but for the packet 65 of a load that is turned down.
    function Step (E : in out Engine; Event, Journey, Book : Byte_Array; Output : in out Byte_Array) return Answer;
 
    function Show (E : Engine) return Shown with Import, Convention => C, External_Name => "hollwern_show";

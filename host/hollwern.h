@@ -36,9 +36,9 @@
 #include <stdint.h>
 
 /* The version of these declarations; hollwern_version tells that of the archive. They must be equal. */
-#define HOLLWERN_VERSION_MAJOR 1
-#define HOLLWERN_VERSION_MINOR 1
-#define HOLLWERN_VERSION_PATCH 1
+#define HOLLWERN_VERSION_MAJOR 2
+#define HOLLWERN_VERSION_MINOR 0
+#define HOLLWERN_VERSION_PATCH 0
 #define HOLLWERN_VERSION (HOLLWERN_VERSION_MAJOR * 65536 + HOLLWERN_VERSION_MINOR * 256 + HOLLWERN_VERSION_PATCH)
 
 /* Bytes of an engine; its alignment is 4. */
@@ -159,6 +159,10 @@
 #define HOLLWERN_STATUS_SKIPPED 5 /* by the driver */
 #define HOLLWERN_STATUS_REVOKED 6 /* the driver's skip */
 
+/* Status in packet 65. */
+#define HOLLWERN_JP_ACCEPTED 0
+#define HOLLWERN_JP_TURNED_DOWN 1 /* a load that 7 to 12 refuse; the packet tells no stamp of it */
+
 /* Why a call was refused: the first of these that holds. hollwern_step has 1 to 16, hollwern_read 17 to 19. */
 #define HOLLWERN_REFUSED_EVENT_FORM 1      /* event empty, of unknown kind or of wrong length */
 #define HOLLWERN_REFUSED_EVENT_RANGE 2     /* field of the event out of its range */
@@ -185,8 +189,10 @@ typedef struct hollwern_engine {
     uint32_t opaque[HOLLWERN_ENGINE_SIZE / 4];
 } hollwern_engine;
 
-/* What hollwern_step answers. Accepted: `number` 0, state, request (whether AD is requested) and bytes written.
- * Refused: `number`; all else is 0 and means nothing, state and request stay as last answered. */
+/* What hollwern_step answers. `bytes`, accepted or refused: how many bytes it wrote, all of them for the recorder.
+ * Accepted: `number` 0, state and request (whether AD is requested).
+ * Refused: `number`; `bytes` is 29 for a load that is turned down, where that fits into `out`, else 0. State and
+ * request are 0 and mean nothing: they stay as last answered. */
 typedef struct hollwern_answer {
     bool accepted;
     uint8_t number;
@@ -281,9 +287,12 @@ void hollwern_fresh(hollwern_engine *e);
 /* Takes one event.
  * Accepted: the engine moves on, and the event's packets stand at the front of `out`, `bytes` long; the bytes behind
  * them are kept.
- * Refused: `number` says why; engine and `out` stay as they were, and any event may come next.
+ * Refused: `number` says why; the engine stays as it was, and any event may come next. `out` stays as it was too, but
+ * for a load that is turned down, that is, refused by 7 to 12: its packet 65 of status 1 stands at the front of `out`,
+ * 29 bytes long, and the bytes behind it are kept. Where `out` is shorter, nothing is written, by the same number.
  * `journey` and `book` count for kind 11 alone; with other kinds lend anything, as (event, 0). Event, journey and book
- * may overlap each other. Where `out` has HOLLWERN_BYTES_MOST bytes, no event is refused by 16. */
+ * may overlap each other. Where `out` has HOLLWERN_BYTES_MOST bytes, no event is refused by 16, and every load that is
+ * turned down is written. */
 HOLLWERN_NONNULL
 hollwern_answer hollwern_step(hollwern_engine *e, const uint8_t *event, size_t event_n,
                               const uint8_t *journey, size_t journey_n, const uint8_t *book, size_t book_n,
@@ -295,7 +304,7 @@ HOLLWERN_NONNULL
 hollwern_shown hollwern_show(const hollwern_engine *e);
 
 /* The bytes of the packet in front of `n` bytes: all `n` where no packet has that number or fewer bytes are left than
- * it takes; 0 where `n` is 0, and only there. So cut, what an accepted call wrote falls into its packets:
+ * it takes; 0 where `n` is 0, and only there. So cut, what a call wrote falls into its packets:
  *     for (at = 0; at < a.bytes; at += size) {
  *         size = hollwern_front_size(out + at, a.bytes - at);
  *         .. the packet is at out + at, size bytes long

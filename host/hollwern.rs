@@ -9,9 +9,9 @@
 compile_error!("hollwern.rs: libhollwern.a is for x86-64 Linux only");
 
 /// The version of these declarations; `version` tells that of the archive. They must be equal.
-pub const VERSION_MAJOR: u32 = 1;
-pub const VERSION_MINOR: u32 = 1;
-pub const VERSION_PATCH: u32 = 1;
+pub const VERSION_MAJOR: u32 = 2;
+pub const VERSION_MINOR: u32 = 0;
+pub const VERSION_PATCH: u32 = 0;
 pub const VERSION: u32 = VERSION_MAJOR * 65_536 + VERSION_MINOR * 256 + VERSION_PATCH;
 
 /// Bytes of an engine.
@@ -136,6 +136,10 @@ pub const STATUS_DEPARTED: u8 = 2;
 pub const STATUS_SKIPPED: u8 = 5;
 pub const STATUS_REVOKED: u8 = 6;
 
+// Status in packet 65: of a load that is accepted, and of one that 7 to 12 refuse.
+pub const JP_ACCEPTED: u8 = 0;
+pub const JP_TURNED_DOWN: u8 = 1;
+
 // Why a call was refused; hollwern.h has each in words.
 pub const REFUSED_EVENT_FORM: u8 = 1;
 pub const REFUSED_EVENT_RANGE: u8 = 2;
@@ -164,8 +168,8 @@ pub struct Engine {
     opaque: [u32; ENGINE_SIZE / 4],
 }
 
-/// Where accepted: `number` 0, state, request (whether AD is requested) and bytes written. Where refused: `number`, all
-/// else 0.
+/// Where accepted: `number` 0, state, request (whether AD is requested) and bytes written. Where refused: `number`, and
+/// bytes written, 29 for a load that is turned down, else 0; state and request are 0.
 #[repr(C)]
 #[derive(Clone, Copy, PartialEq, Eq, Debug)]
 pub struct Answer {
@@ -260,7 +264,7 @@ pub fn front_size(bytes: &[u8]) -> usize {
     unsafe { hollwern_front_size(bytes.as_ptr(), bytes.len()) }
 }
 
-/// What an accepted call wrote, packet by packet.
+/// What a call wrote, packet by packet.
 pub fn packets(written: &[u8]) -> impl Iterator<Item = &[u8]> {
     let mut rest = written;
     core::iter::from_fn(move || {
@@ -287,7 +291,8 @@ impl Engine {
         unsafe { hollwern_fresh(self) }
     }
 
-    /// Takes one event. Accepted, its packets stand at the front of `out`; refused, nothing is changed.
+    /// Takes one event. Accepted, its packets stand at the front of `out`; refused, the engine is as it was, and so is
+    /// `out`, but for the packet 65 of a load that is turned down.
     pub fn step(&mut self, event: &[u8], journey: &[u8], book: &[u8], out: &mut [u8]) -> Answer {
         let (event, event_n) = (event.as_ptr(), event.len());
         let (journey, journey_n) = (journey.as_ptr(), journey.len());

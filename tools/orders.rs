@@ -5,6 +5,7 @@
 
 use drawing::ride::Ride;
 use drawing::strips::{picture, Strip};
+use model::engine::written;
 use model::packets::{split_packets, Content, Packet};
 use model::values::Journey;
 use model::words::grouped;
@@ -43,11 +44,7 @@ impl Orders<'_> {
     fn step(&mut self, run: &mut Run, step: &Step) -> Result<Result<(), u8>, String> {
         let answer = run.pair.call(&step.call, &mut self.memory);
         let answer = answer.map_err(|error| format!("{} at '{}': {error}", self.path_in_words(), step.text))?;
-        let answer = match answer {
-            Ok(answer) => answer,
-            Err(number) => return Ok(Err(number)),
-        };
-        let packets = &self.memory.proved[..answer.bytes];
+        let packets = &self.memory.proved[..written(answer)];
         if !packets.is_empty() {
             let mut hasher = DefaultHasher::new();
             (run.recording, packets).hash(&mut hasher);
@@ -59,7 +56,7 @@ impl Orders<'_> {
                 point.into_iter().for_each(|point| run.outcome.note(point, status));
             }
         }
-        Ok(Ok(()))
+        Ok(answer.map(|_| ()).map_err(|refused| refused.number))
     }
 
     /// Every order of the events in `left`, a bit each.

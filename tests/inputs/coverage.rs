@@ -1,7 +1,7 @@
 //! Counts what the lists of calls bring up.
 
 use model::calls::Call;
-use model::engine::{behind_front, Answer, Engine, Traction, DE, EG, NP};
+use model::engine::{behind_front, written, Answer, Engine, Refused, Traction, DE, EG, NP, TURNED_DOWN};
 use model::events::{LOAD, POSITION_REPORT, TRACTION, UNDEFINED};
 use model::packets::{split_packets, Content, Packet};
 use model::route::Segment;
@@ -22,39 +22,55 @@ pub struct Coverage {
     /// From the range that was remembered, if one was, to that of the request.
     jumps: BTreeMap<(Option<u8>, u8), usize>,
     situations: BTreeMap<&'static str, usize>,
+    /// Loads that are turned down, by number and by what is known of the position.
+    turned_down: BTreeMap<(u8, &'static str), usize>,
     /// The stop that is reached was crept at.
     crept: bool,
+    /// The last call was a load that is turned down.
+    just_turned_down: bool,
+}
+
+/// The segment on which the position is known.
+fn known_segment(engine: &Engine) -> Option<&Segment> {
+    let (now, route) = (&engine.now, &engine.route);
+    let segment = route.segments()[..usize::from(route.placed_segments)].get(usize::from(now.segment?))?;
+    (now.position.offset <= segment.length).then_some(segment)
 }
 
 /// How far the train is beyond the first point not passed, which is placed, and the point's R; `None` unless the
 /// position is known.
 fn beyond_first(engine: &Engine) -> Option<(i64, i64)> {
-    let (now, route) = (&engine.now, &engine.route);
-    let segment = &route.segments()[..usize::from(route.placed_segments)].get(usize::from(now.segment?))?;
-    let point = &route.points()[usize::from(now.first)];
+    let (now, segment) = (&engine.now, known_segment(engine)?);
+    let point = &engine.route.points()[usize::from(now.first)];
     let front = i64::from(segment.start) + i64::from(now.position.offset);
     let d = front - i64::from(behind_front(now.length, point.alignment)) - i64::from(point.place);
-    (now.position.offset <= segment.length).then_some((d, i64::from(point.reach)))
+    Some((d, i64::from(point.reach)))
 }
 
 impl Coverage {
-    pub fn count(&mut self, call: &Call, before: &Engine, after: &Engine, answer: Result<Answer, u8>, out: &[u8]) {
+    pub fn count(&mut self, call: &Call, before: &Engine, after: &Engine, answer: Result<Answer, Refused>, out: &[u8]) {
         self.calls += 1;
+        split_packets(&out[..written(answer)]).iter().for_each(|packet| self.count_packet(packet));
         if call.event.first() == Some(&TRACTION) {
             *self.requests.entry(before.now.state).or_default() += 1;
         }
         match answer {
-            Err(number) => *self.numbers.entry(number).or_default() += 1,
+            Err(Refused { number, .. }) => {
+                *self.numbers.entry(number).or_default() += 1;
+                if TURNED_DOWN.contains(&number) {
+                    self.count_turned_down(number, before);
+                }
+            }
             Ok(Answer { state, bytes, .. }) => {
                 *self.kinds.entry(call.event[0]).or_default() += 1;
                 *self.states.entry(state).or_default() += 1;
                 *self.moves.entry((before.now.state, state)).or_default() += 1;
-                split_packets(&out[..bytes]).iter().for_each(|packet| self.count_packet(packet));
                 self.count_situations(call.event[0], before, after);
                 self.count_creeps(call.event[0], before, after, bytes);
                 self.count_traction(call.event[0], before, after, bytes);
             }
         }
+        self.just_turned_down = answer.is_err_and(|refused| TURNED_DOWN.contains(&refused.number));
     }
 
     /// Situations that document 01's edges lie in.
@@ -88,6 +104,7 @@ impl Coverage {
         note("within a zone", now.conditions & 0x80 == 0);
         note("driver skip in force", now.skips != 0);
         note("reached stop held in EG", now.reached && now.state == EG);
+        note("load accepted after one turned down", load && self.just_turned_down);
     }
 
     /// Reports at a reached stop, by document 02: one that does not depart writes no other packet than 68.
@@ -132,9 +149,43 @@ impl Coverage {
         note("request forgotten at power off", now.state == NP && was.traction.is_some());
     }
 
+    /// Loads that are turned down, by document 02.
+    fn count_turned_down(&mut self, number: u8, engine: &Engine) {
+        let position = match known_segment(engine) {
+            _ if !engine.now.loaded => "no journey",
+            None => "unknown",
+            Some(_) => "known",
+        };
+        *self.turned_down.entry((number, position)).or_default() += 1;
+        self.count_kept(engine);
+    }
+
+    /// What such a load leaves as it is, and where the train is then.
+    fn count_kept(&mut self, engine: &Engine) {
+        let now = &engine.now;
+        let booked = now.segment.map(|k| engine.route.segments()[usize::from(k)].booked);
+        let placed = now.segment.is_some_and(|k| k < engine.route.placed_segments);
+        let undefined = now.position.offset == UNDEFINED;
+        let mut note = |name, holds: bool| *self.situations.entry(name).or_default() += usize::from(holds);
+        note("turned down again at once", self.just_turned_down);
+        note("turned down in EG", now.state == EG);
+        note("turned down in DE", now.state == DE);
+        note("turned down with a press pending", now.press);
+        note("turned down at a reached stop", now.reached);
+        note("turned down in a creep", now.reached && self.crept);
+        note("turned down, points passed", now.loaded && now.first > 0);
+        note("turned down, driver skip in force", now.skips != 0);
+        note("turned down, request remembered", now.traction.is_some());
+        note("turned down, offset undefined", now.loaded && undefined);
+        note("turned down, offset beyond the length", placed && !undefined && known_segment(engine).is_none());
+        note("turned down, on a segment not booked", booked == Some(false));
+        note("turned down, booked segment not placed", booked == Some(true) && !placed);
+    }
+
     fn count_packet(&mut self, bytes: &[u8]) {
         let name = match Packet::read(bytes).map(|packet| packet.content) {
             Ok(Content::Point { status, .. }) => format!("62/{status}"),
+            Ok(Content::Load { status, .. }) => format!("65/{status}"),
             _ => bytes[0].to_string(),
         };
         *self.packets.entry(name).or_default() += 1;
@@ -146,6 +197,8 @@ impl Coverage {
         println!("accepted by kind:   {}", list(self.kinds.iter().map(|(k, n)| format!("{k}: {n}")).collect()));
         println!("accepted, state:    {}", list(self.states.iter().map(state).collect()));
         println!("refused by number:  {}", list(self.numbers.iter().map(|(k, n)| format!("{k}: {n}")).collect()));
+        let turned_down = |((number, position), count): (&(u8, &str), &usize)| format!("{number} {position}: {count};");
+        println!("turned down:        {}", list(self.turned_down.iter().map(turned_down).collect()));
         println!("packets (/status):  {}", list(self.packets.iter().map(|(k, n)| format!("{k}: {n}")).collect()));
         let name = |state: u8| STATES[usize::from(state)];
         let moved = self.moves.iter().filter(|((from, to), _)| from != to);

@@ -6,6 +6,7 @@ use crate::faults::good_events;
 use crate::profiles::{base, ending, greatest_values, one_segment, p_journey, passing, record, stop};
 use crate::script::{Script, Start, STARTS};
 use crate::trials::all_trials;
+use crate::turned_down::loads_turned_down;
 use model::calls::Call;
 use model::engine::behind_front;
 use model::events::{LOAD, POSITION_REPORT, REVOKE, SKIP, UNDEFINED};
@@ -371,7 +372,7 @@ fn odd_input(script: &mut Script) {
 
 pub fn all_edges() -> Vec<Call> {
     let mut script = Script::default();
-    let cases: [fn(&mut Script); 22] = [
+    let cases: [fn(&mut Script); 23] = [
         trials_p,
         kinds_in_states,
         pairs_of_events,
@@ -393,6 +394,7 @@ pub fn all_edges() -> Vec<Call> {
         traction_content,
         traction_memory,
         odd_input,
+        loads_turned_down,
         |script| script.calls.extend(all_trials().into_iter().map(|trial| trial.call)),
     ];
     cases.iter().for_each(|case| case(&mut script));

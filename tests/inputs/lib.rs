@@ -13,3 +13,4 @@ pub mod rows;
 mod script;
 pub mod sizes;
 pub mod trials;
+mod turned_down;

@@ -148,6 +148,13 @@ fn received(nidc: u16, atots: u16, date: u16, status: u8) -> Packet {
     Packet { header: NO_HEADER, content }
 }
 
+/// Of a load that is turned down with the train known at 20,000: no stamp, NID_ATOTS 16,384, status 1.
+fn turned_down() -> Packet {
+    let header = Header { nidc: 17, nidsp: 500, offset: 20_000, speed: 0, operational: 0x0012_3456 };
+    let content = Content::Load { nidc: 17, atots: 16_384, date: 0, seconds: 0, counter: 0, status: 1 };
+    Packet { header, content }
+}
+
 /// M_ATO_TraBrRq, M_ATO_LocoBrRq, Q_ATO_SupTB and M_ATO_RTBRq.
 fn traction(header: Header, bytes: [u8; 3], m_ato_rtbrq: u16) -> Packet {
     let [m_ato_trabrrq, m_ato_locobrrq, q_ato_suptb] = bytes;
@@ -206,6 +213,9 @@ fn written() -> Vec<PacketTrial> {
         whole("62 stopping data", point(0, [0, 0, 1, 127])),
         // 1,024 is 0400, 16,384 is 4000, 32,767 is 7FFF
         whole("65 at its ends", received(1024, 16_384, 32_767, 0)),
+        whole("65 turned down", turned_down()),
+        // the stamp is free with status 1 too
+        whole("65 status 1 at its ends", received(1024, 16_384, 32_767, 1)),
         // 7 + 16 × 511 is 1FF7
         whole("68 at its ends", state(7, 511)),
         whole("61", requested()),
@@ -254,7 +264,7 @@ fn out_of_range() -> Vec<PacketTrial> {
         beyond("65 NID_C 1025", received(1025, 0, 0, 0)),
         beyond("65 NID_ATOTS 16385", received(0, 16_385, 0, 0)),
         beyond("65 date 32768", received(0, 0, 32_768, 0)),
-        beyond("65 status 1", received(0, 0, 0, 1)),
+        beyond("65 status 2", received(0, 0, 0, 2)),
         beyond("header NID_C 1024", headed(1024, 0)),
         beyond("offset 16777216", headed(0, 16_777_216)),
         beyond("68 state 8", state(8, 0)),
@@ -282,6 +292,8 @@ fn read_back() -> Vec<PacketTrial> {
         back("P7", stopped()),
         back("62 at its ends", greatest()),
         back("65 at its ends", received(1024, 16_384, 32_767, 0)),
+        back("65 turned down", turned_down()),
+        back("65 status 1 at its ends", received(1024, 16_384, 32_767, 1)),
         back("68 at its ends", state(7, 511)),
         back("61", requested()),
         back("61 at its ends", most_requested()),
@@ -350,7 +362,9 @@ fn alter65() -> Vec<PacketTrial> {
         altered("65 NID_C 1025", &ends, 18, 0x01, Some(19)),
         altered("65 NID_ATOTS 16385", &ends, 20, 0x01, Some(19)),
         altered("65 date 32768", &ends, 21, 0x80, Some(19)),
-        altered("65 status 1", &ends, 28, 0x01, Some(19)),
+        altered("65 status 1", &ends, 28, 0x01, None),
+        altered("65 status 2", &ends, 28, 0x02, Some(19)),
+        altered("65 status 129", &ends, 28, 0x81, Some(19)),
     ]
 }
 

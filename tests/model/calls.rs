@@ -1,9 +1,9 @@
 //! The player's input as a list of calls, and the player's lines for an answer, written and read.
 
-use crate::engine::{Answer, Engine};
+use crate::engine::{written, Answer, Engine, Refused, TURNED_DOWN};
 use crate::events::{LOAD, POSITION_REPORT, REVOKE, SKIP, TRACTION};
 use crate::numbers::Numbers;
-use crate::packets::{split_packets, TractionBrake};
+use crate::packets::{split_packets, TractionBrake, SIZE_65};
 use crate::words::{hex, STATES};
 
 /// Bytes of output memory that the player lends.
@@ -132,18 +132,21 @@ pub fn write_calls(calls: &[Call]) -> Vec<u8> {
 }
 
 /// The player's line for an answer.
-pub fn answer_line(answer: Result<Answer, u8>) -> String {
+pub fn answer_line(answer: Result<Answer, Refused>) -> String {
     match answer {
         Ok(Answer { state, request, bytes }) => format!("A {state} {} {bytes}", u8::from(request)),
-        Err(number) => format!("R {number}"),
+        Err(Refused { number, bytes }) => format!("R {number} {bytes}"),
     }
 }
 
-/// The answer that a line is, just as the player writes it.
-pub fn read_answer(line: &str) -> Option<Result<Answer, u8>> {
+/// The answer that a line is, just as the player writes it: its memory has room for packet 65.
+pub fn read_answer(line: &str) -> Option<Result<Answer, Refused>> {
     let words: Vec<&str> = line.split(' ').collect();
     let answer = match words[..] {
-        ["R", number] => Err(number.parse().ok().filter(|number| (1..=16).contains(number))?),
+        ["R", number, _] => {
+            let number = number.parse().ok().filter(|number| (1..=16).contains(number))?;
+            Err(Refused { number, bytes: if TURNED_DOWN.contains(&number) { SIZE_65 } else { 0 } })
+        }
         ["A", state, request, bytes] => {
             let state = state.parse().ok().filter(|&state: &u8| usize::from(state) < STATES.len())?;
             Ok(Answer { state, request: request == "1", bytes: bytes.parse().ok()? })
@@ -154,10 +157,10 @@ pub fn read_answer(line: &str) -> Option<Result<Answer, u8>> {
 }
 
 /// The player's lines for one call.
-pub fn write_lines(answer: Result<Answer, u8>, out: &[u8], text: &mut String) {
+pub fn write_lines(answer: Result<Answer, Refused>, out: &[u8], text: &mut String) {
     *text += &(answer_line(answer) + "\n");
-    let written = &out[..answer.map_or(0, |answer| answer.bytes)];
-    split_packets(written).iter().for_each(|packet| *text += &format!("{}\n", hex(packet)));
+    let packets = split_packets(&out[..written(answer)]);
+    packets.iter().for_each(|packet| *text += &format!("{}\n", hex(packet)));
 }
 
 /// What the player prints for these calls, from a fresh engine.

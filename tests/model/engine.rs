@@ -3,8 +3,9 @@
 use crate::calls::Call;
 use crate::events::{read_event, Event, Position, UNDEFINED};
 use crate::packets::{Content, Header, Packet, TractionBrake, SIZE_61, SIZE_62, SIZE_65, SIZE_68};
-use crate::route::{Book, Point, Route, Stamp};
+use crate::route::{Book, Point, Route, Stamp, NO_ATOTS};
 use std::cmp::Ordering;
+use std::ops::RangeInclusive;
 
 pub const NP: u8 = 0;
 pub const CO: u8 = 1;
@@ -39,6 +40,24 @@ pub struct Answer {
     pub request: bool,
     pub bytes: usize,
 }
+
+/// What a refusal returns: its number, and how many bytes were written.
+#[derive(Clone, Copy, PartialEq, Eq, Debug)]
+pub struct Refused {
+    pub number: u8,
+    pub bytes: usize,
+}
+
+/// Bytes written by a call, accepted or refused.
+pub fn written(answer: Result<Answer, Refused>) -> usize {
+    match answer {
+        Ok(Answer { bytes, .. }) | Err(Refused { bytes, .. }) => bytes,
+    }
+}
+
+/// A load that one of these refuses is "turned down", by the title of document 02's Q-4, "Profiles turned down are
+/// recorded too": its journey was received, and that is recorded.
+pub const TURNED_DOWN: RangeInclusive<u8> = 7..=12;
 
 /// All of the engine but the route.
 #[derive(Clone, Copy, PartialEq, Eq, Debug)]
@@ -162,8 +181,28 @@ impl Engine {
         Engine { now: FRESH, route: Route::EMPTY }
     }
 
-    /// One call. A refusal is a number and changes neither engine nor memory.
-    pub fn call(&mut self, call: &Call, out: &mut [u8]) -> Result<Answer, u8> {
+    /// One call. A refusal leaves the engine as it was, and writes nothing but the packet of a load that is turned down.
+    pub fn call(&mut self, call: &Call, out: &mut [u8]) -> Result<Answer, Refused> {
+        self.step(call, out).map_err(|number| {
+            let bytes = if TURNED_DOWN.contains(&number) { self.record_turned_down(out) } else { 0 };
+            Refused { number, bytes }
+        })
+    }
+
+    /// Writes packet 65 of a load that is turned down, by the engine and the journey in force, and gives its size;
+    /// writes nothing where it does not fit.
+    fn record_turned_down(&self, out: &mut [u8]) -> usize {
+        const NO_STAMP: Stamp = Stamp { atots: NO_ATOTS, date: 0, seconds: 0, counter: 0 };
+        let content = load_content(&self.now, &self.route, NO_STAMP, 1);
+        let packet = Packet { header: self.now.header(), content };
+        if out.len() < packet.size() {
+            return 0;
+        }
+        packet.put(out)
+    }
+
+    /// The answer, or the number that refuses: then engine and memory are as before.
+    fn step(&mut self, call: &Call, out: &mut [u8]) -> Result<Answer, u8> {
         let event = read_event(&call.event)?;
         self.now.admit(event)?;
         if event == Event::Load {
@@ -451,7 +490,7 @@ fn finish(before: &Now, now: &Now, route: &Route, changes: Changes, out: &mut [u
     let header = now.header();
     let mut put = |content| at += Packet { header, content }.put(&mut out[at..]);
     if let Changes::Load(stamp) = changes {
-        put(load_content(now, route, stamp));
+        put(load_content(now, route, stamp, 0));
     }
     put_points(now, route, changes, &mut put);
     if let Changes::Traction(content) = changes {
@@ -463,10 +502,11 @@ fn finish(before: &Now, now: &Now, route: &Route, changes: Changes, out: &mut [u
     Ok(Answer { state: now.state, request: now.request, bytes })
 }
 
-fn load_content(now: &Now, route: &Route, stamp: Stamp) -> Content {
+/// Content of packet 65: status 0 for a load that is accepted, 1 for one that is turned down.
+fn load_content(now: &Now, route: &Route, stamp: Stamp, status: u8) -> Content {
     let Stamp { atots, date, seconds, counter } = stamp;
     let nidc = if now.front(route).is_some() { now.position.nidc } else { 1024 };
-    Content::Load { nidc, atots, date, seconds, counter, status: 0 }
+    Content::Load { nidc, atots, date, seconds, counter, status }
 }
 
 /// Packets 62. Q_EOJ_REACHED of each is after that change.

@@ -1,5 +1,5 @@
-//! The independent model: document 01 and Q-1 of document 02 once more, in plain Rust. It gives the expected lines of the
-//! tests and is the baseline for speed. Nothing here looks at the proved core.
+//! The independent model: document 01 with of document 02 once more, in plain Rust. It gives the expected
+//! lines of the tests and is the baseline for speed. Nothing here looks at the proved core.
 
 pub mod calls;
 pub mod checked;

@@ -1,4 +1,5 @@
-//! Document 01, "Packets": 62, 65 and 68, and document 02's 61, written and read one at a time.
+//! Document 01, "Packets": 62, 65 and 68, and document 02's 61 and its status 1 of 65, written and read one
+//! at a time.
 
 use crate::numbers::{within, Numbers};
 
@@ -25,7 +26,7 @@ pub struct TractionBrake {
 pub enum Content {
     /// Packet 62. Q_EOJ_REACHED is 0 once the End of Journey is reached or passed.
     Point { nidc: u16, nidtp: u32, q_eoj_reached: u8, alignment: u8, status: u8, stopping: u8 },
-    /// Packet 65.
+    /// Packet 65. Status 0: the load was accepted; 1: it was turned down.
     Load { nidc: u16, atots: u16, date: u16, seconds: u32, counter: u8, status: u8 },
     /// Packet 68.
     State { state: u8, conditions: u16 },
@@ -136,7 +137,7 @@ impl Content {
                 nidc <= 1023 && q_eoj_reached <= 1 && alignment <= 2 && status <= 8 && stopping_fits
             }
             Content::Load { nidc, atots, date, status, .. } => {
-                nidc <= 1024 && atots <= 16_384 && date <= 32_767 && status == 0
+                nidc <= 1024 && atots <= 16_384 && date <= 32_767 && status <= 1
             }
             Content::State { state, conditions } => state <= 7 && conditions <= 0x1FF,
             Content::Traction(_) => true,

@@ -10,7 +10,7 @@ use crate::values::{read_book, Journey, Record};
 use crate::words::{grouped, STATES};
 
 /// A number and its reason.
-pub type Refused = (u8, String);
+pub type Reason = (u8, String);
 
 /// What records, segments and points are called, by their index: those of the load, for other events those in force.
 /// By themselves they are called by their place, from 1.
@@ -33,7 +33,7 @@ pub struct ByPlace;
 impl Names for ByPlace {}
 
 /// The number that refuses the call and why, if one does, with memory enough.
-pub fn reason(engine: &Engine, call: &Call, names: &dyn Names) -> Option<Refused> {
+pub fn reason(engine: &Engine, call: &Call, names: &dyn Names) -> Option<Reason> {
     let refused = match read_event(&call.event) {
         Err(refused) => Err(refused),
         Ok(event) => admit(engine.now.state, event).and_then(|()| match event {
@@ -108,7 +108,7 @@ fn range(low: u32, high: u32) -> String {
 }
 
 /// Numbers 1 and 2.
-fn read_event(bytes: &[u8]) -> Result<Event, Refused> {
+fn read_event(bytes: &[u8]) -> Result<Event, Reason> {
     let Some((&kind, fields)) = bytes.split_first() else { return Err((1, "the event is empty".into())) };
     let size = match kind {
         1..=4 | 8 | LOAD => 1,
@@ -158,7 +158,7 @@ fn read_fields(kind: u8, mut from: Fields) -> Result<Event, String> {
 }
 
 /// Numbers 3 to 6.
-fn admit(state: u8, event: Event) -> Result<(), Refused> {
+fn admit(state: u8, event: Event) -> Result<(), Reason> {
     let in_words = STATES[usize::from(state)];
     let only_in = |what: &str, only: u8| {
         let only = STATES[usize::from(only)];
@@ -177,7 +177,7 @@ fn admit(state: u8, event: Event) -> Result<(), Refused> {
 }
 
 /// Numbers 7 to 12.
-fn load(journey: &[u8], book: &[u8], names: &dyn Names) -> Result<(), Refused> {
+fn load(journey: &[u8], book: &[u8], names: &dyn Names) -> Result<(), Reason> {
     let with = |number: u8| move |reason: String| (number, reason);
     read_records(book, names).map_err(with(7))?;
     let records = read_book(book).unwrap_or_default();
@@ -379,7 +379,7 @@ impl Booked<'_> {
 }
 
 /// Number 13.
-fn position_report(engine: &Engine, position: Position, names: &dyn Names) -> Result<(), Refused> {
+fn position_report(engine: &Engine, position: Position, names: &dyn Names) -> Result<(), Reason> {
     let segments = if engine.now.loaded { engine.route.segments() } else { &[] };
     let here = |(nidc, nidsp): (u16, u32)| (nidc, nidsp) == (position.nidc, position.nidsp);
     let Some(k) = segments.iter().position(|segment| here((segment.nidc, segment.nidsp))) else { return Ok(()) };
@@ -392,7 +392,7 @@ fn position_report(engine: &Engine, position: Position, names: &dyn Names) -> Re
 }
 
 /// Numbers 14 and 15.
-fn skip(engine: &Engine, nidtp: u32, give: bool, names: &dyn Names) -> Result<(), Refused> {
+fn skip(engine: &Engine, nidtp: u32, give: bool, names: &dyn Names) -> Result<(), Reason> {
     let points = if engine.now.loaded { engine.route.points() } else { &[] };
     let Some(k) = points.iter().position(|point| point.nidtp == nidtp) else {
         let journey = if points.is_empty() { "no journey is loaded" } else { "the journey has no such point" };

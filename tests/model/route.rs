@@ -4,6 +4,8 @@ use crate::numbers::{within, Numbers};
 
 const LENGTH_MOST: u32 = 16_777_214;
 const NIDTP_MOST: u32 = 0xFFFF_FFFE;
+/// NID_ATOTS where none is known.
+pub const NO_ATOTS: u16 = 16_384;
 
 /// A segment record of the book; its points (10 bytes each) and zones (8 bytes each) stay in the lent bytes.
 #[derive(Clone, Copy)]
@@ -257,7 +259,7 @@ impl Route {
         self.operational = if map & 1 != 0 { from.u32()? } else { 0xFFFF_FFFF };
         let date = within(from.u16()?, 0, 32_767)?;
         let (seconds, counter) = (from.u32()?, from.u8()?);
-        let atots = if map & 4 != 0 { within(from.u16()?, 0, 16_383)? } else { 16_384 };
+        let atots = if map & 4 != 0 { within(from.u16()?, 0, 16_383)? } else { NO_ATOTS };
         self.segment_count = within(from.u8()?, 1, 40)?;
         for segment in self.segments_mut() {
             segment.nidc = within(from.u16()?, 0, 1023)?;

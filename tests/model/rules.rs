@@ -1,9 +1,9 @@
-//! The history rule and the engagement rule of document 01, with the departure and the range of document 02 (Q-3, Q-1),
-//! read literally over the accepted events, and the States rows run over the conditions that follow from them. Nothing
-//! here looks at an engine, but for the comparison at the end.
+//! The history rule and the engagement rule of document 01, with the departure, the range and the packet of a load that
+//! is turned down of document 02 (Q-3, Q-1, Q-4), read literally over the accepted events, and the States rows run over
+//! the conditions that follow from them. Nothing here looks at an engine, but for the comparison at the end.
 
 use crate::calls::Call;
-use crate::engine::{Engine, Standing, AV, CO, DE, EG, FA, NA, NP, RE};
+use crate::engine::{Engine, Refused, Standing, AV, CO, DE, EG, FA, NA, NP, RE};
 use crate::events::{read_event, Event, Position, UNDEFINED};
 use crate::values::{read_book, Journey, JourneyPoint, Record};
 use std::rc::Rc;
@@ -394,6 +394,42 @@ impl Rules {
             Ok(())
         } else {
             Err(format!("packet 61: by the rules with {due:02X?}, written with {written:02X?}"))
+        }
+    }
+
+    /// "A load refused by 7 to 12 writes packet 65 with status 1, the header of the engine as it stands, the content's
+    /// NID_C by 01's rule against the journey in force, stamp fields 0 and NID_ATOTS 16,384." A refused call is no
+    /// moment: all this is of the accepted ones before it.
+    fn turned_down(&self) -> Vec<u8> {
+        let values = self.moments.last().map_or(Values::fresh(), |moment| moment.values.clone());
+        let (load, position) = (values.load.as_ref(), values.position);
+        let known = load.is_some_and(|load| load.front(position).is_some());
+        let operational = load.and_then(|load| load.journey.operational);
+        let (no_date, no_seconds, no_counter, no_atots) = ([0; 2], [0; 4], [0], 16_384u16);
+        [
+            &[65][..],
+            &position.nidc.to_be_bytes(),
+            &position.nidsp.to_be_bytes(),
+            &position.offset.to_be_bytes(),
+            &values.speed.to_be_bytes(),
+            &operational.unwrap_or(u32::MAX).to_be_bytes(),
+            &if known { position.nidc } else { 1024 }.to_be_bytes(),
+            &no_atots.to_be_bytes(),
+            &no_date,
+            &no_seconds,
+            &no_counter,
+            &[1],
+        ]
+        .concat()
+    }
+
+    /// Of a refused call with memory enough: only 7 to 12 write, and that packet alone.
+    pub fn check_refused(&self, refused: Refused, written: &[u8]) -> Result<(), String> {
+        let due = if (7..=12).contains(&refused.number) { self.turned_down() } else { Vec::new() };
+        if due == written {
+            Ok(())
+        } else {
+            Err(format!("refused by {}: by the rules {due:02X?}, written {written:02X?}", refused.number))
         }
     }
 

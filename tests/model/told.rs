@@ -1,7 +1,7 @@
-//! Told once, in order: what the packets 62 of status 0, 1 and 2 since the load in force say of each point.
+//! Told once, in order: what the packets 62 of status 0, 1 and 2 since the load in force say of each point. That load
+//! is the last packet 65 of status 0; one of status 1 tells of a load that is turned down, and what was told goes on.
 
 use crate::engine::{Engine, Standing};
-use crate::events::Event;
 use crate::packets::{Content, Packet};
 
 const PASSED: u8 = 0;
@@ -19,17 +19,21 @@ pub struct Told {
 }
 
 impl Told {
-    /// Takes what an accepted event wrote; `engine` is the one after it.
-    pub fn accept(&mut self, event: Event, packets: &[&[u8]], engine: &Engine) {
-        if matches!(event, Event::PowerOff | Event::Load) {
-            let behind = engine.standings().filter(|&standing| standing == Standing::Passed).count();
-            *self = Told { behind, since: Vec::new() };
+    /// Takes what a call wrote, accepted or refused; `engine` is the one after it.
+    pub fn take(&mut self, packets: &[&[u8]], engine: &Engine) {
+        if !engine.now.loaded {
+            *self = Told::default();
         }
         for bytes in packets {
-            if let Ok(Packet { content: Content::Point { nidc, nidtp, status, .. }, .. }) = Packet::read(bytes) {
-                if matches!(status, PASSED | STOPPED | DEPARTED) {
+            match Packet::read(bytes).map(|packet| packet.content) {
+                Ok(Content::Load { status: 0, .. }) => {
+                    let behind = engine.standings().filter(|&standing| standing == Standing::Passed).count();
+                    *self = Told { behind, since: Vec::new() };
+                }
+                Ok(Content::Point { nidc, nidtp, status: status @ (PASSED | STOPPED | DEPARTED), .. }) => {
                     self.since.push(((nidc, nidtp), status));
                 }
+                _ => {}
             }
         }
     }

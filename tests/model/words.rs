@@ -35,6 +35,8 @@ pub const STATUSES: [&str; 9] = [
     "status 7",
     "status 8",
 ];
+/// Status of a load in packet 65.
+pub const LOADS: [&str; 2] = ["journey taken", "profiles turned down"];
 pub const CONDITIONS: [&str; 9] = [
     "ETCS conditions",
     "no emergency brake",
@@ -200,8 +202,9 @@ fn content_in_words(content: &Content, name: &dyn Fn(u32) -> String) -> String {
             )
         }
         Content::Load { nidc, atots, date, seconds, counter, status } => format!(
-            "65 journey taken: NID_C {nidc}, NID_ATOTS {atots}, date {date}, seconds {seconds}, counter {counter}, \
-             status {status}"
+            "65 {}: NID_C {nidc}, NID_ATOTS {atots}, date {date}, seconds {seconds}, counter {counter}, \
+             status {status}",
+            LOADS[usize::from(status)]
         ),
         Content::State { state, conditions } => {
             format!("68 state {}: {}", STATES[usize::from(state)], lacking(conditions))

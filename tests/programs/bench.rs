@@ -5,7 +5,7 @@ use inputs::profiles::Profiles;
 use inputs::rows::{at, engaged, on, ready, rows, traction, Row};
 use inputs::sizes::{largest, profiles};
 use model::calls::{Call, MEMORY};
-use model::engine::{Answer, Engine};
+use model::engine::{Answer, Engine, Refused};
 use model::packets::{split_packets, Packet};
 use proved::engine::Proved;
 use proved::hollwern::{read, ENGINE_SIZE};
@@ -14,7 +14,7 @@ use proved::pair::{Memory, Pair};
 use std::hint::black_box;
 
 struct Cost {
-    answer: Result<Answer, u8>,
+    answer: Result<Answer, Refused>,
     proved: f64,
     model: f64,
     stack: usize,
@@ -51,7 +51,10 @@ impl Bench {
     fn print_row(&self, row: &Row) {
         let Cost { answer, proved, model, stack } = self.cost(&row.before, &row.call);
         let (copies, ratio) = (proved / self.copy, proved / model);
-        let answer = answer.map_or_else(|number| format!("R {number}"), |answer| format!("A {}", answer.bytes));
+        let answer = match answer {
+            Ok(Answer { bytes, .. }) => format!("A {bytes}"),
+            Err(Refused { number, bytes }) => format!("R {number} {bytes}"),
+        };
         println!("{:36} {answer:>6} {proved:>8.0} {model:>8.0} {ratio:>7.1} {copies:>7.1} {stack:>7}", row.name);
     }
 

@@ -5,7 +5,7 @@
 use inputs::edges::all_edges;
 use inputs::lists::new_list;
 use model::calls::{Call, MEMORY};
-use model::engine::Answer;
+use model::engine::{written, Answer, Refused};
 use model::words::call_in_words;
 use proved::engine::Proved;
 use proved::stack::Stack;
@@ -16,6 +16,7 @@ const STACK: usize = 128 * 1024;
 /// One call in so many is first made with memory too short for any packet.
 const SHORT: usize = 8;
 const SHORT_MEMORY: usize = 18;
+const TOO_SHORT: Result<Answer, Refused> = Err(Refused { number: 16, bytes: 0 });
 
 /// An engine, with what it is lent for a call.
 struct Lent {
@@ -41,7 +42,7 @@ impl Lent {
         self.stack.run(fill, || engine.make_fresh());
     }
 
-    fn call(&mut self, call: &Call, memory: usize, fill: u8) -> Result<Answer, u8> {
+    fn call(&mut self, call: &Call, memory: usize, fill: u8) -> Result<Answer, Refused> {
         self.out.fill(fill);
         let (engine, out) = (&mut self.engine, &mut self.out[..memory]);
         self.stack.run(fill, || engine.call(call, out))
@@ -71,27 +72,27 @@ impl Two {
         Err(format!("{} bytes differ, first that at offset {k}: {:02X}, {:02X}", differs.len(), one[k], other[k]))
     }
 
-    fn call(&mut self, call: &Call, memory: usize) -> Result<Result<Answer, u8>, String> {
+    fn call(&mut self, call: &Call, memory: usize) -> Result<Result<Answer, Refused>, String> {
         let [fill, other_fill] = self.fills();
         let [one, other] = &mut self.engines;
         let answer = one.call(call, memory, fill);
         if other.call(call, memory, other_fill) != answer {
             return Err("the answers differ".into());
         }
-        let written = answer.map_or(0, |answer| answer.bytes);
+        let written = written(answer);
         if one.out[..written] != other.out[..written] {
             return Err("the packets differ".into());
         }
         self.calls += 1;
         match answer {
             Ok(_) => *self.accepted.entry(call.event[0]).or_default() += 1,
-            Err(number) => *self.refused.entry(number).or_default() += 1,
+            Err(refused) => *self.refused.entry(refused.number).or_default() += 1,
         }
         self.compare().map(|()| answer)
     }
 
     fn try_call(&mut self, call: &Call) -> Result<(), String> {
-        if self.calls % SHORT == 0 && self.call(call, SHORT_MEMORY)? != Err(16) {
+        if self.calls % SHORT == 0 && self.call(call, SHORT_MEMORY)? != TOO_SHORT {
             return Ok(());
         }
         self.call(call, MEMORY).map(|_| ())

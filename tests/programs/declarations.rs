@@ -9,10 +9,11 @@ use std::collections::{BTreeMap, BTreeSet};
 use std::fmt::Debug;
 
 /// Constants of the header by the beginning of their names, the crate that has them, and how they begin there.
-const CONSTANTS: [(&str, &str, &str); 16] = [
+const CONSTANTS: [(&str, &str, &str); 17] = [
     ("VERSION_", "host", ""),
     ("KIND_", "event", ""),
     ("STATUS_", "packets", ""),
+    ("JP_", "packets", ""),
     ("PACKET_", "packets", ""),
     ("REFUSED_", "wire", ""),
     ("STATE_", "state_codes", ""),

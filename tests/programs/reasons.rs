@@ -3,7 +3,7 @@
 
 use inputs::trials::all_trials;
 use model::calls::MEMORY;
-use model::engine::Engine;
+use model::engine::{Engine, Refused};
 use model::reasons::{reason, ByPlace};
 
 fn main() {
@@ -14,7 +14,9 @@ fn main() {
         let reason = reason(&engine, &trial.call, &ByPlace);
         let answer = engine.call(&trial.call, &mut out);
         let alone = trial.call.lends_profiles() && !trial.name.contains(" and ") && !trial.name.contains(" cut to ");
-        if let (Err(number @ 7..=12), true, false) = (answer, alone, names.contains(&trial.name)) {
+        if let (Err(Refused { number: number @ 7..=12, .. }), true, false) =
+            (answer, alone, names.contains(&trial.name))
+        {
             let reason = reason.map_or(String::new(), |(_, reason)| reason);
             println!("{number} {}: {reason}", trial.name);
             names.push(trial.name);

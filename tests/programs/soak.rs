@@ -7,6 +7,7 @@
 
 use inputs::lists::new_list;
 use model::calls::Call;
+use model::engine::written;
 use model::words::call_in_words;
 use proved::pair::{Memory, Pair};
 use proved::reading::{try_packets, try_words, Readings};
@@ -75,11 +76,12 @@ fn try_call(pair: &mut Pair, call: &Call, memory: &mut Memory, turn: usize, done
         return Err("state, request, conditions or standings differ".into());
     }
     done.calls += 1;
-    let Ok(answer) = answer else { return Ok(()) };
-    let written = &memory.proved[..answer.bytes];
+    let written = &memory.proved[..written(answer)];
     if let Some(before) = before {
-        before.call_short(call, written)?;
-        done.calls += 2;
+        if answer.is_err() && !pair.is_as(&before) {
+            return Err("a refusal changed the engine".into());
+        }
+        done.calls += before.call_short(call, answer, written)? as u64;
     }
     try_packets(written, 1 + (turn % 255) as u8, &mut done.readings)
 }

@@ -22,8 +22,8 @@ fn is_wrong(name: &str, expected: Option<u8>, found: Option<u8>) -> bool {
 fn wrong_trials(trials: &[Trial]) -> usize {
     let mut engine = Engine::fresh();
     let mut out = [0; MEMORY];
-    let mut wrong = |trial: &&Trial| is_wrong(&trial.name, trial.expected, engine.call(&trial.call, &mut out).err());
-    trials.iter().filter(|trial| wrong(trial)).count()
+    let mut number = |call: &Call| engine.call(call, &mut out).err().map(|refused| refused.number);
+    trials.iter().filter(|trial| is_wrong(&trial.name, trial.expected, number(&trial.call))).count()
 }
 
 fn wrong_packet_trials(trials: &[PacketTrial]) -> usize {

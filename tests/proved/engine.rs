@@ -2,7 +2,7 @@
 
 use crate::hollwern::{self, Shown};
 use model::calls::Call;
-use model::engine::{Answer, Engine};
+use model::engine::{Answer, Engine, Refused};
 
 /// An engine that only the calls of the C interface look into.
 #[derive(Clone)]
@@ -24,13 +24,14 @@ impl Proved {
     }
 
     /// One call, answered as the model answers it.
-    pub fn call(&mut self, call: &Call, out: &mut [u8]) -> Result<Answer, u8> {
+    pub fn call(&mut self, call: &Call, out: &mut [u8]) -> Result<Answer, Refused> {
         let answer = self.0.step(&call.event, &call.journey, &call.book, out);
         let hollwern::Answer { accepted, number, state, request, bytes } = answer;
+        assert!(if accepted { number == 0 } else { state == 0 && !request }, "{answer:?}");
         if accepted {
             Ok(Answer { state, request, bytes })
         } else {
-            Err(number)
+            Err(Refused { number, bytes })
         }
     }
 

@@ -3,7 +3,7 @@
 use crate::engine::Proved;
 use model::calls::{Call, MEMORY};
 use model::checked::check_short_memory;
-use model::engine::{Answer, Engine};
+use model::engine::{Answer, Engine, Refused};
 
 /// The proved engine stands in memory of its own, so that a memory checker sees its ends.
 #[derive(Clone)]
@@ -31,7 +31,7 @@ impl Pair {
     }
 
     /// The answer of both. An error says what differs.
-    pub fn call(&mut self, call: &Call, memory: &mut Memory) -> Result<Result<Answer, u8>, String> {
+    pub fn call(&mut self, call: &Call, memory: &mut Memory) -> Result<Result<Answer, Refused>, String> {
         let expected = self.model.call(call, &mut memory.model);
         let found = self.proved.call(call, &mut memory.proved);
         if found != expected {
@@ -43,10 +43,16 @@ impl Pair {
         Ok(found)
     }
 
-    /// With one byte less than the packets take the call is 16 and changes nothing, with just enough it is accepted.
-    pub fn call_short(&self, call: &Call, written: &[u8]) -> Result<(), String> {
+    /// Both hold the same bytes.
+    pub fn is_as(&self, other: &Pair) -> bool {
+        self.proved.bytes() == other.proved.bytes() && self.model == other.model
+    }
+
+    /// The same call of the proved engine with memory too short and just enough; how many calls that took.
+    pub fn call_short(&self, call: &Call, answer: Result<Answer, Refused>, written: &[u8]) -> Result<usize, String> {
         let step = |proved: &mut Box<Proved>, out: &mut [u8]| proved.call(call, out);
-        let short = check_short_memory(self.proved.clone(), step, written, |proved| proved.shows(&self.model));
+        let unchanged = |proved: &Box<Proved>| proved.bytes() == self.proved.bytes();
+        let short = check_short_memory(&self.proved, step, answer, written, unchanged);
         short.map_err(|error| format!("the proved engine: {error}"))
     }
 }

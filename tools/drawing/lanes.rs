@@ -283,22 +283,36 @@ pub fn inputs(ride: &Ride) -> Vec<Box<dyn Lane>> {
     lanes
 }
 
-/// The packets that an event wrote, in their order from above; or the number that refuses it.
+/// The number that refuses an event, and the packets that it wrote, in their order from above. Of refused events only a
+/// load that is turned down writes one.
 pub struct Packets {
+    /// The rows that the fullest column takes.
     most: usize,
+}
+
+/// The height of a row, and where a column has many packets.
+const ROW: f64 = 16.0;
+const LOW_ROW: f64 = 10.0;
+/// The height of a refusal.
+const REFUSAL: f64 = 26.0;
+
+/// How many rows of this height a moment's refusal takes, if there is one.
+fn refusal_rows(moment: &Moment, height: f64) -> usize {
+    moment.refused.as_ref().map_or(0, |_| (REFUSAL / height).ceil() as usize)
 }
 
 impl Packets {
     pub fn of(ride: &Ride) -> Packets {
-        Packets { most: ride.moments.iter().map(|moment| moment.packets.len()).max().unwrap_or(0).max(2) }
+        let rows = |moment: &Moment| refusal_rows(moment, ROW) + moment.packets.len();
+        Packets { most: ride.moments.iter().map(rows).max().unwrap_or(0).max(2) }
     }
 
     /// The height of one.
     fn step(&self) -> f64 {
         if self.most > 8 {
-            10.0
+            LOW_ROW
         } else {
-            16.0
+            ROW
         }
     }
 
@@ -314,7 +328,7 @@ impl Packets {
 
 fn draw_refusal(svg: &mut Svg, k: usize, refusal: &Refusal) {
     svg.titled(&refusal.in_words(), |svg| {
-        svg.rect("refusal", k as f64 * COLUMN + 5.0, 5.0, COLUMN - 10.0, 26.0);
+        svg.rect("refusal", k as f64 * COLUMN + 5.0, 5.0, COLUMN - 10.0, REFUSAL);
         svg.text("kind", middle(k), 14.0, "no");
         svg.text("kind strong", middle(k), 27.0, &refusal.number.to_string());
     });
@@ -332,8 +346,9 @@ impl Lane for Packets {
 
     fn columns(&self, _: usize, moments: &[Moment], svg: &mut Svg) {
         for (k, moment) in moments.iter().enumerate() {
+            let first = refusal_rows(moment, self.step());
             for (row, packet) in moment.packets.iter().enumerate() {
-                self.draw(svg, k, row, packet);
+                self.draw(svg, k, first + row, packet);
             }
             if let Some(refusal) = &moment.refused {
                 draw_refusal(svg, k, refusal);

@@ -54,7 +54,7 @@ impl Reported {
     }
 }
 
-/// A packet that an event wrote.
+/// A packet that an event wrote; a load that is turned down writes one, too.
 pub struct Written {
     pub fields: PacketFields,
     pub words: String,
@@ -112,17 +112,17 @@ impl Ride {
             let mut out = [0; MEMORY];
             let (reason, traction) = told(&mut model, step, &StepNames::of(scenario, ride.journey(), step));
             let answer = engine.step(&step.call.event, &step.call.journey, &step.call.book, &mut out);
-            let (mut packets, mut refused) = (Vec::new(), None);
             (reported.now, reported.request) = (false, None);
-            match read_event(&step.call.event) {
-                Ok(event) if answer.accepted => {
-                    reported.accept(event);
-                    ride.turn(event, step, scenario);
-                    packets = ride.read_packets(&out[..answer.bytes], scenario);
-                    follow_skips(&mut skips, event, &packets);
-                }
-                _ => refused = Some(Refusal { number: answer.number, reason }),
+            let accepted = read_event(&step.call.event).ok().filter(|_| answer.accepted);
+            if let Some(event) = accepted {
+                reported.accept(event);
+                ride.turn(event, step, scenario);
             }
+            let packets = ride.read_packets(&out[..answer.bytes], scenario);
+            if let Some(event) = accepted {
+                follow_skips(&mut skips, event, &packets);
+            }
+            let refused = accepted.is_none().then_some(Refusal { number: answer.number, reason });
             let shown = engine.show();
             ride.add(Moment {
                 label: (ride.moments.len() + 1).to_string(),

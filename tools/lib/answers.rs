@@ -1,7 +1,7 @@
 //! The player's lines, read strictly: what is damaged is an error with its line, never mended.
 
 use model::calls::read_answer;
-use model::engine::Answer;
+use model::engine::{written, Answer, Refused};
 use model::packets::Packet;
 use model::words::{bytes_of_hex, hex};
 
@@ -9,7 +9,7 @@ use model::words::{bytes_of_hex, hex};
 pub struct Answered {
     /// The line of the answer.
     pub line: usize,
-    pub answer: Result<Answer, u8>,
+    pub answer: Result<Answer, Refused>,
     pub packets: Vec<Vec<u8>>,
 }
 
@@ -22,7 +22,7 @@ pub fn read_answers(text: &str) -> Result<Vec<Answered>, String> {
     let mut answers = Vec::new();
     while let Some((line, text)) = lines.next() {
         let answer = read_answer(text).ok_or(format!("the player's line {line}, '{text}', is no answer"))?;
-        let mut left = answer.map_or(0, |answer| answer.bytes);
+        let mut left = written(answer);
         let mut packets = Vec::new();
         while left > 0 {
             let (line, text) = lines.next().ok_or(format!("the player's lines end, {left} bytes of packets short"))?;

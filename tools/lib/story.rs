@@ -6,7 +6,7 @@ use crate::language::{Scenario, Step};
 use crate::points::points_in_words;
 use crate::traction::request_in_words;
 use model::calls::{write_lines, MEMORY};
-use model::engine::{Answer, Engine};
+use model::engine::{written, Answer, Engine, Refused};
 use model::events::LOAD;
 use model::packets::{split_packets, Content, Packet};
 use model::reasons::{reason, Names};
@@ -60,12 +60,12 @@ impl<'a> Story<'a> {
         let (before, was) = (self.standings(), self.model.now);
         let mut out = [0; MEMORY];
         let answer = self.model.call(&step.call, &mut out);
-        let packets = split_packets(&out[..answer.map_or(0, |answer| answer.bytes)]);
+        let packets = split_packets(&out[..written(answer)]);
         if answered.answer != answer || answered.packets != packets {
             return Err(difference(answered, answer, &out));
         }
         match answer {
-            Err(number) => {
+            Err(Refused { number, .. }) => {
                 let reason = reason.map_or(String::new(), |(_, reason)| reason);
                 self.refused += 1;
                 self.text += &format!("    refused by {number} ({}): {reason}\n", place_of_number(number));
@@ -75,9 +75,9 @@ impl<'a> Story<'a> {
                 self.note_journey(step);
                 let request = request_in_words(&step.call.event, &was, &self.model.now);
                 self.tell_answer(answer, &request, step.loads.is_none().then_some(&before[..]));
-                packets.into_iter().for_each(|packet| self.tell_packet(packet));
             }
         }
+        packets.into_iter().for_each(|packet| self.tell_packet(packet));
         Ok(())
     }
 
@@ -120,8 +120,8 @@ impl<'a> Story<'a> {
     }
 }
 
-fn difference(answered: &Answered, answer: Result<Answer, u8>, out: &[u8]) -> String {
-    let in_a_line = |answer: Result<Answer, u8>, out: &[u8]| {
+fn difference(answered: &Answered, answer: Result<Answer, Refused>, out: &[u8]) -> String {
+    let in_a_line = |answer: Result<Answer, Refused>, out: &[u8]| {
         let mut lines = String::new();
         write_lines(answer, out, &mut lines);
         lines.trim_end().replace('\n', " ")

@@ -4,6 +4,7 @@ use crate::alignment::{alike, gaps, pairs};
 use crate::recording::{Answered, Entry, Item};
 use crate::words::counted;
 use model::calls::{Call, MEMORY};
+use model::engine::written;
 use proved::engine::Proved;
 use proved::hollwern::packets;
 
@@ -53,7 +54,7 @@ impl Run {
         let (mut engine, mut out) = (Box::new(Proved::fresh()), [0; MEMORY]);
         for (event, call) in calls {
             let answer = engine.call(call, &mut out);
-            run.add(event, answer, &out[..answer.map_or(0, |answer| answer.bytes)]);
+            run.add(event, answer, &out[..written(answer)]);
         }
         run
     }

@@ -89,7 +89,7 @@ static JP_RECEIVED: [Field; 6] = [
     field("T_JP_Reference_Timestamp_Date", 21, 2, 32_767, |p| p.date.into(), words::date),
     field("T_JP_Reference_Timestamp_Seconds", 23, 4, FREE, |p| p.seconds, words::seconds),
     field("N_JP_Reference_Packet_Counter", 27, 1, FREE, |p| p.counter.into(), words::counter),
-    field("Q_JP_STATUS", 28, 1, 0, |p| p.status.into(), words::journey_status),
+    field("Q_JP_STATUS", 28, 1, 1, |p| p.status.into(), words::journey_status),
 ];
 
 /// Table 11.

@@ -1,13 +1,13 @@
 //! A recording: bytes as a recorder holds them, cut into packets and what lies between, or text with a line a packet.
 
 use model::calls::{answer_line, read_answer};
-use model::engine::Answer;
+use model::engine::{Answer, Refused};
 use model::words::{bytes_of_hex, hex};
 use proved::hollwern::{front_size, read, PacketFields};
 use std::hash::{Hash, Hasher};
 
 /// What the player answers a call.
-pub type Answered = Result<Answer, u8>;
+pub type Answered = Result<Answer, Refused>;
 
 #[derive(Clone, PartialEq, Eq, Debug)]
 pub enum Item {

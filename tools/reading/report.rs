@@ -4,6 +4,7 @@
 use crate::layout::{fields, out_of_range, size_of, Field, BYTES_WIDTH};
 use crate::recording::{Answered, Entry, Item};
 use crate::words::{self, counted};
+use model::engine::written;
 use model::words::{hex, ALIGNMENTS};
 use proved::hollwern::{read, PacketFields};
 use std::collections::BTreeMap;
@@ -118,8 +119,11 @@ fn content_in_words(p: &PacketFields) -> String {
             format!("NID_C {} NID_TP {}: {status}; {end}; {alignment}; data {:02X}", p.nidc, p.nidtp, p.stopping)
         }
         65 => {
-            let stamp = format!("{}, seconds {}, counter {}", words::date(p.date.into()), p.seconds, p.counter);
-            format!("NID_C {} NID_ATOTS {}: JP of {stamp}", p.nidc, p.atots)
+            let (nidc, atots, rest) = (p.nidc, p.atots, format!("seconds {}, counter {}", p.seconds, p.counter));
+            match p.status {
+                0 => format!("NID_C {nidc} NID_ATOTS {atots}: JP of {}, {rest}", words::date(p.date.into())),
+                _ => format!("NID_C {nidc} NID_ATOTS {atots}: profiles turned down; date {}, {rest}", p.date),
+            }
         }
         _ => format!("{}; {}", words::state(p.state.into()), words::conditions(p.conditions.into())),
     }
@@ -211,12 +215,12 @@ pub fn item_in_words(item: &Item) -> String {
 
 /// The answer in words.
 fn answer_in_words(answer: Answered) -> String {
+    let bytes = counted(written(answer), "byte", "bytes");
     match answer {
-        Err(number) => format!("call refused by {number}"),
+        Err(refused) => format!("call refused by {}; {bytes} written", refused.number),
         Ok(answer) => {
             let request = if answer.request { "AD requested" } else { "AD not requested" };
-            let written = counted(answer.bytes, "byte", "bytes");
-            format!("call accepted: {}; {request}; {written} written", words::state(answer.state.into()))
+            format!("call accepted: {}; {request}; {bytes} written", words::state(answer.state.into()))
         }
     }
 }
@@ -244,8 +248,7 @@ impl Report {
             Item::Answer(answer) => {
                 let before = self.close_answer();
                 self.answers[usize::from(answer.is_err())] += 1;
-                let written = answer.map_or(0, |answer| answer.bytes);
-                self.answered = Some((entry.line.unwrap_or(0), written, entry.at));
+                self.answered = Some((entry.line.unwrap_or(0), written(*answer), entry.at));
                 let line = entry.line.unwrap_or(0);
                 format!("{before}line {line}: {}\n", item_in_words(&entry.item))
             }

@@ -185,10 +185,10 @@ pub fn counter(_: u32) -> String {
 }
 
 pub fn journey_status(value: u32) -> String {
-    if value == 0 {
-        "journey accepted".into()
-    } else {
-        "see SUBSET-126 7.3.6.2".into()
+    match value {
+        0 => "journey accepted".into(),
+        1 => "profiles turned down; the unit tells no stamp of them".into(),
+        _ => "see SUBSET-126 7.3.6.2".into(),
     }
 }
 

@@ -51,5 +51,4 @@ anchors = record {
   stands_past = refl;
   shows = refl;
   shows_fresh = refl;
-  answers = refl;
 }

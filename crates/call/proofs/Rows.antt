@@ -26,6 +26,7 @@ use Rattle.states.specs.States.{machine_after}
 use Rattle.states.specs.ControlGroup.{control_after}
 use Rattle.call.specs.Effect.{Effect, power_off, effect}
 use Rattle.call_values.specs.Call.{Call}
+use Rattle.call_values.proofs.Laws.{refused_fits}
 use Rattle.call.specs.Call.{conditions_in, Step, step_by, judge, judged, outcome_of, step_of}
 use Rattle.call.specs.Shown.{standing_in}
 
@@ -92,11 +93,6 @@ module _ (e : Engine) (c : Call) where
         result = q;
       }
 
-  -- "Every refusal returns the number only and changes neither engine nor memory."
-  pub refused_same : (n : ℕ) → judged e c ≡ refuse n → step_of e c ≡ record { answer = refuse n; engine = e; memory = c.memory }
-  unfolding step_of outcome_of
-  refused_same n h = rw h
-
   -- an accepted call
   pub accepted_is : (s : Step) → judged e c ≡ accept s → step_of e c ≡ outcome_of e c.memory (accept s)
   unfolding step_of
@@ -104,7 +100,9 @@ module _ (e : Engine) (c : Call) where
 
   outcome_length : (j : Judged Step) → ((s : Step) → j ≡ accept s → length (joined s.packets) ≤ length c.memory) → length (outcome_of e c.memory j).memory ≡ length c.memory
   unfolding outcome_of
-  outcome_length (refuse n) h = refl
+  outcome_length (refuse n) h =
+      let k = refused_fits (route_in e) e.train.position n (length c.memory) in
+      simp (length-append, length-drop) (omega (arith, k.0))
   outcome_length (accept s) h = let k = h s refl in simp (length-append, length-drop) (omega arith)
 
   -- the memory stays as long as it is

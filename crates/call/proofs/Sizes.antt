@@ -1,4 +1,4 @@
--- No event writes more than 1,669 bytes, whatever engine it finds: with so much memory 16 does not come.
+-- No call writes more than 1,669 bytes, whatever engine it finds: with so much memory 16 does not come.
 use Prim.Native.Nat.{ℕ, zero, suc, ◌+◌, ◌-◌, ◌*◌, ◌≤◌}
 use mathlib.Core.Path.{◌≡◌, refl, sym, ap, subst, ◌∙◌}
 use mathlib.Core.List.{List, [], ◌∷◌, ◌++◌, map}
@@ -42,7 +42,10 @@ use Rattle.look_up.specs.LookUp.{position_after, look_up}
 use Rattle.look_up.specs.declared.LookedUp.{LookedUp}
 use Rattle.call_values.specs.Rows.{offset_beyond, same_bool}
 use Rattle.call.specs.Effect.{Effect, effect_as, effect, train_with, values_only, position_effect, reported_in, load_effect, skip_effect, skipped_in, loaded_in}
-use Rattle.call.specs.Call.{status_in, step_by}
+use Rattle.call_values.specs.Call.{Call, bytes_written}
+use Rattle.call_values.proofs.Laws.{refused_fits}
+use Rattle.call.specs.Call.{Step, status_in, step_by, judged, outcome_of, step_of}
+use Rattle.call.proofs.Rows.{taken}
 
 -- ---- the points that a report changes
 
@@ -196,3 +199,15 @@ bytes_most e journey book event f q =
 pub row_16 : (e : Engine) (journey book memory : List ℕ) (event : Event) (f : Effect) → effect e journey book event ≡ accept f → 1669 ≤ length memory
     → row 16 (ltb (length memory) (length (joined (step_by e event f).packets))) ≡ accept tt
 row_16 e journey book memory event f q h = rw (le-ltb (length memory) (length (joined (step_by e event f).packets)) (omega (arith, bytes_most e journey book event f q)))
+
+-- every call, accepted or refused, writes no more
+pub call_bytes_most : (e : Engine) (c : Call) → bytes_written (step_of e c).answer ≤ 1669
+unfolding step_of outcome_of
+call_bytes_most e c = go (judged e c) refl
+  where
+    go : (j : Judged Step) → judged e c ≡ j → bytes_written (outcome_of e c.memory j).answer ≤ 1669
+    go (refuse n) q = omega (arith, (refused_fits (route_in e) e.train.position n (length c.memory)).1)
+    go (accept s) q =
+        let t = taken e c s q in
+        let z : length (joined s.packets) ≡ length (joined (step_by e t.event t.made).packets) = ap (λ (s : Step). length (joined s.packets)) t.result in
+        omega (arith, z, bytes_most e c.journey c.book t.event t.made t.does)

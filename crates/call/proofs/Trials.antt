@@ -1,7 +1,7 @@
 -- The example and P1 to P8, one lemma, and further examples, by computation from the bytes of the calls.
 use mathlib.Core.Path.{refl}
 use Rattle.call.proofs.Computed.{computed}
-use Rattle.call.specs.Trials.{Trials, Further, loaded, ahead, stopped, full, engaged}
+use Rattle.call.specs.Trials.{Trials, Further, loaded, ahead, stopped, full, halted, engaged}
 
 pub trials : Trials
 unfolding computed loaded
@@ -18,7 +18,7 @@ trials = record {
 }
 
 pub further : Further
-unfolding computed loaded ahead stopped full engaged
+unfolding computed loaded ahead stopped full halted engaged
 further = record {
   speed_rises = record { answer = refl; memory = refl };
   speed_stays = record { answer = refl; memory = refl };
@@ -35,8 +35,13 @@ further = record {
   creeps = record { answer = refl; memory = refl };
   leaves = record { answer = refl; memory = refl };
   ends = record { answer = refl; memory = refl };
-  refused = refl;
+  refuses = refl;
   too_short = refl;
+  turned_down = refl;
+  turned_down_first = refl;
+  no_room_lem = refl;
+  just_room = refl;
+  load_too_short = refl;
   engages = refl;
   degrades = refl;
   stays_DE = refl;

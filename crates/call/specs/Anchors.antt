@@ -1,10 +1,8 @@
 -- Values from documents 01 and 02 that the definitions must give. What Trials and Further show from the bytes of calls is not shown again.
-use Rattle.std.specs.Prelude.{ℕ, ◌≡◌, List, [], ◌∷◌, map, Bool, true, false, replicate, Some, None, Ok, Err}
+use Rattle.std.specs.Prelude.{ℕ, ◌≡◌, List, [], ◌∷◌, map, Bool, true, false, replicate, Some, None}
 use Rattle.wire.specs.Numbers.{bytes_of}
 use Rattle.wire.specs.Judged.{Judged, ◌>>=◌}
 use Rattle.wire.specs.Judged.Judged.{refuse, accept}
-use Rattle.wire.specs.View.{judged as view}
-use Rattle.wire.specs.declared.Refusal.{Refusal}
 use Rattle.engine_value.specs.Engine.{Route, no_route, blank_segment, progress, fresh, no_skips, no_traction}
 use Rattle.engine_value.specs.declared.Segment.{Segment}
 use Rattle.engine_value.specs.declared.Point.{Point}
@@ -28,7 +26,6 @@ use Rattle.route.specs.Route.{LoadValue}
 use Rattle.timing.specs.Changes.{change}
 use Rattle.timing.specs.declared.Reported.{Reported}
 use Rattle.call_values.specs.Call.{Call}
-use Rattle.call_values.specs.declared.Accepted.{Accepted}
 use Rattle.call_values.specs.Packets.{point_change}
 use Rattle.call.specs.Packets.{change_in}
 use Rattle.call.specs.Effect.{kept, cleared, replaced, skip_set, Effect, reported_in, loaded_in, effect, route_after, skips_after, stored}
@@ -188,9 +185,6 @@ beyond_end = 9 ∷ 0 ∷ 17 ∷ 0 ∷ 0 ∷ 1 ∷ 244 ∷ 0 ∷ 1 ∷ 134 ∷ 16
 abbrev pub skip : ℕ → List ℕ
 skip t = 12 ∷ bytes_of 4 t
 
-abbrev pub accepted : ℕ → Bool → ℕ → Accepted
-accepted s r n = record { state = s; request = r; bytes = n }
-
 -- what an event does that only brings values: the points are not judged
 abbrev pub values : Train → Inputs → Effect
 values x i =
@@ -341,6 +335,3 @@ pub record Anchors : Type 0 where
   pub stands_past : map (standing_in (in_state 3 (progress 5 false))) (3 ∷ 4 ∷ 5 ∷ 6 ∷ []) ≡ 3 ∷ 3 ∷ 0 ∷ 0 ∷ []
   pub shows : shown_view held ≡ record { state = 3; request = true; conditions = 252; point_count = 5; standings = 3 ∷ 1 ∷ replicate 62 0 }
   pub shows_fresh : shown_view fresh ≡ record { state = 0; request = false; conditions = 128; point_count = 0; standings = replicate 64 0 }
-  -- "An accepted event returns state, request and bytes written"; "Every refusal returns the number only"
-  pub answers : map view (Ok (accepted 4 true 19) ∷ Ok (accepted 3 false 44) ∷ Err Refusal.Beyond ∷ [])
-      ≡ accept (accepted 4 true 19) ∷ accept (accepted 3 false 44) ∷ refuse 13 ∷ []

@@ -18,15 +18,15 @@ use Rattle.state_codes.specs.Numbers.{power_rows, state_row}
 use Rattle.states.specs.ControlGroup.{control_after}
 use Rattle.traction.specs.Requests.{remembered_after}
 use Rattle.traction.specs.View.{remembered_in, traction_of}
-use Rattle.call_values.specs.Call.{Call}
+use Rattle.call_values.specs.Call.{Call, Answer, refused, accepted}
 use Rattle.call_values.specs.declared.Accepted.{Accepted}
-use Rattle.call_values.specs.Packets.{Status, packets_of}
+use Rattle.call_values.specs.Packets.{Status, packets_of, packets_refused}
 use Rattle.call.specs.Packets.{change_in, own_packets}
 use Rattle.call.specs.Effect.{Effect, effect, stored}
 
 -- what a call answers and leaves
 pub record Outcome : Type 0 where
-  pub answer : Judged Accepted
+  pub answer : Answer
   pub engine : Engine
   pub memory : List ℕ
 
@@ -76,17 +76,25 @@ judged e c = do
   f ← effect e c.journey c.book event
   judge e event c.memory f
 
--- "Every refusal returns the number only and changes neither engine nor memory."
--- "An accepted event returns state, request and bytes written"; the bytes behind keep their values
+-- a call's packets stand at the front of its memory; the bytes behind keep their values
+abbrev pub with_packets : List Packet → List ℕ → List ℕ
+with_packets packets memory = let bytes = joined packets in bytes ++ drop (length bytes) memory
+
+-- what a call writes that is refused by number n: 02, Q-4, with the engine as it stands
+abbrev pub packets_refused_in : Engine → ℕ → List ℕ → List Packet
+packets_refused_in e n memory = packets_refused (route_in e) e.train.position n (length memory)
+
+-- "An accepted event returns state, request and bytes written"
+abbrev pub returned : Step → Accepted
+returned s = record { state = s.engine.control.state; request = s.engine.control.request; bytes = length (joined s.packets) }
+
+-- "Every refusal .. changes neither engine nor memory", but for the memory where 02, Q-4, has a packet: "The result of a refusal gains the byte count", "Engine
+-- state after a refusal is still that before it"
 unfoldable pub outcome_of : Engine → List ℕ → Judged Step → Outcome
-outcome_of e memory (refuse n) = record { answer = refuse n; engine = e; memory = memory }
-outcome_of e memory (accept s) =
-    let bytes = joined s.packets in
-    record {
-      answer = accept (record { state = s.engine.control.state; request = s.engine.control.request; bytes = length bytes });
-      engine = s.engine;
-      memory = bytes ++ drop (length bytes) memory;
-    }
+outcome_of e memory (refuse n) =
+    let packets = packets_refused_in e n memory in
+    record { answer = refused n (length (joined packets)); engine = e; memory = with_packets packets memory }
+outcome_of e memory (accept s) = record { answer = accepted (returned s); engine = s.engine; memory = with_packets s.packets memory }
 
 unfoldable pub step_of : Engine → Call → Outcome
 step_of e c = outcome_of e c.memory (judged e c)

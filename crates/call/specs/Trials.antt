@@ -1,15 +1,12 @@
 -- Document 01, "Player and trials": the example and P1 to P8, from the bytes of the calls.
 use Rattle.std.specs.Prelude.{ℕ, ◌≡◌, List, [], ◌∷◌, ◌++◌, Bool, true, false, length, drop, replicate, take}
 use Rattle.wire.specs.Numbers.{bytes_of}
-use Rattle.wire.specs.Judged.{Judged}
-use Rattle.wire.specs.Judged.Judged.{refuse, accept}
 use Rattle.engine_value.specs.Engine.{fresh}
 use Rattle.engine_value.specs.declared.Engine.{Engine}
 use Rattle.position.specs.Standing.{standing}
 use Rattle.position.specs.declared.Standing.{Standing}
 use Rattle.position.specs.declared.Standing.TheVariants.{Targeted, Reached, Passed}
-use Rattle.call_values.specs.Call.{Call}
-use Rattle.call_values.specs.declared.Accepted.{Accepted}
+use Rattle.call_values.specs.Call.{Call, Answer, refused, accepted}
 use Rattle.call.specs.Call.{Outcome, step_of}
 
 -- ---- calls
@@ -29,8 +26,8 @@ abbrev pub after_each : Engine → List Call → Engine
 after_each e [] = e
 after_each e (c ∷ cs) = after_each (step_of e c).engine cs
 
-abbrev pub answered : ℕ → Bool → ℕ → Judged Accepted
-answered s r n = accept (record { state = s; request = r; bytes = n })
+abbrev pub answered : ℕ → Bool → ℕ → Answer
+answered s r n = accepted (record { state = s; request = r; bytes = n })
 
 -- an accepted call: what it answers, the packets in front of the memory, and that the bytes behind them are kept
 pub record Gives (o : Outcome) (state : ℕ) (request : Bool) (packets : List ℕ) : Type 0 where
@@ -156,6 +153,14 @@ full_journey =
 unfoldable pub full : Engine
 full = after_each fresh (power_on ∷ loads full_journey trial_book ∷ train_length 1001 ∷ [])
 
+-- and standing at 7001
+unfoldable pub halted : Engine
+halted = after_each full (at 40350 0 ∷ [])
+
+-- the call with a memory of n bytes
+abbrev pub in_memory : ℕ → Call → Call
+in_memory n c = record { event = c.event; journey = c.journey; book = c.book; memory = replicate n 0xEE }
+
 -- P8, then the press and the AD report
 unfoldable pub engaged : Engine
 engaged = after_each ahead (reports 31 ∷ configured ∷ press ∷ mode 1 ∷ [])
@@ -190,10 +195,32 @@ pub record Further : Type 0 where
       (packet 62 40651 1 0x12345678 (point 7001 0x13 0x00) ++ packet 68 40651 1 0x12345678 (0x0D ∷ 0xC1 ∷ []))
   pub ends : Gives (step_of full (at 90000 0)) 1 false
       (packet 62 90000 0 0x12345678 (point 7001 0x03 0x00) ++ (packet 62 90000 0 0x12345678 (point 7002 0x08 0x00) ++ packet 68 90000 0 0x12345678 (0x0D ∷ 0x81 ∷ [])))
-  -- "Every refusal returns the number only and changes neither engine nor memory": a press in CO; a memory of one byte less than its packet
-  pub refused : step_of loaded press ≡ record { answer = refuse 6; engine = loaded; memory = lent }
+  -- "Every refusal .. changes neither engine nor memory": a press in CO; a memory of one byte less than its packet
+  pub refuses : step_of loaded press ≡ record { answer = refused 6 0; engine = loaded; memory = lent }
   pub too_short : step_of fresh (record { event = 0x01 ∷ []; journey = []; book = []; memory = replicate 18 0xEE })
-      ≡ record { answer = refuse 16; engine = fresh; memory = replicate 18 0xEE }
+      ≡ record { answer = refused 16 0; engine = fresh; memory = replicate 18 0xEE }
+  -- 02, Q-4: "A load refused by 7 to 12 writes packet 65 with status 1": an empty journey at the stop, with NID_OPERATIONAL and NID_C of the journey in force;
+  -- "Engine state after a refusal is still that before it"
+  pub turned_down : step_of halted (loads [] trial_book)
+      ≡ record {
+        answer = refused 9 29;
+        engine = halted;
+        memory = packet 65 40350 0 0x12345678 (0x00 ∷ 0x11 ∷ 0x40 ∷ 0x00 ∷ 0x00 ∷ 0x00 ∷ 0x00 ∷ 0x00 ∷ 0x00 ∷ 0x00 ∷ 0x00 ∷ 0x01 ∷ []) ++ drop 29 lent;
+      }
+  -- with no journey: 1,024 and FFFFFFFF
+  pub turned_down_first : step_of (step_of fresh power_on).engine (loads full_journey (0xFF ∷ []))
+      ≡ record {
+        answer = refused 7 29;
+        engine = (step_of fresh power_on).engine;
+        memory =
+            (0x41 ∷ 0x00 ∷ 0x00 ∷ 0x00 ∷ 0x00 ∷ 0x00 ∷ 0x00 ∷ 0x00 ∷ 0xFF ∷ 0xFF ∷ 0xFF ∷ 0x00 ∷ 0x00 ∷ 0xFF ∷ 0xFF ∷ 0xFF ∷ 0xFF
+            ∷ 0x04 ∷ 0x00 ∷ 0x40 ∷ 0x00 ∷ 0x00 ∷ 0x00 ∷ 0x00 ∷ 0x00 ∷ 0x00 ∷ 0x00 ∷ 0x00 ∷ 0x01 ∷ []) ++ drop 29 lent;
+      }
+  -- "If even that does not fit, nothing is written and the same number returns"; a load that is not turned down is still refused by 16, though 47 bytes hold one packet
+  pub no_room_lem : step_of stopped (in_memory 28 (loads [] trial_book)) ≡ record { answer = refused 9 0; engine = stopped; memory = replicate 28 0xEE }
+  pub just_room : (step_of stopped (in_memory 29 (loads [] trial_book))).answer ≡ refused 9 29
+  pub load_too_short : step_of (step_of fresh power_on).engine (in_memory 47 trial_load)
+      ≡ record { answer = refused 16 0; engine = (step_of fresh power_on).engine; memory = replicate 47 0xEE }
   -- "False turns: .. DE back to EG when conditions return; lever back to neutral in AV starting a request while still in AD"
   pub engages : (step_of (after_each ahead (reports 31 ∷ configured ∷ press ∷ [])) (mode 1)).answer ≡ answered 5 true 19
   pub degrades : (step_of engaged (reports 30)).answer ≡ answered 6 true 19

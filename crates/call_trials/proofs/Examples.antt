@@ -2,7 +2,7 @@
 use mathlib.Core.Path.{refl}
 use Rattle.call.proofs.Computed.{computed}
 use Rattle.call_trials.specs.Engines.{on, failed, started, ready, pressed, driving, degraded, stopped, near_b, ended}
-use Rattle.call_trials.specs.Examples.{Refused, RefusedLoads, RefusedLater, States, Conditions, Points, Loads, Requests}
+use Rattle.call_trials.specs.Examples.{Refused, RefusedLoads, TurnedDown, RefusedLater, States, Conditions, Points, Loads, Requests}
 
 pub refused : Refused
 unfolding computed on failed started ready driving
@@ -82,6 +82,31 @@ refused_loads = record {
   places_rise = refl;
 }
 
+pub turned_down : TurnedDown
+unfolding computed on failed started pressed driving degraded stopped ended
+turned_down = record {
+  nowhere_lem = refl;
+  in_A = refl;
+  in_B = refl;
+  in_C = refl;
+  undefined_in_A = refl;
+  in_D = refl;
+  in_the_other = refl;
+  in_RE = refl;
+  in_EG = refl;
+  in_DE = refl;
+  twice_lem = refl;
+  then_taken = record { answer = refl; memory = refl };
+  no_memory_lem = refl;
+  bytes_28 = refl;
+  bytes_29 = refl;
+  bytes_30 = refl;
+  good_in_29 = refl;
+  bad_in_NP = refl;
+  bad_in_FA = refl;
+  event_longer = refl;
+}
+
 pub refused_later : RefusedLater
 unfolding computed on started stopped near_b
 refused_later = record {
@@ -113,7 +138,6 @@ refused_later = record {
   skip_16 = refl;
   load_enough = refl;
   no_memory = refl;
-  before_16 = refl;
 }
 
 pub states : States

@@ -1,13 +1,10 @@
 -- The calls of the examples, and what they leave in the memory.
-use Rattle.std.specs.Prelude.{ℕ, ◌≡◌, List, [], ◌∷◌, ◌++◌, map, replicate}
+use Rattle.std.specs.Prelude.{ℕ, ◌≡◌, List, [], ◌∷◌, ◌++◌, map, replicate, drop}
 use Rattle.wire.specs.Numbers.{bytes_of}
-use Rattle.wire.specs.Judged.{Judged}
-use Rattle.wire.specs.Judged.Judged.{refuse}
 use Rattle.engine_value.specs.declared.Engine.{Engine}
 use Rattle.position.specs.Standing.{standing}
 use Rattle.position.specs.declared.Standing.{Standing}
-use Rattle.call_values.specs.Call.{Call}
-use Rattle.call_values.specs.declared.Accepted.{Accepted}
+use Rattle.call_values.specs.Call.{Call, Answer, refused}
 use Rattle.call.specs.Call.{step_of}
 use Rattle.call.specs.Trials.{plain, loads, configured, reports, press, mode, lever, train_length, skip, revoke}
 use Rattle.call_trials.specs.Journey.{journey, book}
@@ -66,12 +63,16 @@ lending n c = record { event = c.event; journey = c.journey; book = c.book; memo
 
 -- ---- what they leave
 
--- "Every refusal returns the number only and changes neither engine nor memory."
+-- "Every refusal .. changes neither engine nor memory."
 abbrev pub Refuses : Engine → Call → ℕ → Type 0
-Refuses e c n = step_of e c ≡ record { answer = refuse n; engine = e; memory = c.memory }
+Refuses e c n = step_of e c ≡ record { answer = refused n 0; engine = e; memory = c.memory }
+
+-- 02, Q-4: "A load refused by 7 to 12 writes packet 65 with status 1"
+abbrev pub TurnsDown : Engine → Call → ℕ → List ℕ → Type 0
+TurnsDown e c n packet = step_of e c ≡ record { answer = refused n 29; engine = e; memory = packet ++ drop 29 c.memory }
 
 -- what an engine answers to each, as the next call
-abbrev pub answers_to : Engine → List Call → List (Judged Accepted)
+abbrev pub answers_to : Engine → List Call → List Answer
 answers_to e calls = map (λ (c : Call). (step_of e c).answer) calls
 
 -- where 7001 to 7006 stand
@@ -92,3 +93,7 @@ point nidc nidtp info stopping = bytes_of 2 nidc ++ (bytes_of 4 nidtp ++ (info �
 -- the content of a packet 65 for the journey: NID_C, NID_ATOTS, date, seconds, counter, status
 abbrev pub received : ℕ → List ℕ
 received nidc = bytes_of 2 nidc ++ (0x01 ∷ 0x23 ∷ 0x0A ∷ 0x0B ∷ 0x01 ∷ 0x02 ∷ 0x03 ∷ 0x04 ∷ 0x07 ∷ 0x00 ∷ [])
+
+-- of one whose profiles were turned down: NID_ATOTS 16,384, stamp 0, status 1
+abbrev pub not_received : ℕ → List ℕ
+not_received nidc = bytes_of 2 nidc ++ (0x40 ∷ 0x00 ∷ 0x00 ∷ 0x00 ∷ 0x00 ∷ 0x00 ∷ 0x00 ∷ 0x00 ∷ 0x00 ∷ 0x01 ∷ [])

@@ -1,14 +1,13 @@
 -- Calls over one journey: what they answer, the packets in their memory, and what the table of numbers refuses. The values are those of the
 -- independent model (tests/model), looked over against documents 01 and 02.
 use Rattle.std.specs.Prelude.{ℕ, ◌≡◌, List, [], ◌∷◌, ◌++◌, map, true, false, drop, take, set, replicate}
-use Rattle.wire.specs.Judged.Judged.{refuse}
 use Rattle.engine_value.specs.Engine.{fresh}
 use Rattle.position.specs.declared.Standing.TheVariants.{Unused, Targeted, Passed}
-use Rattle.call_values.specs.Call.{Call}
+use Rattle.call_values.specs.Call.{Call, refused}
 use Rattle.call.specs.Call.{Outcome, step_of}
 use Rattle.call.specs.Trials.{plain, loads, after_each, answered, Gives, power_on, configured, reports, press, mode, lever, train_length, skip, revoke}
 use Rattle.call_trials.specs.Journey.{journey, book, book_with_c, short_records}
-use Rattle.call_trials.specs.Calls.{power_off, fault, in_a, in_b, in_c, in_d, undefined, nowhere, report, load, requested, traction, others, lending, Refuses, answers_to, standings, packet, plain_packet, point, received}
+use Rattle.call_trials.specs.Calls.{power_off, fault, in_a, in_b, in_c, in_d, undefined, nowhere, report, load, requested, traction, others, lending, Refuses, TurnsDown, answers_to, standings, packet, plain_packet, point, received, not_received}
 use Rattle.call_trials.specs.Engines.{on, failed, started, ready, pressed, driving, degraded, stopped, near_b, ended}
 
 -- ---- Numbers 1 to 6: event, power, state
@@ -37,13 +36,13 @@ pub record Refused : Type 0 where
   pub train_of_1 : Gives (step_of on (train_length 1)) 1 false []
   pub train_of_100000 : Gives (step_of on (train_length 100000)) 1 false []
   -- "3 NP and kind not 1": kinds 2 to 14, whatever is lent
-  pub all_in_NP : answers_to fresh (power_off ∷ others) ≡ replicate 13 (refuse 3)
+  pub all_in_NP : answers_to fresh (power_off ∷ others) ≡ replicate 13 (refused 3 0)
   pub load_in_NP : Refuses fresh (loads [] (0x00 ∷ [])) 3
   -- "4 kind 1 outside NP"; "5 FA and kind not 3 (kind 1: 4)"
   pub on_in_CO : Refuses on power_on 4
   pub on_in_EG : Refuses driving power_on 4
   pub on_in_FA : Refuses failed power_on 4
-  pub all_in_FA : answers_to failed others ≡ replicate 12 (refuse 5)
+  pub all_in_FA : answers_to failed others ≡ replicate 12 (refused 5 0)
   pub load_in_FA : Refuses failed (loads [] (0x00 ∷ [])) 5
   -- "6 kind 2 outside CO, kind 8 outside RE"
   pub configured_in_RE : Refuses ready configured 6
@@ -54,56 +53,92 @@ pub record Refused : Type 0 where
 
 -- ---- Numbers 7 to 12: book and journey, with a byte or two of theirs changed
 
+-- with no journey in force and no position
+abbrev pub told_nothing : List ℕ
+told_nothing = plain_packet 65 nowhere (not_received 1024)
+
 pub record RefusedLoads : Type 0 where
   -- "7 bad map, range or length": bit 5 of a map, bit 2 missing; NID_C 1,058; length 0; R 10,084; 7005 beyond the length; a zone's start behind its end;
   -- the zone's end beyond the length; cut short
-  pub map_with_bit_5 : Refuses on (loads journey (set book 0 0x2F)) 7
-  pub map_without_bit_2 : Refuses on (loads journey (set book 83 0x13)) 7
-  pub country_in_the_book : Refuses on (loads journey (set book 1 0x04)) 7
-  pub length_of_0 : Refuses on (loads journey (set (set book 92 0x00) 93 0x00)) 7
-  pub reach_beyond : Refuses on (loads journey (set book 20 0x27)) 7
-  pub place_beyond : Refuses on (loads journey (set book 27 0x02)) 7
-  pub zone_reversed : Refuses on (loads journey (set book 77 0x18)) 7
-  pub zone_beyond : Refuses on (loads journey (set book 80 0x02)) 7
-  pub book_cut : Refuses on (loads journey (take 102 book)) 7
+  pub map_with_bit_5 : TurnsDown on (loads journey (set book 0 0x2F)) 7 told_nothing
+  pub map_without_bit_2 : TurnsDown on (loads journey (set book 83 0x13)) 7 told_nothing
+  pub country_in_the_book : TurnsDown on (loads journey (set book 1 0x04)) 7 told_nothing
+  pub length_of_0 : TurnsDown on (loads journey (set (set book 92 0x00) 93 0x00)) 7 told_nothing
+  pub reach_beyond : TurnsDown on (loads journey (set book 20 0x27)) 7 told_nothing
+  pub place_beyond : TurnsDown on (loads journey (set book 27 0x02)) 7 told_nothing
+  pub zone_reversed : TurnsDown on (loads journey (set book 77 0x18)) 7 told_nothing
+  pub zone_beyond : TurnsDown on (loads journey (set book 80 0x02)) 7 told_nothing
+  pub book_cut : TurnsDown on (loads journey (take 102 book)) 7 told_nothing
   -- "8 a segment or, in one record, an NID_TP twice, or over 40"
-  pub segment_twice_in_the_book : Refuses on (loads journey (set book 2 0x11)) 8
-  pub point_twice_in_a_record : Refuses on (loads journey (set book 25 0x5C)) 8
-  pub records_41 : Refuses on (loads journey (short_records 41)) 8
+  pub segment_twice_in_the_book : TurnsDown on (loads journey (set book 2 0x11)) 8 told_nothing
+  pub point_twice_in_a_record : TurnsDown on (loads journey (set book 25 0x5C)) 8 told_nothing
+  pub records_41 : TurnsDown on (loads journey (short_records 41)) 8 told_nothing
   pub records_40 : Gives (step_of on (loads journey (short_records 40))) 1 false
       (packet 65 nowhere (received 1024)
       ++ packet 68 nowhere (0x08 ∷ 0xC1 ∷ []))
   -- "Book and journey are each checked whole in row order": 7 in the last record before 8 in the first; the book before the journey
-  pub book_whole : Refuses on (loads journey (set (set book 25 0x5C) 83 0x37)) 7
-  pub book_first : Refuses on (loads (set journey 0 0x3F) (set book 25 0x5C)) 8
+  pub book_whole : TurnsDown on (loads journey (set (set book 25 0x5C) 83 0x37)) 7 told_nothing
+  pub book_first : TurnsDown on (loads (set journey 0 0x3F) (set book 25 0x5C)) 8 told_nothing
   -- "9 bad map, range or length": bit 5 of the map, bit 1 missing; date, NID_ATOTS; NID_C 1,041; NID_TP FFFFFFFF; alignment 3, stopping data 128;
   -- bit 7 of a point's map; 7002, which is no stop, skipped by trackside; a byte less, a byte more
-  pub map_of_the_journey : Refuses on (loads (set journey 0 0x3F) book) 9
-  pub no_stamp : Refuses on (loads (set journey 0 0x1D) book) 9
-  pub date_beyond : Refuses on (loads (set journey 5 0x80) book) 9
-  pub atots_beyond : Refuses on (loads (set journey 12 0x40) book) 9
-  pub country_in_the_journey : Refuses on (loads (set journey 15 0x04) book) 9
-  pub nidtp_beyond : Refuses on (loads (set (set (set (set journey 70 0xFF) 71 0xFF) 72 0xFF) 73 0xFF) book) 9
-  pub alignment_3 : Refuses on (loads (set journey 47 0x03) book) 9
-  pub stopping_beyond : Refuses on (loads (set journey 40 0x80) book) 9
-  pub map_of_a_point : Refuses on (loads (set journey 69 0x93) book) 9
-  pub skipped_passing_point : Refuses on (loads (set journey 41 0x27) book) 9
-  pub journey_cut : Refuses on (loads (take 74 journey) book) 9
-  pub journey_longer : Refuses on (loads (journey ++ (0x00 ∷ [])) book) 9
+  pub map_of_the_journey : TurnsDown on (loads (set journey 0 0x3F) book) 9 told_nothing
+  pub no_stamp : TurnsDown on (loads (set journey 0 0x1D) book) 9 told_nothing
+  pub date_beyond : TurnsDown on (loads (set journey 5 0x80) book) 9 told_nothing
+  pub atots_beyond : TurnsDown on (loads (set journey 12 0x40) book) 9 told_nothing
+  pub country_in_the_journey : TurnsDown on (loads (set journey 15 0x04) book) 9 told_nothing
+  pub nidtp_beyond : TurnsDown on (loads (set (set (set (set journey 70 0xFF) 71 0xFF) 72 0xFF) 73 0xFF) book) 9 told_nothing
+  pub alignment_3 : TurnsDown on (loads (set journey 47 0x03) book) 9 told_nothing
+  pub stopping_beyond : TurnsDown on (loads (set journey 40 0x80) book) 9 told_nothing
+  pub map_of_a_point : TurnsDown on (loads (set journey 69 0x93) book) 9 told_nothing
+  pub skipped_passing_point : TurnsDown on (loads (set journey 41 0x27) book) 9 told_nothing
+  pub journey_cut : TurnsDown on (loads (take 74 journey) book) 9 told_nothing
+  pub journey_longer : TurnsDown on (loads (journey ++ (0x00 ∷ [])) book) 9 told_nothing
   -- "10 segment twice": C named as B
-  pub segment_twice : Refuses on (loads (set journey 32 0xF4) book) 10
+  pub segment_twice : TurnsDown on (loads (set journey 32 0xF4) book) 10 told_nothing
   -- "11 index beyond, NID_TP twice, not just one End of Journey, or a booked segment without the point": 7006 in a fourth segment, or named 7001;
   -- 7006 an End of Journey too, or 7004 none; 7005 named 7007
-  pub index_beyond_lem : Refuses on (loads (set journey 74 0x03) book) 11
-  pub point_twice : Refuses on (loads (set journey 73 0x59) book) 11
-  pub two_ends : Refuses on (loads (set journey 69 0x53) book) 11
-  pub no_end : Refuses on (loads (set journey 55 0x1F) book) 11
-  pub point_not_in_the_book : Refuses on (loads (set journey 67 0x5F) book) 11
+  pub index_beyond_lem : TurnsDown on (loads (set journey 74 0x03) book) 11 told_nothing
+  pub point_twice : TurnsDown on (loads (set journey 73 0x59) book) 11 told_nothing
+  pub two_ends : TurnsDown on (loads (set journey 69 0x53) book) 11 told_nothing
+  pub no_end : TurnsDown on (loads (set journey 55 0x1F) book) 11 told_nothing
+  pub point_not_in_the_book : TurnsDown on (loads (set journey 67 0x5F) book) 11 told_nothing
   -- "12 index falls, or placed points do not strictly rise": 7003 in C, before 7004 in B; 7001 at the place of 7002, and 1 cm before it
-  pub index_falls : Refuses on (loads (set journey 53 0x02) book) 12
-  pub places_equal : Refuses on (loads journey (set (set book 60 0x9C) 61 0x40)) 12
+  pub index_falls : TurnsDown on (loads (set journey 53 0x02) book) 12 told_nothing
+  pub places_equal : TurnsDown on (loads journey (set (set book 60 0x9C) 61 0x40)) 12 told_nothing
   pub places_rise : standings (after_each on (loads journey (set (set book 60 0x9C) 61 0x3F) ∷ []))
       ≡ Targeted ∷ Unused ∷ Unused ∷ Unused ∷ Unused ∷ Unused ∷ []
+
+-- ---- 02, Q-4: profiles turned down
+
+pub record TurnedDown : Type 0 where
+  -- "the header of the engine as it stands, the content's NID_C by 01's rule against the journey in force": no position; in A; at the stop in B; in C, which
+  -- is not in the book; with the offset undefined; in D, which is not in the journey; with no journey in A, which is in the one that is turned down
+  pub nowhere_lem : TurnsDown started (loads [] book) 9 (packet 65 nowhere (not_received 1024))
+  pub in_A : TurnsDown stopped (loads journey (take 102 book)) 7 (packet 65 (in_a 19900 0) (not_received 17))
+  pub in_B : TurnsDown ended (loads (set journey 67 0x5F) book) 11 (packet 65 (in_b 11000 0) (not_received 34))
+  pub in_C : TurnsDown (after_each started (report (in_c 10 7) ∷ [])) (loads [] book) 9 (packet 65 (in_c 10 7) (not_received 1024))
+  pub undefined_in_A : TurnsDown (after_each started (report (in_a undefined 7) ∷ [])) (loads [] book) 9 (packet 65 (in_a undefined 7) (not_received 1024))
+  pub in_D : TurnsDown (after_each started (report (in_d 1001 0) ∷ [])) (loads journey (short_records 41)) 8 (packet 65 (in_d 1001 0) (not_received 1024))
+  pub in_the_other : TurnsDown (after_each on (report (in_a 19900 0) ∷ [])) (loads (set journey 53 0x02) book) 12 (plain_packet 65 (in_a 19900 0) (not_received 1024))
+  -- in RE with a press pending, EG and DE: state, press and request stay
+  pub in_RE : TurnsDown pressed (loads (set journey 53 0x02) book) 12 (packet 65 (in_a 10000 0) (not_received 17))
+  pub in_EG : TurnsDown driving (loads (set journey 32 0xF4) book) 10 (packet 65 (in_a 10000 0) (not_received 17))
+  pub in_DE : TurnsDown degraded (loads [] book) 9 (packet 65 (in_a 10000 0) (not_received 17))
+  -- turned down twice, then taken: the packets of an accepted load follow as ever
+  pub twice_lem : TurnsDown (after_each on (loads [] book ∷ [])) (loads journey (set book 2 0x11)) 8 told_nothing
+  pub then_taken : Gives (step_of (after_each on (loads [] book ∷ [])) load) 1 false
+      (packet 65 nowhere (received 1024)
+      ++ packet 68 nowhere (0x09 ∷ 0xC1 ∷ []))
+  -- "If even that does not fit, nothing is written and the same number returns": memories of 0, 28, 29 and 30 bytes; 16 where the profiles are good
+  pub no_memory_lem : Refuses on (lending 0 (loads (set journey 0 0x3F) book)) 9
+  pub bytes_28 : Refuses on (lending 28 (loads (set journey 0 0x3F) book)) 9
+  pub bytes_29 : TurnsDown on (lending 29 (loads (set journey 0 0x3F) book)) 9 told_nothing
+  pub bytes_30 : TurnsDown on (lending 30 (loads (set journey 0 0x3F) book)) 9 told_nothing
+  pub good_in_29 : Refuses on (lending 29 load) 16
+  -- no other refusal writes: the profiles are bad, but an earlier row refuses
+  pub bad_in_NP : Refuses fresh (loads [] book) 3
+  pub bad_in_FA : Refuses failed (loads [] book) 5
+  pub event_longer : Refuses on (record { event = 0x0B ∷ 0x00 ∷ []; journey = []; book = book; memory = load.memory }) 1
 
 -- ---- Numbers 13 to 16: position, skip, output
 
@@ -140,7 +175,6 @@ pub record RefusedLater : Type 0 where
   pub skip_16 : Refuses started (lending 24 (skip 7001)) 16
   pub load_enough : (step_of on (lending 48 load)).answer ≡ answered 1 false 48
   pub no_memory : (step_of on (lending 0 (train_length 1))).answer ≡ answered 1 false 0
-  pub before_16 : Refuses on (lending 0 (loads (set journey 0 0x3F) book)) 9
 
 -- ---- "States", and the request
 

@@ -1,5 +1,6 @@
 -- Values from documents 01 and 02 that the definitions must give.
-use Rattle.std.specs.Prelude.{ℕ, ◌≡◌, [], ◌∷◌, map, Bool, true, false, Some, None}
+use Rattle.std.specs.Prelude.{ℕ, ◌≡◌, [], ◌∷◌, map, Bool, true, false, Some, None, Ok, Err}
+use Rattle.wire.specs.declared.Refusal.{Refusal}
 use Rattle.engine_value.specs.Engine.{Route, no_route, blank_point, blank_segment, fresh_position}
 use Rattle.engine_value.specs.declared.Segment.{Segment}
 use Rattle.engine_value.specs.declared.Point.{Point}
@@ -11,7 +12,9 @@ use Rattle.packets.specs.declared.Packet.{Packet}
 use Rattle.journey.specs.declared.Head.{Head}
 use Rattle.position.specs.Position.{segment_named}
 use Rattle.call_values.specs.Rows.{offset_beyond, same_bool}
-use Rattle.call_values.specs.Packets.{header, point_change, timing_point, jp_received, Status, status_due, received, traction_brakes, packets_of}
+use Rattle.call_values.specs.Packets.{header, point_change, timing_point, jp_received, Status, status_due, received, traction_brakes, packets_of, jp_turned_down, packets_refused}
+use Rattle.call_values.specs.Call.{refused, accepted, bytes_written}
+use Rattle.call_values.specs.View.{answer_view as view}
 
 -- ---- a journey with NID_OPERATIONAL 12345678 hexadecimal: segment 17/500 of 1,000 m, in the book and placed; 18/600, in the book but behind
 -- 19/700, which is not; point 7001 with NID_C 21, by the train's rear, with stopping data 55; point 7002 with NID_C 22, by its middle, with 66
@@ -47,6 +50,10 @@ head = record { operational = 0x12345678; seconds = 2; date = 1; atots = 5; coun
 
 abbrev pub packet65 : Header → ℕ → Packet
 packet65 h c = Packet.JpReceived (record { header = h; nidc = c; atots = 5; date = 1; seconds = 2; counter = 3; status = 0 })
+
+-- of profiles turned down
+abbrev pub packet65_refused : Header → ℕ → Packet
+packet65_refused h c = Packet.JpReceived (record { header = h; nidc = c; atots = 16384; date = 0; seconds = 0; counter = 0; status = 1 })
 
 abbrev pub packet68 : ℕ → ℕ → Packet
 packet68 s n = Packet.AtoStatus (record { header = header_at 17 500 39900; state = s; conditions = numbered n })
@@ -90,6 +97,21 @@ pub record Anchors : Type 0 where
   pub traction : map (traction_brakes route (at 17 500 39900)) (None ∷ Some requested ∷ []) ≡ [] ∷ (packet61 ∷ []) ∷ []
   pub traction_order : packets_of route (at 17 500 39900) None (point_change 0 2 true ∷ []) (traction_brakes route (at 17 500 39900) (Some requested)) (shown 3 511 7) (shown 5 507 7)
       ≡ packet62 21 7001 1 2 2 0 ∷ packet61 ∷ packet68 5 507 ∷ []
+  -- 02, Q-4: "status 1, the header of the engine as it stands, the content's NID_C by 01's rule against the journey in force, stamp fields 0 and NID_ATOTS
+  -- 16,384": at the same positions, and with no journey
+  pub turned_down_at : map (jp_turned_down route) (at 17 500 100000 ∷ at 17 500 100001 ∷ at 17 500 16777215 ∷ at 18 600 10 ∷ at 20 800 10 ∷ [])
+      ≡ packet65_refused (header_at 17 500 100000) 17 ∷ packet65_refused (header_at 17 500 100001) 1024 ∷ packet65_refused (header_at 17 500 16777215) 1024
+      ∷ packet65_refused (header_at 18 600 10) 1024 ∷ packet65_refused (header_at 20 800 10) 1024 ∷ []
+  pub turned_down_first : jp_turned_down no_route (at 17 500 39900)
+      ≡ packet65_refused (record { nidc = 17; nidsp = 500; offset = 39900; speed = 7; operational = 0xFFFFFFFF }) 1024
+  -- "A load refused by 7 to 12 writes" it; "If even that does not fit, nothing is written": with a memory of 29 bytes, and of 0, 28, 30
+  pub refused_by : map (λ (n : ℕ). packets_refused route (at 17 500 39900) n 29) (1 ∷ 6 ∷ 7 ∷ 12 ∷ 13 ∷ 16 ∷ [])
+      ≡ [] ∷ [] ∷ (packet65_refused (header_at 17 500 39900) 17 ∷ []) ∷ (packet65_refused (header_at 17 500 39900) 17 ∷ []) ∷ [] ∷ [] ∷ []
+  pub refused_room : map (packets_refused route (at 17 500 39900) 9) (0 ∷ 28 ∷ 30 ∷ []) ≡ [] ∷ [] ∷ (packet65_refused (header_at 17 500 39900) 17 ∷ []) ∷ []
+  -- "An accepted event returns state, request and bytes written"; "The result of a refusal gains the byte count"
+  pub answers : map view (Ok (record { state = 4; request = true; bytes = 19 }) ∷ Err (record { row = Refusal.Beyond; bytes = 0 }) ∷ Err (record { row = Refusal.Order; bytes = 29 }) ∷ [])
+      ≡ accepted (record { state = 4; request = true; bytes = 19 }) ∷ refused 13 0 ∷ refused 12 29 ∷ []
+  pub written : map bytes_written (accepted (record { state = 4; request = true; bytes = 19 }) ∷ refused 13 0 ∷ refused 12 29 ∷ []) ≡ 19 ∷ 0 ∷ 29 ∷ []
   -- "13 journey segment that is in the book, offset defined and beyond its length": it need not be placed
   pub row_13 : map (λ (x : Position). offset_beyond (segment_named route x) x)
       (at 17 500 100000 ∷ at 17 500 100001 ∷ at 17 500 16777214 ∷ at 17 500 16777215 ∷ at 18 600 100001 ∷ at 19 700 100001 ∷ at 20 800 100001 ∷ at 17 600 100001 ∷ [])

@@ -3,4 +3,5 @@
 pub mod Call
 pub mod Rows
 pub mod Packets
+pub mod View
 pub mod Anchors

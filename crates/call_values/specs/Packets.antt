@@ -1,16 +1,18 @@
--- Documents 01, "Packets", and 02, Q-1: which packets an event writes, and with what values. Header values are those after the event.
-use Rattle.std.specs.Prelude.{ℕ, List, [], ◌∷◌, ◌++◌, map, Bool, not, ◌&&◌, ◌||◌, eqb, if◌then◌else◌, Option, Some, None}
+-- Documents 01, "Packets", and 02, Q-1 and Q-4: which packets a call writes, and with what values. Header values are those after the event.
+use Rattle.std.specs.Prelude.{ℕ, List, [], ◌∷◌, ◌++◌, map, Bool, not, ◌&&◌, ◌||◌, eqb, leb, if◌then◌else◌, Option, Some, None}
 use Rattle.wire.specs.Numbers.{flag}
+use Rattle.wire.specs.Refusals.{turns_down}
 use Rattle.engine_value.specs.Engine.{Route}
 use Rattle.engine_value.specs.declared.Load.{Load}
 use Rattle.engine_value.specs.declared.Point.{Point}
 use Rattle.engine_value.specs.declared.Position.{Position}
-use Rattle.packets.specs.Layouts.{unknown_nidc}
+use Rattle.packets.specs.Layouts.{unknown_nidc, kind65, kind_size}
 use Rattle.status_word.specs.View.{same_conditions}
 use Rattle.packets.specs.declared.Header.{Header}
 use Rattle.status_word.specs.declared.OperationalConditions.{OperationalConditions}
 use Rattle.packets.specs.declared.Requested.{Requested}
 use Rattle.packets.specs.declared.Packet.{Packet}
+use Rattle.journey.specs.Journey.{no_atots}
 use Rattle.journey.specs.declared.Head.{Head}
 use Rattle.position.specs.Position.{point, known}
 use Rattle.timing.specs.Changes.{status_stopped, when}
@@ -112,3 +114,24 @@ in_order packet65 packets62 own packet68 = packet65 ++ (packets62 ++ (own ++ pac
 unfoldable pub packets_of : Route → Position → Option Head → List PointChange → List Packet → Status → Status → List Packet
 packets_of j x loaded changes own before after =
     in_order (received j x loaded) (map (timing_point j x) changes) own (when (status_due before after) (ato_status j x after.state after.conditions))
+
+-- ---- profiles turned down
+
+-- 02, Q-4: "packet 65 with status 1, the header of the engine as it stands, the content's NID_C by 01's rule against the journey in force, stamp fields 0 and
+-- NID_ATOTS 16,384"
+unfoldable pub jp_turned_down : Route → Position → Packet
+jp_turned_down j x =
+    Packet.JpReceived (record {
+      header = header j x;
+      nidc = country j x;
+      atots = no_atots;
+      date = 0;
+      seconds = 0;
+      counter = 0;
+      status = 1;
+    })
+
+-- "A load refused by 7 to 12 writes" it. "If even that does not fit, nothing is written." Of a call that is refused by number n, with `room` bytes of memory; no event
+-- but a load is refused by these numbers
+unfoldable pub packets_refused : Route → Position → ℕ → ℕ → List Packet
+packets_refused j x n room = when (turns_down n && leb (kind_size kind65) room) (jp_turned_down j x)

@@ -15,15 +15,15 @@ use Rattle.packets.specs.Packets.{joined}
 use Rattle.state_codes.specs.Codes.{state_at}
 use Rattle.state_codes.specs.Numbers.{power_rows, state_row, state_rows}
 use Rattle.look_up.specs.declared.Occurrence.{Occurrence}
-use Rattle.call_values.specs.Call.{Call}
+use Rattle.call_values.specs.Call.{Call, Answer, refused, accepted}
 use Rattle.call_values.specs.declared.Accepted.{Accepted}
 use Rattle.call.specs.Effect as model
 use Rattle.call.specs.Effect.{loaded_in, load_effect, effect_as, effect}
-use Rattle.call.specs.Call.{judge, judged, outcome_of, step_of}
+use Rattle.call.specs.Call.{Outcome, Step, packets_refused_in, with_packets, judge, judged, outcome_of, step_of}
 use Rattle.event_packets.specs.View.{packets_view}
 use Rattle.judge.specs.View.{engine_after, step_view}
 use Rattle.judge.specs.declared.Judgement.{Judgement}
-use Rattle.engine.specs.View.{answer_of, Steps}
+use Rattle.engine.specs.View.{answer_of, taken_of, Takes, take_of}
 
 -- ---- an outcome
 
@@ -40,15 +40,13 @@ pub record Occurs (e : Engine) (c : Call) (o : Occurrence) : Type 0 where
   pub allowed : accept tt ≡ state_rows (state_at e.control.state) (kind_of o.event)
 
 module _ (e : Engine) (c : Call) where
-  pub refused : (r : Result Accepted Refusal) (x : Refusal) → r ≡ Err x → refuse (number_of x) ≡ judged e c → Steps (step_of e c) e (answers.judged r) c.memory
-  unfolding step_of outcome_of
-  refused r x told q = rw (told, ← q) (record { engine = refl; answer = refl; output = refl })
+  pub refused_by : (r : Result Accepted Refusal) (x : Refusal) → r ≡ Err x → refuse (number_of x) ≡ judged e c → Takes (take_of e c) e (answers.judged r) c.memory
+  refused_by r x told q = rw (told, ← q) (record { engine = refl; answer = refl; output = refl })
 
-  pub accepted : (o : Occurrence) → Occurs e c o → (t : Judgement) → accept (step_view o.engine.now t) ≡ judged e c → t.size ≡ length (joined (packets_view (engine_after e t) t.writes)) → t.size ≤ length c.memory
+  pub accepted_by : (o : Occurrence) → Occurs e c o → (t : Judgement) → accept (step_view o.engine.now t) ≡ judged e c → t.size ≡ length (joined (packets_view (engine_after e t) t.writes)) → t.size ≤ length c.memory
       → (m : Engine) (a : Accepted) (after : List ℕ) → m ≡ engine_after e t → a ≡ answer_of t → after ≡ sets c.memory 0 (joined (packets_view (engine_after e t) t.writes))
-      → Steps (step_of e c) m (accept a) after
-  unfolding step_of outcome_of
-  accepted o occurs t q size h m a after p w out =
+      → Takes (take_of e c) m (accept a) after
+  accepted_by o occurs t q size h m a after p w out =
       rw (← q, occurs.engine)
       (record {
         engine = p;
@@ -98,3 +96,32 @@ module _ (e : Engine) (c : Carried) (journey book : List ℕ) where
   pub load_taken : (l : LoadValue) → accept l ≡ load_of journey book → accept (loaded_in e c l) ≡ load_effect e c journey book
   unfolding load_effect
   load_taken l q = rw (← q)
+
+-- ---- a call: its rows, and then what profiles turned down write
+
+-- engine, answer and output memory are those of an outcome
+pub record Gives (o : Outcome) (m : Engine) (a : Answer) (memory : List ℕ) : Type 0 where
+  pub engine : m ≡ o.engine
+  pub answer : a ≡ o.answer
+  pub output : memory ≡ o.memory
+
+module _ (e : Engine) (c : Call) (m : Engine) (memory : List ℕ) where
+  pub taken : (a : Accepted) → Takes (take_of e c) m (accept a) memory → Gives (step_of e c) m (accepted a) memory
+  unfolding step_of outcome_of
+  taken a t = go (judged e c) t
+    where
+      go : (j : Judged Step) → Takes (taken_of e c.memory j) m (accept a) memory → Gives (outcome_of e c.memory j) m (accepted a) memory
+      go (refuse n) t = absurd (let q = t.answer in cc)
+      go (accept s) t = record { engine = t.engine; answer = let q = t.answer in cc; output = t.output }
+
+  pub turned_down : (n : ℕ) → Takes (take_of e c) m (refuse n) memory → (bytes : ℕ) (after : List ℕ)
+      → bytes ≡ length (joined (packets_refused_in m n memory)) → after ≡ with_packets (packets_refused_in m n memory) memory
+      → Gives (step_of e c) m (refused n bytes) after
+  unfolding step_of outcome_of
+  turned_down n t bytes after b w = go (judged e c) t
+    where
+      go : (j : Judged Step) → Takes (taken_of e c.memory j) m (refuse n) memory → Gives (outcome_of e c.memory j) m (refused n bytes) after
+      go (refuse k) t =
+          let z : n ≡ k = let q = t.answer in cc in
+          rw (← z, ← t.engine, ← t.output) (record { engine = refl; answer = ap (refused n) b; output = w })
+      go (accept s) t = absurd (let q = t.answer in cc)

@@ -1,11 +1,12 @@
 -- What the code's answers stand for.
 use Rattle.std.specs.Prelude.{ℕ, ◌≡◌, List}
 use Rattle.wire.specs.Judged.{Judged}
+use Rattle.wire.specs.Judged.Judged.{refuse, accept}
 use Rattle.engine_value.specs.Engine.{Route, no_skips}
 use Rattle.engine_value.specs.declared.Engine.{Engine}
 use Rattle.call_values.specs.Call.{Call}
 use Rattle.call_values.specs.declared.Accepted.{Accepted}
-use Rattle.call.specs.Call.{Outcome}
+use Rattle.call.specs.Call.{Step, returned, with_packets, judged}
 use Rattle.judge.specs.declared.Judgement.{Judgement}
 
 -- the engine with another journey and no driver skip
@@ -30,8 +31,22 @@ answer_of t = record { state = t.control.state; request = t.control.request; byt
 abbrev pub call : List ℕ → List ℕ → List ℕ → List ℕ → Call
 call event journey book memory = record { event = event; journey = journey; book = book; memory = memory }
 
--- engine, answer and output memory are those of an outcome
-pub record Steps (o : Outcome) (m : Engine) (a : Judged Accepted) (memory : List ℕ) : Type 0 where
-  pub engine : m ≡ o.engine
-  pub answer : a ≡ o.answer
-  pub output : memory ≡ o.memory
+-- what is stored and written by a call's rows: nothing, where one of them refuses
+pub record Taken : Type 0 where
+  pub engine : Engine
+  pub answer : Judged Accepted
+  pub memory : List ℕ
+
+abbrev pub taken_of : Engine → List ℕ → Judged Step → Taken
+taken_of e memory (refuse n) = record { engine = e; answer = refuse n; memory = memory }
+taken_of e memory (accept s) = record { engine = s.engine; answer = accept (returned s); memory = with_packets s.packets memory }
+
+-- engine, answer and output memory are those
+pub record Takes (t : Taken) (m : Engine) (a : Judged Accepted) (memory : List ℕ) : Type 0 where
+  pub engine : m ≡ t.engine
+  pub answer : a ≡ t.answer
+  pub output : memory ≡ t.memory
+
+-- a call's rows, on an engine
+abbrev pub take_of : Engine → Call → Taken
+take_of e c = taken_of e c.memory (judged e c)

@@ -1,5 +1,5 @@
 // The event call: one event, with the profiles and the output memory that the host lends. It is read; power and state allow it; it looks up
-// the journey; it has its effect, which is judged; and what comes of it is stored and written.
+// the journey; it has its effect, which is judged; and what comes of it is stored and written. Profiles that were turned down are recorded.
 #![tactic(auto)]
 
 ghost use Rattle.std.specs.Prelude.{◌≡◌, List, ℕ};
@@ -16,9 +16,10 @@ ghost use Rattle.call.specs.Call.{step_of};
 ghost use Rattle.engine_value.specs.Engine.{no_route};
 ghost use Rattle.engine_value.specs.View.{route_view};
 ghost use Rattle.judge.specs.View.{engine_after};
-ghost use Rattle.engine.specs.View.{answer_of, call, with_route, Steps};
+ghost use Rattle.call_values.specs.View.{answer_view};
+ghost use Rattle.engine.specs.View.{answer_of, call, with_route, Takes, take_of};
 
-use call_values::Accepted;
+use call_values::{Accepted, Refused};
 use effects::JourneyAfter;
 use engine_value::{Engine, Load, MAX_POINTS, Point, Route, Segment};
 use event::{Event, Role};
@@ -106,7 +107,7 @@ fn load(
     book: &[u8],
     out: &mut [u8],
 ) -> Result<Accepted, Refusal>
-    ensures { (bytes : List ℕ) → accept event ≡ event_of bytes → accept tt ≡ state_rows (state_at e.old.control.state) (kind_of event) → load ≡ role_of event → Steps (step_of e.old (call bytes journey.now book.now out.old)) e.new (judged result) out.new }
+    ensures { (bytes : List ℕ) → accept event ≡ event_of bytes → accept tt ≡ state_rows (state_at e.old.control.state) (kind_of event) → load ≡ role_of event → Takes (take_of e.old (call bytes journey.now book.now out.old)) e.new (judged result) out.new }
 {
     let o = Occurrence::new(e, event);
     let l = route::load_route(journey, book)?;
@@ -114,17 +115,15 @@ fn load(
     Ok(accept(e, &t, out))
 }
 
-// One event. A refusal changes neither engine nor memory. The slices apart, as the C call hands them over.
-pub fn step(
+// The rows of the table of numbers, one after the other; where none refuses, what comes of the event is stored and written.
+fn take(
     e: &mut Engine,
     event: &[u8],
     journey: &[u8],
     book: &[u8],
     out: &mut [u8],
 ) -> Result<Accepted, Refusal>
-    ensures engine { e.new ≡ (step_of e.old (call event.now journey.now book.now out.old)).engine }
-    ensures answer { judged result ≡ (step_of e.old (call event.now journey.now book.now out.old)).answer }
-    ensures output { out.new ≡ (step_of e.old (call event.now journey.now book.now out.old)).memory }
+    ensures { Takes (take_of e.old (call event.now journey.now book.now out.old)) e.new (judged result) out.new }
 {
     let v = event::read_event(event)?;
     state_codes::state_rows(State::from(e.control.state), v.kind())?;
@@ -138,4 +137,26 @@ pub fn step(
     };
     let t = judge::judge(&o, &f, out.len())?;
     Ok(accept(e, &t, out))
+}
+
+// One event. A refusal leaves the engine as it was, and the memory, too, but for the packet 65 of profiles that were turned down. The slices apart, as the
+// C call hands them over.
+pub fn step(
+    e: &mut Engine,
+    event: &[u8],
+    journey: &[u8],
+    book: &[u8],
+    out: &mut [u8],
+) -> Result<Accepted, Refused>
+    ensures engine { e.new ≡ (step_of e.old (call event.now journey.now book.now out.old)).engine }
+    ensures answer { answer_view result ≡ (step_of e.old (call event.now journey.now book.now out.old)).answer }
+    ensures output { out.new ≡ (step_of e.old (call event.now journey.now book.now out.old)).memory }
+{
+    match take(e, event, journey, book, out) {
+        Ok(a) => Ok(a),
+        Err(row) => Err(Refused {
+            row,
+            bytes: turned_down::write(e, row, out),
+        }),
+    }
 }

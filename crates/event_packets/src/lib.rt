@@ -15,8 +15,8 @@ ghost use Rattle.event_packets.specs.View.{change_view, status_view, jp_received
 use engine_value::{Engine, Progress};
 use journey::Head;
 use packets::{
-    AtoStatus, Header, JpReceived, Packet, PacketKind, PointStatus, Requested, TimingPoint,
-    TractionBrake,
+    AtoStatus, Header, JpReceived, JpStatus, Packet, PacketKind, PointStatus, Requested,
+    TimingPoint, TractionBrake,
 };
 use position::Place;
 use state_codes::State;
@@ -68,7 +68,7 @@ pub struct Writes {
 
 // ---- the packets, with the header of the engine after the event
 
-fn header(e: &Engine) -> Header
+pub fn header(e: &Engine) -> Header
     ensures { result ≡ header (route_in e.now) e.now.train.position }
 {
     let x = e.train.position;
@@ -120,7 +120,7 @@ fn jp_received(e: &Engine, r: Received) -> Packet
         date: r.head.date,
         seconds: r.head.seconds,
         counter: r.head.counter,
-        status: 0,
+        status: u8::from(JpStatus::Accepted),
     })
 }
 

@@ -5,28 +5,27 @@ ghost use Rattle.std.specs.Prelude.{◌≡◌, ◌≤◌};
 ghost use Rattle.engine_value.specs.Engine.{fresh};
 ghost use Rattle.call.specs.Call.{step_of};
 ghost use Rattle.call.specs.View.{shown_view};
-ghost use Rattle.wire.specs.View.{judged};
+ghost use Rattle.call_values.specs.View.{answer_view};
 ghost use Rattle.engine.specs.View.{call};
 ghost use Rattle.packets.specs.Packets.{packet_of, front_size};
 ghost use Rattle.packet_fields.specs.View.{fields_view};
-ghost use Rattle.host.specs.View.{answer_view};
+ghost use Rattle.host.specs.View.{answered};
 ghost use Rattle.host.specs.Version.{version};
 
 use call::Shown;
-use call_values::Accepted;
+use call_values::{Accepted, Refused};
 use engine_value::Engine;
 use packet_fields::PacketFields;
-use wire::Refusal;
 
 // The version of this interface, a byte each for the three numbers.
-const MAJOR: u32 = 1;
+const MAJOR: u32 = 2;
 
-const MINOR: u32 = 1;
+const MINOR: u32 = 0;
 
-const PATCH: u32 = 1;
+const PATCH: u32 = 0;
 
-// State, request and bytes written, where accepted; else the number of the row that refuses. The fields of the other case are 0: one struct for
-// both, since an exported function can hand over no enum.
+// State, request and bytes written, where accepted; else the number of the row that refuses, and the bytes written. The fields of the other case
+// are 0: one struct for both, since an exported function can hand over no enum.
 #[repr(C)]
 #[derive(Clone, Copy, Default)]
 pub struct Answer {
@@ -37,10 +36,10 @@ pub struct Answer {
     pub bytes: usize,
 }
 
-impl From<Result<Accepted, Refusal>> for Answer {
-    ghost from_gives = { λ r a. a ≡ answer_view (judged r) };
+impl From<Result<Accepted, Refused>> for Answer {
+    ghost from_gives = { λ r a. a ≡ answered (answer_view r) };
 
-    fn from(r: Result<Accepted, Refusal>) -> Answer {
+    fn from(r: Result<Accepted, Refused>) -> Answer {
         match r {
             Ok(a) => Answer {
                 accepted: true,
@@ -50,7 +49,8 @@ impl From<Result<Accepted, Refusal>> for Answer {
                 ..Answer::default()
             },
             Err(r) => Answer {
-                number: u8::from(r),
+                number: u8::from(r.row),
+                bytes: r.bytes,
                 ..Answer::default()
             },
         }
@@ -66,7 +66,7 @@ pub extern "C" fn hollwern_step(
     book: &[u8],
     out: &mut [u8],
 ) -> Answer
-    ensures answer { result ≡ answer_view (step_of e.old (call event.now journey.now book.now out.old)).answer }
+    ensures answer { result ≡ answered (step_of e.old (call event.now journey.now book.now out.old)).answer }
     ensures engine { e.new ≡ (step_of e.old (call event.now journey.now book.now out.old)).engine }
     ensures output { out.new ≡ (step_of e.old (call event.now journey.now book.now out.old)).memory }
 {
@@ -98,7 +98,7 @@ pub extern "C" fn hollwern_read(bytes: &[u8]) -> PacketFields
     packet_fields::read_fields(bytes)
 }
 
-// The bytes of the packet in front. So cut, from the first packet on, what an accepted call wrote falls into its packets: `cut_packets`, and
+// The bytes of the packet in front. So cut, from the first packet on, what a call wrote falls into its packets: `cut_packets`, and
 // `packets` of the theorem over every list.
 #[unsafe(no_mangle)]
 pub extern "C" fn hollwern_front_size(bytes: &[u8]) -> usize

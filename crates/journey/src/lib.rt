@@ -18,7 +18,7 @@ const MAX_DATE: u32 = 32767;
 // "NID_ATOTS (2, 0-16,383; absent means 16,384)"
 const MAX_ATOTS: u32 = 16383;
 
-const NO_ATOTS: u16 = 16384;
+pub const NO_ATOTS: u16 = 16384;
 
 // "alignment (1: 0 front, 1 middle, 2 rear; absent means 0)". A byte, as the engine's C layout has it: an enum would be made here and unmade there.
 const FRONT: u8 = 0;

@@ -14,6 +14,8 @@ in_bytes = record {
   ended = record { bytes = refl; reads = refl; size = refl };
   status_numbers = refl;
   journey = record { bytes = refl; reads = refl; size = refl };
+  turned_down = record { bytes = refl; reads = refl; size = refl };
+  jp_statuses = refl;
   status = record { bytes = refl; reads = refl; size = refl };
   traction = record { bytes = refl; reads = refl; size = refl };
   sizes = refl;
@@ -51,6 +53,7 @@ writing = record {
   short_kept = refl;
   unfit = refl;
   unfit_kept = refl;
+  jp_written = refl;
   beyond = refl;
   beyond_one = refl;
 }

@@ -1,4 +1,4 @@
--- Packets in bytes, worked out by hand from documents 01 and 02 (Q-1, Q-2), which the definitions must give.
+-- Packets in bytes, worked out by hand from documents 01 and 02 (Q-1, Q-2, Q-4), which the definitions must give.
 use Rattle.std.specs.Prelude.{ℕ, ◌≡◌, List, [], ◌∷◌, ◌++◌, map, length, take, set, replicate}
 use Rattle.wire.specs.Judged.{Judged}
 use Rattle.wire.specs.Judged.Judged.{refuse, accept}
@@ -6,10 +6,11 @@ use Rattle.status_word.specs.Word.{conditions_of}
 use Rattle.status_word.specs.Anchors.{five, nine}
 use Rattle.packets.specs.Layouts.{content_at, unknown_nidc}
 use Rattle.packets.specs.Packets.{packet_bytes, joined, size_of, packet_of, written_count, written_memory, size_at, front_size, cut_packets}
-use Rattle.packets.specs.View.{status_number}
+use Rattle.packets.specs.View.{status_number, jp_status_number}
 use Rattle.packets.specs.declared.Header.{Header}
 use Rattle.packets.specs.declared.Packet.{Packet}
 use Rattle.packets.specs.declared.PointStatus.{PointStatus}
+use Rattle.packets.specs.declared.JpStatus.{JpStatus}
 
 -- ---- packets and their bytes
 
@@ -67,14 +68,20 @@ timing_point reached alignment status stopping =
 abbrev pub timing_point_bytes : ℕ → ℕ → List ℕ
 timing_point_bytes info stopping = 0x3E ∷ header_bytes ++ (0x02 ∷ 0xA5 ∷ 0xF0 ∷ 0xE1 ∷ 0xD2 ∷ 0xC3 ∷ info ∷ stopping ∷ [])
 
--- "65 ..: NID_C (1,024 unless the position is known), NID_ATOTS, date, seconds, counter, status 0."
+-- "65 ..: NID_C (1,024 unless the position is known), NID_ATOTS, date, seconds, counter, status .."
+abbrev pub jp_received_as : ℕ → Packet
+jp_received_as status =
+    Packet.JpReceived (record { header = header; nidc = 1024; atots = 0x3A5B; date = 0x7C1D; seconds = 0x89ABCDEF; counter = 0xFE; status = status })
+
+abbrev pub jp_received_as_bytes : ℕ → List ℕ
+jp_received_as_bytes status =
+    0x41 ∷ header_bytes ++ (0x04 ∷ 0x00 ∷ 0x3A ∷ 0x5B ∷ 0x7C ∷ 0x1D ∷ 0x89 ∷ 0xAB ∷ 0xCD ∷ 0xEF ∷ 0xFE ∷ status ∷ [])
+
 abbrev pub jp_received : Packet
-jp_received =
-    Packet.JpReceived (record { header = header; nidc = 1024; atots = 0x3A5B; date = 0x7C1D; seconds = 0x89ABCDEF; counter = 0xFE; status = 0 })
+jp_received = jp_received_as 0
 
 abbrev pub jp_received_bytes : List ℕ
-jp_received_bytes =
-    0x41 ∷ header_bytes ++ (0x04 ∷ 0x00 ∷ 0x3A ∷ 0x5B ∷ 0x7C ∷ 0x1D ∷ 0x89 ∷ 0xAB ∷ 0xCD ∷ 0xEF ∷ 0xFE ∷ 0x00 ∷ [])
+jp_received_bytes = jp_received_as_bytes 0x00
 
 -- "68: state + 16 × conditions (2)."
 abbrev pub ato_status : ℕ → List ℕ → Packet
@@ -108,6 +115,9 @@ pub record InBytes : Type 0 where
   pub status_numbers : map status_number (PointStatus.Passed ∷ PointStatus.Stopped ∷ PointStatus.Departed ∷ PointStatus.Skipped ∷ PointStatus.Revoked ∷ [])
       ≡ 0 ∷ 1 ∷ 2 ∷ 5 ∷ 6 ∷ []
   pub journey : Worked jp_received jp_received_bytes
+  -- 02, Q-4: "status 0 or 1 in packet 65", whatever the stamp
+  pub turned_down : Worked (jp_received_as 1) (jp_received_as_bytes 0x01)
+  pub jp_statuses : map jp_status_number (JpStatus.Accepted ∷ JpStatus.TurnedDown ∷ []) ≡ 0 ∷ 1 ∷ []
   -- 5 + 32 + 64 + 512 + 2,048 + 4,096
   pub status : Worked (ato_status 5 five) ato_status_bytes
   pub traction : Worked traction_brake traction_brake_bytes
@@ -151,7 +161,8 @@ abbrev pub read61 : List ℕ → ℕ
 read61 content = read_number (0x3D ∷ header_bytes ++ content)
 
 -- "Ranges: NID_C to 1,023 (content of 65: 1,024); offset to 16,777,215; NID_ATOTS to 16,384; date to 32,767; alignment 0-2;
--- status 0-8 in 62, 0 in 65; stopping data to 127, 0 unless status 1; state 0-7; spare bits 0. Other fields are free."
+-- status 0-8 in 62, ..; stopping data to 127, 0 unless status 1; state 0-7; spare bits 0. Other fields are free."
+-- 02, Q-4: "The reader now takes status 0 or 1 in packet 65"
 pub record Ranges : Type 0 where
   -- each field of a header at its greatest; NID_C 1,024; offset 16,777,216
   pub headers : map (λ h. map read_number (of_each h)) (
@@ -175,15 +186,18 @@ pub record Ranges : Type 0 where
   pub stopping : map (λ info. read_number (timing_point_bytes info 0x01)) (0x00 ∷ 0x08 ∷ 0x10 ∷ 0x18 ∷ 0x20 ∷ 0x28 ∷ 0x30 ∷ 0x38 ∷ 0x40 ∷ [])
       ≡ 19 ∷ 0 ∷ 19 ∷ 19 ∷ 19 ∷ 19 ∷ 19 ∷ 19 ∷ 19 ∷ []
   pub most_stopping : map (λ n. read_number (timing_point_bytes 0x09 n)) (0x7F ∷ 0x80 ∷ 0xFF ∷ []) ≡ 0 ∷ 19 ∷ 19 ∷ []
-  -- 65: NID_C 1,024, NID_ATOTS 16,384, date 32,767, the rest at its greatest; then NID_C 1,025; NID_ATOTS 16,385; date 32,768; status 1
+  -- 65: NID_C 1,024, NID_ATOTS 16,384, date 32,767, the rest at its greatest, with status 0, and with 1; then NID_C 1,025; NID_ATOTS 16,385; date 32,768;
+  -- status 2; status 128
   pub journeys : map read65 (
       (0x04 ∷ 0x00 ∷ 0x40 ∷ 0x00 ∷ 0x7F ∷ 0xFF ∷ 0xFF ∷ 0xFF ∷ 0xFF ∷ 0xFF ∷ 0xFF ∷ 0x00 ∷ [])
+      ∷ (0x04 ∷ 0x00 ∷ 0x40 ∷ 0x00 ∷ 0x7F ∷ 0xFF ∷ 0xFF ∷ 0xFF ∷ 0xFF ∷ 0xFF ∷ 0xFF ∷ 0x01 ∷ [])
       ∷ (0x04 ∷ 0x01 ∷ 0x00 ∷ 0x00 ∷ 0x00 ∷ 0x00 ∷ 0x00 ∷ 0x00 ∷ 0x00 ∷ 0x00 ∷ 0x00 ∷ 0x00 ∷ [])
       ∷ (0x00 ∷ 0x00 ∷ 0x40 ∷ 0x01 ∷ 0x00 ∷ 0x00 ∷ 0x00 ∷ 0x00 ∷ 0x00 ∷ 0x00 ∷ 0x00 ∷ 0x00 ∷ [])
       ∷ (0x00 ∷ 0x00 ∷ 0x00 ∷ 0x00 ∷ 0x80 ∷ 0x00 ∷ 0x00 ∷ 0x00 ∷ 0x00 ∷ 0x00 ∷ 0x00 ∷ 0x00 ∷ [])
-      ∷ (0x00 ∷ 0x00 ∷ 0x00 ∷ 0x00 ∷ 0x00 ∷ 0x00 ∷ 0x00 ∷ 0x00 ∷ 0x00 ∷ 0x00 ∷ 0x00 ∷ 0x01 ∷ [])
+      ∷ (0x00 ∷ 0x00 ∷ 0x00 ∷ 0x00 ∷ 0x00 ∷ 0x00 ∷ 0x00 ∷ 0x00 ∷ 0x00 ∷ 0x00 ∷ 0x00 ∷ 0x02 ∷ [])
+      ∷ (0x00 ∷ 0x00 ∷ 0x00 ∷ 0x00 ∷ 0x00 ∷ 0x00 ∷ 0x00 ∷ 0x00 ∷ 0x00 ∷ 0x00 ∷ 0x00 ∷ 0x80 ∷ [])
       ∷ []
-      ) ≡ 0 ∷ 19 ∷ 19 ∷ 19 ∷ 19 ∷ []
+      ) ≡ 0 ∷ 0 ∷ 19 ∷ 19 ∷ 19 ∷ 19 ∷ 19 ∷ []
   -- 68: state 7 with all nine conditions; state 8; bits 13, 14, 15
   pub states : map read68 ((0x1F ∷ 0xF7 ∷ []) ∷ (0x00 ∷ 0x08 ∷ []) ∷ (0x20 ∷ 0x00 ∷ []) ∷ (0x40 ∷ 0x00 ∷ []) ∷ (0x80 ∷ 0x00 ∷ []) ∷ [])
       ≡ 0 ∷ 19 ∷ 19 ∷ 19 ∷ 19 ∷ []
@@ -216,6 +230,8 @@ pub record Writing : Type 0 where
   -- "(the writer of one packet: 19, then 16)": with room and with none
   pub unfit : map (λ m. written_count (ato_status 8 []) m) (stopped_bytes ∷ [] ∷ []) ≡ refuse 19 ∷ refuse 19 ∷ []
   pub unfit_kept : written_memory (ato_status 8 []) stopped_bytes ≡ stopped_bytes
+  -- the writer takes status 0 and 1 in packet 65, and no other
+  pub jp_written : map (λ s. number_in (written_count (jp_received_as s) [])) (0 ∷ 1 ∷ 2 ∷ 255 ∷ []) ≡ 16 ∷ 16 ∷ 19 ∷ 19 ∷ []
   -- values that would run into their neighbours in the same bytes: Q_EOJ_REACHED 2, alignment 3, status 9, state 8
   pub beyond : map (λ p. number_in (written_count p []))
       (timing_point 1 2 8 0 ∷ timing_point 2 0 0 0 ∷ timing_point 0 3 0 0 ∷ timing_point 0 0 9 0 ∷ ato_status 7 nine ∷ ato_status 8 [] ∷ [])

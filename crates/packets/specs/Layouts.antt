@@ -1,6 +1,7 @@
--- Documents 01, "Packets", and 02, Q-1 and Q-2: the layouts of 61, 62, 65 and 68, and what lies between their fields.
+-- Documents 01, "Packets", and 02, Q-1, Q-2 and Q-4: the layouts of 61, 62, 65 and 68, and what lies between their fields.
 -- "Ranges: NID_C to 1,023 (content of 65: 1,024); offset to 16,777,215; NID_ATOTS to 16,384; date to 32,767; alignment 0-2;
--- status 0-8 in 62, 0 in 65; stopping data to 127, 0 unless status 1; state 0-7; spare bits 0. Other fields are free."
+-- status 0-8 in 62, ..; stopping data to 127, 0 unless status 1; state 0-7; spare bits 0. Other fields are free."
+-- 02, Q-4: "The reader now takes status 0 or 1 in packet 65"
 use Rattle.std.specs.Prelude.{ℕ, ◌+◌, List, [], ◌∷◌, Bool, true, ◌||◌, eqb}
 use Rattle.layout.specs.Layout.{Layout, Values, part, field, listed, size}
 use Rattle.layout.specs.Layout.Content.{free, up_to, weighted}
@@ -67,7 +68,7 @@ kind62 = record { number = 62; content = content62; between = stopping_allowed; 
 abbrev pub unknown_nidc : ℕ
 unknown_nidc = 1024
 
--- "65 ..: NID_C (..), NID_ATOTS, date, seconds, counter, status 0." Their widths are SUBSET-140's, Table 8: 2, 2, 2, 4, 1, 1.
+-- "65 ..: NID_C (..), NID_ATOTS, date, seconds, counter, status .." Their widths are SUBSET-140's, Table 8: 2, 2, 2, 4, 1, 1.
 abbrev pub content65 : Layout
 content65 =
     field "NID_C" 2 (up_to unknown_nidc)
@@ -75,7 +76,7 @@ content65 =
     ∷ field "date" 2 (up_to 32767)
     ∷ field "seconds" 4 free
     ∷ field "counter" 1 free
-    ∷ field "status" 1 (up_to 0)
+    ∷ field "status" 1 (up_to 1)
     ∷ []
 
 abbrev pub jp_received_of : Values header_layout → Values content65 → JpReceived

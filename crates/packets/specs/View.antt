@@ -9,6 +9,8 @@ use Rattle.packets.specs.declared.Header.{Header}
 use Rattle.packets.specs.declared.TimingPoint.{TimingPoint}
 use Rattle.packets.specs.declared.PointStatus.{PointStatus}
 use Rattle.packets.specs.declared.PointStatus.TheVariants.{Passed, Stopped, Departed, Skipped, Revoked}
+use Rattle.packets.specs.declared.JpStatus.{JpStatus}
+use Rattle.packets.specs.declared.JpStatus.TheVariants.{Accepted, TurnedDown}
 use Rattle.packets.specs.declared.JpReceived.{JpReceived}
 use Rattle.packets.specs.declared.AtoStatus.{AtoStatus}
 use Rattle.packets.specs.declared.Requested.{Requested}
@@ -27,6 +29,11 @@ status_number Stopped = 1
 status_number Departed = 2
 status_number Skipped = 5
 status_number Revoked = 6
+
+-- "65 ..: .. status 0"; 02, Q-4: "packet 65 with status 1"
+abbrev pub jp_status_number : JpStatus → ℕ
+jp_status_number Accepted = 0
+jp_status_number TurnedDown = 1
 
 abbrev pub jp_received_view : JpReceived → Values content65
 jp_received_view p = (p.nidc, (p.atots, (p.date, (p.seconds, (p.counter, (p.status, tt))))))

@@ -54,6 +54,23 @@ impl From<PointStatus> for u8 {
     }
 }
 
+// The statuses of a packet 65: a journey was accepted, or a load's profiles were turned down.
+#[derive(Clone, Copy)]
+pub enum JpStatus {
+    Accepted = 0,
+    TurnedDown = 1,
+}
+
+impl From<JpStatus> for u8 {
+    ghost use Rattle.packets.specs.View.{jp_status_number};
+
+    ghost from_gives = { λ s n. n ≡ jp_status_number s };
+
+    fn from(s: JpStatus) -> u8 {
+        s as u8
+    }
+}
+
 // Packet 65: SUBSET-140, Table 8.
 #[repr(C)]
 #[derive(Clone, Copy)]
@@ -239,7 +256,7 @@ impl JpReceived {
         self.nidc <= UNKNOWN_NIDC
             && self.atots <= MAX_ATOTS
             && self.date <= MAX_DATE
-            && self.status == 0
+            && self.status <= u8::from(JpStatus::TurnedDown)
     }
 }
 

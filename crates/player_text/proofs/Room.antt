@@ -10,8 +10,6 @@ use native.Mathlib.Omega.{arith}
 use borrow.Author.Tests.{le-leb}
 use Rattle.wire.specs.Numbers.{Bytes, number, flag}
 use Rattle.wire.proofs.NumberLaws.{number_bound}
-use Rattle.wire.specs.Judged.{Judged}
-use Rattle.wire.specs.Judged.Judged.{refuse, accept}
 use Rattle.fields.specs.Parse.{field}
 use Rattle.fields.specs.Parse.Parse.{good}
 use Rattle.fields.proofs.ReaderLaws.{field_good}
@@ -19,9 +17,9 @@ use Rattle.packets.specs.Packets.{front_size, cut, cut_packets}
 use Rattle.packets.proofs.Cutting.{front-some}
 use Rattle.event.specs.Kinds.{kind_of}
 use Rattle.event.specs.declared.Event.TheVariants.{Load}
-use Rattle.call_values.specs.declared.Accepted.{Accepted}
+use Rattle.call_values.specs.Call.{Answer, refused, accepted, bytes_written}
 use Rattle.player_text.specs.Calls.{Given, some, block, profiles, call}
-use Rattle.player_text.specs.Lines.{hex, hex_lines, decimal, most_digits, lines, output_bytes, most_lines}
+use Rattle.player_text.specs.Lines.{hex, hex_lines, decimal, most_digits, answer_line, lines, output_bytes, most_lines}
 
 -- ---- lines
 
@@ -49,14 +47,18 @@ length_packets (suc k) (b ∷ l) =
     let rest = simp length-drop at (length_packets k (drop n (b ∷ l))) in
     rw (length-append, length-append, length-hex, length-take) (omega (arith, rest))
 
-pub lines_fit : (a : Judged Accepted) (m : List ℕ) → length m ≤ output_bytes → length (lines a m) ≤ most_lines
+length-answer : (a : Answer) → length (answer_line a) ≤ 65
+length-answer (refused n bytes) = simp length-append (omega (arith, length-decimal most_digits n, length-decimal most_digits bytes))
+length-answer (accepted a) =
+    simp length-append (omega (arith, length-decimal most_digits a.state, length-decimal most_digits (flag a.request), length-decimal most_digits a.bytes))
+
+pub lines_fit : (a : Answer) (m : List ℕ) → length m ≤ output_bytes → length (lines a m) ≤ most_lines
 unfolding lines cut_packets
-lines_fit (refuse n) m h = simp length-append (omega (arith, length-decimal most_digits n))
-lines_fit (accept a) m h =
-    let t : length (take a.bytes m) ≤ output_bytes = rw length-take (omega arith) in
-    let p = length_packets (length (take a.bytes m)) (take a.bytes m) in
-    simp length-append
-    (omega (arith, p, length-decimal most_digits a.state, length-decimal most_digits (flag a.request), length-decimal most_digits a.bytes))
+lines_fit a m h =
+    let t : length (take (bytes_written a) m) ≤ output_bytes = rw length-take (omega arith) in
+    let p = length_packets (length (take (bytes_written a) m)) (take (bytes_written a) m) in
+    let q = length-append (answer_line a) (hex_lines (cut (length (take (bytes_written a) m)) (take (bytes_written a) m))) in
+    omega (arith, t, p, q, length-answer a)
 
 -- ---- events
 

@@ -1,10 +1,9 @@
--- "Each event gives a line: R and the number, or A, state, request, bytes (decimal), then a line of uppercase hexadecimal a packet."
+-- "Each event gives a line: R and the number, or A, state, request, bytes (decimal), then a line of uppercase hexadecimal a packet." 02, Q-4: "the player's R line
+-- gains the count (0 for any other refusal) and the packet's line"
 use Rattle.std.specs.Prelude.{ℕ, zero, suc, ◌+◌, ◌-◌, ◌/◌, ◌%◌, List, [], ◌∷◌, ◌++◌, Bool, take, ltb, if◌then◌else◌}
 use Rattle.wire.specs.Numbers.{flag}
-use Rattle.wire.specs.Judged.{Judged}
-use Rattle.wire.specs.Judged.Judged.{refuse, accept}
 use Rattle.packets.specs.Packets.{cut_packets}
-use Rattle.call_values.specs.declared.Accepted.{Accepted}
+use Rattle.call_values.specs.Call.{Answer, refused, accepted, bytes_written}
 
 -- ---- ASCII
 
@@ -61,16 +60,19 @@ hex_lines (p ∷ ps) = hex_line p ++ hex_lines ps
 abbrev pub packet_text : List ℕ → List ℕ
 packet_text l = hex_lines (cut_packets l)
 
-abbrev pub refused_line : ℕ → List ℕ
-refused_line n = (letter_r ∷ []) ++ (spaced n ++ newline)
+abbrev pub refused_line : ℕ → ℕ → List ℕ
+refused_line n bytes = (letter_r ∷ []) ++ (spaced n ++ (spaced bytes ++ newline))
 
 abbrev pub accepted_line : ℕ → Bool → ℕ → List ℕ
 accepted_line state request bytes = (letter_a ∷ []) ++ (spaced state ++ (spaced (flag request) ++ (spaced bytes ++ newline)))
 
+abbrev pub answer_line : Answer → List ℕ
+answer_line (refused n bytes) = refused_line n bytes
+answer_line (accepted a) = accepted_line a.state a.request a.bytes
+
 -- the lines of an event: its answer, and the packets in the output memory m
-unfoldable pub lines : Judged Accepted → List ℕ → List ℕ
-lines (refuse n) m = refused_line n
-lines (accept a) m = accepted_line a.state a.request a.bytes ++ packet_text (take a.bytes m)
+unfoldable pub lines : Answer → List ℕ → List ℕ
+lines a m = answer_line a ++ packet_text (take (bytes_written a) m)
 
 -- "It lends 4,096 output bytes"
 abbrev pub output_bytes : ℕ

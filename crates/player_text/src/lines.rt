@@ -1,17 +1,16 @@
 // The lines of an answer, behind a text as far as it has room, whatever its size N: one size would ask more of who calls `put_answer`. They are put
 // by hand, since `write!` promises its text only where it answers Ok, and nothing says when that is.
 ghost use Rattle.std.specs.Prelude.{◌≡◌};
-ghost use Rattle.wire.specs.View.{judged};
 ghost use Rattle.wire.specs.Refusals.{number_of};
 ghost use Rattle.player_text.specs.Lines.{hex_line, packet_text, spaced, refused_line, accepted_line};
+ghost use Rattle.call_values.specs.View.{answer_view};
 ghost use Rattle.player_text.specs.View.{appended};
 ghost use Rattle.player_text.specs.Lines.{digit as Lines·digit, lines as Lines·lines};
 
 use arrayvec::ArrayVec;
-use call_values::Accepted;
+use call_values::{Accepted, Refused};
 use itoa::Buffer;
 use std::io::Write;
-use wire::Refusal;
 
 // The bytes that the lines of an event take at most, for an output memory of 4,096 (`lines_fit` of proofs/Room.antt).
 pub const MOST_LINES: usize = 16384;
@@ -66,11 +65,12 @@ fn put_number<const N: usize>(text: &mut ArrayVec<u8, N>, n: usize)
 }
 
 #[tactic(auto, using(crate::proofs::Laws::appended_then))]
-fn put_refused<const N: usize>(text: &mut ArrayVec<u8, N>, r: Refusal)
-    ensures { text.new.items ≡ appended N text.old.items (refused_line (number_of r)) }
+fn put_refused<const N: usize>(text: &mut ArrayVec<u8, N>, r: Refused)
+    ensures { text.new.items ≡ appended N text.old.items (refused_line (number_of r.row) r.bytes) }
 {
     put(text, b"R");
-    put_number(text, usize::from(u8::from(r)));
+    put_number(text, usize::from(u8::from(r.row)));
+    put_number(text, r.bytes);
     put(text, b"\n");
 }
 
@@ -89,16 +89,20 @@ fn put_accepted<const N: usize>(text: &mut ArrayVec<u8, N>, a: Accepted)
 #[tactic(auto, using(crate::proofs::Laws::appended_then, std::proofs::lemmas::List::take_min), unfolding(crate::specs::Lines::lines))]
 pub fn put_answer<const N: usize>(
     text: &mut ArrayVec<u8, N>,
-    answer: Result<Accepted, Refusal>,
+    answer: Result<Accepted, Refused>,
     memory: &[u8],
 )
-    ensures { text.new.items ≡ appended N text.old.items (Lines·lines (judged answer) memory.now) }
+    ensures { text.new.items ≡ appended N text.old.items (Lines·lines (answer_view answer) memory.now) }
 {
-    match answer {
+    let bytes = match answer {
         Ok(a) => {
             put_accepted(text, a);
-            put_packets(text, &memory[..a.bytes.min(memory.len())]);
+            a.bytes
         }
-        Err(r) => put_refused(text, r),
-    }
+        Err(r) => {
+            put_refused(text, r);
+            r.bytes
+        }
+    };
+    put_packets(text, &memory[..bytes.min(memory.len())]);
 }

@@ -14,21 +14,21 @@ use Rattle.event.specs.Kinds.{Role, off, load, report, other, skip}
 use Rattle.event.proofs.Known.{OfRole, known}
 use Rattle.timing.specs.Report.{run}
 use Rattle.call_values.specs.Call.{Call}
-use Rattle.call.specs.Call.{Outcome, outcome_of, step_of}
+use Rattle.call.specs.Call.{Outcome, step_of}
 use Rattle.whole_list.specs.Values.{History, event_of_call, role_of_call, route_by, report_at, reports_since, behind_at_load}
-use Rattle.whole_list.specs.Table.{packets_by, table_by}
+use Rattle.whole_list.specs.Table.{packets_by, table_by, packets_refused_by}
 use Rattle.whole_list.specs.Calls.{play, trace, with_accepted, accepted_in, history_of}
 use Rattle.whole_list.specs.Recorded.{packets_after}
 use Rattle.whole_list.specs.WholeList.{bytes_of_each}
 use Rattle.whole_list.proofs.Recorded.{memory_read}
 use Rattle.whole_list.proofs.Fields.{progress_run, engine_of, in-range}
 use Rattle.whole_list.proofs.FieldsStep.{run_kept, route_kept, progress_new}
-use Rattle.whole_list.proofs.WholeList.{outcome_by, outcome-is, kept}
+use Rattle.whole_list.proofs.WholeList.{outcome_if, step_by_rules, kept}
 use Rattle.told_once.specs.Recording.{Told, goes_on, goes_on_if, recording_from, told_in}
 use Rattle.told_once.specs.ToldOnce.{told_since}
 use Rattle.told_once.proofs.Story.{Story, begins}
 use Rattle.told_once.proofs.Reports.{reporting}
-use Rattle.told_once.proofs.Packets.{told-append, report-tells, quiet}
+use Rattle.told_once.proofs.Packets.{told-append, refused-tells, report-tells, quiet}
 
 -- ---- one accepted call
 
@@ -91,11 +91,14 @@ Next c h l r =
     × StoryBy (with_accepted r.answer c h) (told_in (goes_on_if r.answer (role_of_call c) l (packets_after r.answer r.memory)))
 
 one-call : (h : History) (c : Call) (l : List (List ℕ)) → StoryBy h (told_in l) → Next c h l (step_of (engine_of h) c)
-unfolding outcome_of
-one-call h c l s = subst (Next c h l) (sym (outcome-is h c)) (go (table_by h c))
+one-call h c l s = subst (Next c h l) (sym (step_by_rules h c)) (go (table_by h c))
   where
-    go : (t : Judged (Unit {0})) → Next c h l (outcome_by h c t)
-    go (refuse n) = (refl, s)
+    go : (t : Judged (Unit {0})) → Next c h l (outcome_if h c t)
+    go (refuse n) =
+        let w = memory_read (packets_refused_by h c n) c.memory in
+        let e : told_in (l ++ bytes_of_each (packets_refused_by h c n)) ≡ told_in l =
+        told-append l (bytes_of_each (packets_refused_by h c n)) ∙ ap (λ (m : List Told). told_in l ++ m) (refused-tells h c n) ∙ append-nil (told_in l) in
+        (refl, subst (λ x. StoryBy h (told_in (l ++ x))) (sym w) (subst (StoryBy h) (sym e) s))
     go (accept u) =
         (refl, subst (λ w. StoryBy (c ∷ h) (told_in (goes_on (role_of_call c) l w))) (sym (memory_read (packets_by h c) c.memory)) (after_call h c l s))
 

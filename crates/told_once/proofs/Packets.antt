@@ -1,9 +1,12 @@
 -- What the packets of one call tell: a position report the points that it changes, each by its index and status; any other event nothing.
 use mathlib.Core.Path.{◌≡◌, refl, sym, ◌∙◌, ap}
-use mathlib.Core.Bool.{Bool, true, false, cond}
+use mathlib.Core.Bool.{Bool, true, false, cond, ◌&&◌}
 use mathlib.Core.List.{List, [], ◌∷◌, ◌++◌, map, append-nil, append_assoc}
 use Rattle.std.specs.Prelude.{Option, Some, None}
 use Prim.Native.Nat.{ℕ}
+use lib.Dec.{leb}
+use lib.ListN.{length}
+use Rattle.wire.specs.Refusals.{turns_down}
 use Rattle.wire.specs.Lists.{All, those}
 use Rattle.wire.specs.Judged.Judged.{accept}
 use Rattle.engine_value.specs.Engine.{Route}
@@ -12,6 +15,7 @@ use Rattle.engine_value.specs.declared.Load.{Load}
 use Rattle.event.specs.declared.Event.TheVariants.{PositionReport}
 use Rattle.event.specs.Kinds.{Role, off, load, report, other, skip}
 use Rattle.journey.specs.declared.Head.{Head}
+use Rattle.packets.specs.Layouts.{kind65, kind_size}
 use Rattle.packets.specs.Packets.{packet_of}
 use Rattle.status_word.specs.declared.OperationalConditions.{OperationalConditions}
 use Rattle.packets.specs.declared.Requested.{Requested}
@@ -22,14 +26,14 @@ use Rattle.position.specs.Skips.{stop_named}
 use Rattle.conditions.specs.Conditions.{end_ahead}
 use Rattle.timing.specs.Changes.{Change, when, report_changes}
 use Rattle.call_values.specs.Call.{Call}
-use Rattle.call_values.specs.Packets.{PointChange, timing_point, jp_received, traction_brake, traction_brakes, ato_status, status_due, received, packets_of}
+use Rattle.call_values.specs.Packets.{PointChange, timing_point, jp_received, traction_brake, traction_brakes, ato_status, status_due, received, packets_of, jp_turned_down, packets_refused}
 use Rattle.call.specs.Packets.{change_in}
 use Rattle.whole_list.specs.Values.{History, event_of_call, role_of_call, position_by, route_by, report_at}
 use Rattle.whole_list.specs.Rules.{standing_by, state_by}
 use Rattle.whole_list.specs.Requests.{traction_by}
-use Rattle.whole_list.specs.Table.{skip_change, changes_by, head_of_call, own_by, status_by, packets_by}
+use Rattle.whole_list.specs.Table.{skip_change, changes_by, head_of_call, own_by, status_by, packets_by, packets_refused_by}
 use Rattle.whole_list.specs.WholeList.{bytes_of_each}
-use Rattle.whole_list.proofs.Readable.{Fits, packets_fit}
+use Rattle.whole_list.proofs.Readable.{Fits, packets_fit, refused_fit}
 use Rattle.whole_list.proofs.Fields.{progress_run}
 use Rattle.whole_list.proofs.FieldsStep.{route_kept, changes_is}
 use Rattle.told_once.specs.Recording.{Told, told_by, told_in}
@@ -97,6 +101,15 @@ module _ (j : Route) (x : Position) where
           ≡ cond b (changed j c ∷ those counts (map (changed j) l)) (those counts (map (changed j) l))
       go true e = ap (λ (m : List Told). changed j c ∷ m) e
       go false e = e
+
+-- nor does what a refused call writes
+pub refused-tells : (h : History) (c : Call) (n : ℕ) → told_in (bytes_of_each (packets_refused_by h c n)) ≡ []
+unfolding packets_refused jp_turned_down told_of_each
+refused-tells h c n = read_back (packets_refused_by h c n) (refused_fit h c n) ∙ go (turns_down n && leb (kind_size kind65) (length c.memory))
+  where
+    go : (b : Bool) → told_of_each (when b (jp_turned_down (route_by h) (position_by h))) ≡ []
+    go true = refl
+    go false = refl
 
 -- the packets 62 that a call writes, by index and status of the points that it changes
 call-tells : (h : History) (c : Call) → told_in (bytes_of_each (packets_by h c)) ≡ those counts (map (changed (route_by (c ∷ h))) (changes_by h c))

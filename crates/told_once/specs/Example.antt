@@ -1,13 +1,13 @@
 -- The corollary is not empty: what is told in short lists of calls over the journey of document 01's trials.
-use Rattle.std.specs.Prelude.{◌≡◌, List, [], ◌∷◌, ◌++◌, map, ℕ}
+use Rattle.std.specs.Prelude.{◌≡◌, List, [], ◌∷◌, ◌++◌, map, ℕ, length}
 use Rattle.position.specs.declared.Standing.{Standing}
 use Rattle.position.specs.declared.Standing.TheVariants.{Unused, Targeted, Reached, Passed}
 use Rattle.call_values.specs.Call.{Call}
-use Rattle.call.specs.Trials.{plain, power_on, trial_load, at, skip}
+use Rattle.call.specs.Trials.{plain, loads, power_on, trial_book, trial_load, at, skip}
 use Rattle.whole_list.specs.Values.{behind_at_load}
 use Rattle.whole_list.specs.Calls.{history_of}
 use Rattle.whole_list.specs.Example.{stopped, finished}
-use Rattle.told_once.specs.Recording.{Told}
+use Rattle.told_once.specs.Recording.{Told, recording_of}
 use Rattle.told_once.specs.ToldOnce.{standing_told, told_since}
 
 -- what is told of a point of country 17
@@ -32,6 +32,10 @@ reloaded = stopped ++ (at 50000 500 ∷ trial_load ∷ [])
 abbrev pub switched_off : List Call
 switched_off = stopped ++ (plain (0x03 ∷ []) ∷ [])
 
+-- stopped at 7001, and profiles turned down there
+abbrev pub turned_down_there : List Call
+turned_down_there = stopped ++ (loads [] trial_book ∷ [])
+
 pub record Example : Type 0 where
   -- stopped at 7001; in the longer list it is departed, and 7002 passed
   pub stops : told_since stopped ≡ tells 7001 1 ∷ []
@@ -40,6 +44,10 @@ pub record Example : Type 0 where
   pub ends_there : both 0 finished ≡ Passed ∷ Passed ∷ []
   pub runs_past : told_since ran_past ≡ tells 7001 0 ∷ []
   pub runs_past_it : both 0 ran_past ≡ Passed ∷ Targeted ∷ []
+  -- a packet 65 of status 1 tells nothing, and begins nothing anew
+  pub goes_on_lem : told_since turned_down_there ≡ tells 7001 1 ∷ []
+  pub still_there : both 0 turned_down_there ≡ Reached ∷ Unused ∷ []
+  pub recorded_there : length (recording_of turned_down_there) ≡ 5
   -- since the load in force
   pub told_again : told_since again ≡ tells 7001 1 ∷ []
   pub none_in_force : told_since switched_off ≡ []

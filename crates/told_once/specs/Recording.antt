@@ -8,15 +8,14 @@ use Rattle.packets.specs.Packets.{packet_of}
 use Rattle.packets.specs.declared.TimingPoint.{TimingPoint}
 use Rattle.packets.specs.declared.Packet.{Packet}
 use Rattle.timing.specs.Changes.{status_passed, status_stopped, status_departed, when}
-use Rattle.call_values.specs.Call.{Call}
-use Rattle.call_values.specs.declared.Accepted.{Accepted}
+use Rattle.call_values.specs.Call.{Call, Answer, refused, accepted}
 use Rattle.whole_list.specs.Values.{role_of_call}
 use Rattle.whole_list.specs.Calls.{Done, trace}
 use Rattle.whole_list.specs.Recorded.{recorded_by}
 
 -- ---- the recording: the packets in the calls' memories
 
--- a load starts it anew, with its own packets; with power off there is no load in force
+-- an accepted load starts it anew, with its own packets; with power off there is no load in force
 abbrev pub goes_on : Role → List (List ℕ) → List (List ℕ) → List (List ℕ)
 goes_on off recording written = []
 goes_on load recording written = written
@@ -24,10 +23,10 @@ goes_on report recording written = recording ++ written
 goes_on other recording written = recording ++ written
 goes_on (skip t on) recording written = recording ++ written
 
--- a refused call leaves it as it is
-abbrev pub goes_on_if : Judged Accepted → Role → List (List ℕ) → List (List ℕ) → List (List ℕ)
-goes_on_if (refuse n) role recording written = recording
-goes_on_if (accept a) role recording written = goes_on role recording written
+-- a refused call begins nothing anew: what it writes, a packet 65 of status 1, joins the recording
+abbrev pub goes_on_if : Answer → Role → List (List ℕ) → List (List ℕ) → List (List ℕ)
+goes_on_if (refused n bytes) role recording written = recording ++ written
+goes_on_if (accepted a) role recording written = goes_on role recording written
 
 unfoldable pub recording_from : List (List ℕ) → List Done → List (List ℕ)
 recording_from recording [] = recording

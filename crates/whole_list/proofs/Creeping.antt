@@ -16,7 +16,7 @@ use Rattle.engine_value.specs.declared.Progress.{Progress}
 use Rattle.event.specs.declared.Event.TheVariants.{PositionReport}
 use Rattle.event.specs.Kinds.{Role, off, load, report, other, skip}
 use Rattle.event.proofs.Known.{OfRole, known}
-use Rattle.packets.specs.Packets.{packet_bytes, cut, cut_packets}
+use Rattle.packets.specs.Packets.{packet_bytes}
 use Rattle.packets.specs.declared.TimingPoint.{TimingPoint}
 use Rattle.packets.specs.declared.Packet.{Packet}
 use Rattle.position.specs.Position.{point, point_count, front_at}
@@ -36,24 +36,21 @@ use Rattle.call.specs.Packets.{change_in}
 use Rattle.call.specs.Call.{step_of}
 use Rattle.whole_list.specs.Values.{History, event_of_call, role_of_call, route_by, report_at, reports_since, behind_at_load, position_by, length_by}
 use Rattle.whole_list.specs.Rules.{StandsBy}
-use Rattle.whole_list.specs.Table.{changes_by, packets_by, table_by}
+use Rattle.whole_list.specs.Table.{changes_by, packets_by, table_by, packets_if, answer_if}
 use Rattle.whole_list.specs.Calls.{play, trace, with_accepted, accepted_in, engine_after, history_of}
 use Rattle.whole_list.specs.Recorded.{In}
-use Rattle.whole_list.specs.WholeList.{JudgedByTable, Each62}
+use Rattle.whole_list.specs.WholeList.{bytes_of_each, Each62}
 use Rattle.whole_list.specs.Creeping.{Leaves, TrulyDeparted, EachTrulyDeparted, Leaving, SurelyDeparted, Keeps, Creeping, NoTraceOfCreeping}
 use Rattle.whole_list.proofs.Fields.{progress_run, in-range, stands_at}
 use Rattle.whole_list.proofs.FieldsStep.{run_kept, route_kept, position_new, progress_new}
 use Rattle.whole_list.proofs.Engaged.{stands_exactly}
-use Rattle.whole_list.proofs.Readable.{packets_fit, written_as, read_as}
-use Rattle.whole_list.proofs.Passed.{by_steps, step_change, timing_among, told_by, Told, where_written, each-told}
-use Rattle.whole_list.proofs.WholeList.{whole_list}
+use Rattle.whole_list.proofs.Readable.{packets_fit, written_as}
+use Rattle.whole_list.proofs.Passed.{by_steps, step_change, timing_among, told_by, Told, where_written, one_of_written, each-told}
+use Rattle.whole_list.proofs.WholeList.{judged_next}
 
 -- where the steps leave a point, and where the history rule has it
 stands-by : (h : History) (k : ℕ) → k < point_count (route_by h) → (s : Standing) → (standing (progress_run h) k ≡ s) ↔ StandsBy h k s
 stands-by h k l s = ((λ e. (stands_exactly h k s).0 (sym (stands_at h k l) ∙ e)), (λ x. stands_at h k l ∙ (stands_exactly h k s).1 x))
-
-judged_next : (earlier : List Call) (c : Call) → JudgedByTable (engine_after earlier) (history_of earlier) c (step_of (engine_after earlier) c)
-judged_next earlier c = (whole_list (earlier ++ (c ∷ []))).judged earlier c [] refl
 
 -- ---- a report that leaves a point, by its three tests and by the one definition of them
 
@@ -123,7 +120,7 @@ surely-departed earlier c k v =
     record {
       is_passed = passed;
       packet = packet_bytes (Packet.TimingPoint p);
-      among = subst (In (packet_bytes (Packet.TimingPoint p))) (sym ((judged_next earlier c).packets v.accepted)) w;
+      among = subst (In (packet_bytes (Packet.TimingPoint p))) (sym ((judged_next earlier c).packets ∙ ap (λ t. bytes_of_each (packets_if h c t)) v.accepted)) w;
       told = p;
       read = r;
       status_is = s ∙ status;
@@ -193,12 +190,14 @@ module _ (k : ℕ) where
       h : History
       h = history_of earlier
 
-      next : (a : Judged _) → (step_of (engine_after earlier) c).answer ≡ a → Rests (with_accepted a c h) k → Rests (history_of (earlier ++ (c ∷ []))) k
-      next a e r = subst (λ l. Rests l k) (sym (one_more earlier fresh [] c ∙ ap (λ b. with_accepted b c h) e)) r
+      next : (t : Judged (Unit {0})) → table_by h c ≡ t → Rests (with_accepted (answer_if h c t) c h) k → Rests (history_of (earlier ++ (c ∷ []))) k
+      next t e r =
+          let answer : (step_of (engine_after earlier) c).answer ≡ answer_if h c t = (judged_next earlier c).answer ∙ ap (answer_if h c) e in
+          subst (λ l. Rests l k) (sym (one_more earlier fresh [] c ∙ ap (λ b. with_accepted b c h) answer)) r
 
       go : (t : Judged (Unit {0})) → table_by h c ≡ t → Rests (history_of (earlier ++ (c ∷ []))) k
-      go (refuse n) e = next _ (((judged_next earlier c).number n).1 e) rests
-      go (accept u) e = next _ ((judged_next earlier c).answer e) (still h c k rests (keeps e))
+      go (refuse n) e = next (refuse n) e rests
+      go (accept u) e = next (accept u) e (still h c k rests (keeps e))
 
   abbrev EachAsked : List Call → List Call → Type 0
   EachAsked earlier more = (some : List Call) (c : Call) (others : List Call) → more ≡ some ++ (c ∷ others) → Asked (earlier ++ some) c
@@ -213,18 +212,10 @@ module _ (k : ℕ) where
 
   none-told : (earlier : List Call) (c : Call) → Rests (history_of earlier) k → Asked earlier c
       → (x : Position) → event_of_call c ≡ PositionReport x → Each62 earlier c (λ packet p. ⊥)
-  unfolding cut_packets cut
-  none-told earlier c rests keeps x e packet i p r = go (table_by (history_of earlier) c) refl
-    where
-      h : History
-      h = history_of earlier
-
-      go : (t : Judged (Unit {0})) → table_by h c ≡ t → ⊥
-      go (refuse n) q = rw (((judged_next earlier c).number n).1 q) at i
-      go (accept u) q =
-          let a = read_as packet (packets_by h c) (packets_fit h c) (subst (In packet) ((judged_next earlier c).packets q) i) in
-          let same : a.packet ≡ Packet.TimingPoint p = cc (a.read, r) in
-          none_there h c k rests (keeps q) x e p (subst (λ (y : Packet). In y (packets_by h c)) same a.one_of_them)
+  none-told earlier c rests keeps x e packet i p r =
+      let h = history_of earlier in
+      let (q, there) = one_of_written h c packet p r (subst (In packet) (judged_next earlier c).packets i) in
+      none_there h c k rests (keeps q) x e p there
 
 -- creeping leaves no trace
 pub no_trace_of_creeping : (earlier more : List Call) (k : ℕ) → Creeping earlier more k → NoTraceOfCreeping earlier more k

@@ -40,7 +40,7 @@ use Rattle.whole_list.specs.WholeList.{Requested}
 use Rattle.whole_list.proofs.FieldsReached.{newly}
 use Rattle.whole_list.proofs.TableRows.{event-is}
 
-then_accepts : {A B : Type 0} (m : Judged A) (f : A → Judged B) (b : B) → then_judge m f ≡ accept b → (a : A) × (m ≡ accept a) × (f a ≡ accept b)
+pub then_accepts : {A B : Type 0} (m : Judged A) (f : A → Judged B) (b : B) → then_judge m f ≡ accept b → (a : A) × (m ≡ accept a) × (f a ≡ accept b)
 then_accepts (refuse n) f b e = cc
 then_accepts (accept a) f b e = (a, refl, e)
 

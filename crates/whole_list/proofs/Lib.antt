@@ -16,5 +16,6 @@ pub mod Shown
 pub mod Passed
 pub mod WholeList
 pub mod Creeping
+pub mod TurnedDown
 pub mod Computed
 pub mod Example

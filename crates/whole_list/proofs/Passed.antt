@@ -2,18 +2,22 @@
 use Rattle.std.specs.Prelude.{Option, Some, None}
 use mathlib.Core.Path.{◌≡◌, refl, sym, ◌∙◌, ap, subst}
 use mathlib.Core.Logic.{◌⊎◌, inl, inr}
-use mathlib.Core.Bool.{Bool, true, false}
+use mathlib.Core.Bool.{Bool, true, false, ◌&&◌}
 use mathlib.Core.List.{List, [], ◌∷◌, ◌++◌, map, Memᴰ}
 use Prim.Native.Nat.{ℕ, ◌≤◌}
 use native.Mathlib.Omega.{arith}
+use lib.Dec.{leb}
+use lib.ListN.{length}
 use Rattle.wire.specs.Judged.{Judged}
 use Rattle.wire.specs.Judged.Judged.{refuse, accept}
+use Rattle.wire.specs.Refusals.{turns_down}
 use Rattle.engine_value.specs.Engine.{Route}
 use Rattle.engine_value.specs.declared.Position.{Position}
 use Rattle.event.specs.Kinds.{Role, off, load, report, other, skip}
 use Rattle.event.proofs.Known.{OfRole, known}
 use Rattle.event.specs.declared.Event.TheVariants as kind
-use Rattle.packets.specs.Packets.{packet_of, cut, cut_packets}
+use Rattle.packets.specs.Layouts.{kind65, kind_size}
+use Rattle.packets.specs.Packets.{packet_of}
 use Rattle.packets.specs.declared.TimingPoint.{TimingPoint}
 use Rattle.status_word.specs.declared.OperationalConditions.{OperationalConditions}
 use Rattle.packets.specs.declared.Requested.{Requested}
@@ -24,12 +28,12 @@ use Rattle.position.specs.Skips.{stop_named}
 use Rattle.timing.proofs.Changes.{Behind, recorded_behind, index_below}
 use Rattle.journey.specs.declared.Head.{Head}
 use Rattle.conditions.specs.Conditions.{end_ahead}
-use Rattle.call_values.specs.Packets.{PointChange, timing_point, jp_received, traction_brake, traction_brakes, ato_status, status_due, received, packets_of}
+use Rattle.call_values.specs.Packets.{PointChange, timing_point, jp_received, traction_brake, traction_brakes, ato_status, status_due, received, packets_of, jp_turned_down, packets_refused}
 use Rattle.call.specs.Packets.{change_in}
 use Rattle.call_values.specs.Call.{Call}
 use Rattle.call.specs.Call.{step_of}
 use Rattle.whole_list.specs.Values.{History, event_of_call, position_by, route_by, report_at, role_of_call}
-use Rattle.whole_list.specs.Table.{skip_change, changes_by, head_of_call, own_by, status_by, packets_by, table_by}
+use Rattle.whole_list.specs.Table.{skip_change, changes_by, head_of_call, own_by, status_by, packets_by, table_by, packets_if, written_by}
 use Rattle.whole_list.specs.Rules.{standing_by, state_by}
 use Rattle.traction.specs.Requests.{written_content}
 use Rattle.whole_list.specs.Requests.{traction_by}
@@ -39,7 +43,7 @@ use Rattle.whole_list.specs.WholeList.{bytes_of_each, JudgedByTable, WrittenAt, 
 use Rattle.whole_list.proofs.Requests.{in_left, in_right, in-append}
 use Rattle.whole_list.proofs.Fields.{progress_run, in-range}
 use Rattle.whole_list.proofs.FieldsStep.{route_kept, position_new, changes_is}
-use Rattle.whole_list.proofs.Readable.{packets_fit, read_as}
+use Rattle.whole_list.proofs.Readable.{written_fit, read_as}
 
 member : {A : Type 0} (x : A) (l : List A) → In x l → Memᴰ x l
 member x [] i = absurd i
@@ -190,11 +194,9 @@ module _ (h : History) (c : Call) (packet : List ℕ) (p : TimingPoint) (e : pac
             its_name = λ q f. let y : q ≡ p = cc (e, f) in ap (λ (t : TimingPoint). t.nidtp) y ∙ name ∙ ap (λ n. (point (route_by (c ∷ h)) n).nidtp) index_is;
           }
 
-  told : In packet (bytes_of_each (packets_by h c)) → Told h c packet p
+  told : In (Packet.TimingPoint p) (packets_by h c) → Told h c packet p
   told i =
-      let a = read_as packet (packets_by h c) (packets_fit h c) i in
-      let same : a.packet ≡ Packet.TimingPoint p = cc (a.read, e) in
-      let (d, k, z) = timing_among h c p (subst (λ (q : Packet). In q (packets_by h c)) same a.one_of_them) in
+      let (d, k, z) = timing_among h c p i in
       let v = values_62 (route_by (c ∷ h)) (position_by (c ∷ h)) p d z in
       told_of d k v.0 v.1
 
@@ -214,15 +216,37 @@ where_written h c packet p t =
       its_name = t.its_name;
     }
 
--- the packets of a call are those of the rules where it is accepted, and none where it is refused
+-- a packet 62 is none of a refused call
+not_refused : (j : Route) (x : Position) (n room : ℕ) (p : TimingPoint) → In (Packet.TimingPoint p) (packets_refused j x n room) → ⊥
+unfolding packets_refused jp_turned_down
+not_refused j x n room p i = go (turns_down n && leb (kind_size kind65) room) i
+  where
+    go : (b : Bool) → In (Packet.TimingPoint p) (when b (jp_turned_down j x)) → ⊥
+    go true (inl e) = cc
+    go true (inr q) = q
+    go false q = q
+
+-- so it is of an accepted one, and among its packets
+pub told_accepted : (h : History) (c : Call) (p : TimingPoint) → In (Packet.TimingPoint p) (written_by h c)
+    → (table_by h c ≡ accept tt) × In (Packet.TimingPoint p) (packets_by h c)
+told_accepted h c p i = go (table_by h c) refl i
+  where
+    go : (t : Judged (Unit {0})) → table_by h c ≡ t → In (Packet.TimingPoint p) (packets_if h c t) → (table_by h c ≡ accept tt) × In (Packet.TimingPoint p) (packets_by h c)
+    go (refuse n) q i = absurd (not_refused (route_by h) (position_by h) n (length c.memory) p i)
+    go (accept u) q i = (q, i)
+
+-- a packet 62 that a call writes is one of those by the rules
+pub one_of_written : (h : History) (c : Call) (packet : List ℕ) (p : TimingPoint) → packet_of packet ≡ accept (Packet.TimingPoint p)
+    → In packet (bytes_of_each (written_by h c)) → (table_by h c ≡ accept tt) × In (Packet.TimingPoint p) (packets_by h c)
+one_of_written h c packet p e i =
+    let a = read_as packet (written_by h c) (written_fit h c) i in
+    let same : a.packet ≡ Packet.TimingPoint p = cc (a.read, e) in
+    told_accepted h c p (subst (λ (q : Packet). In q (written_by h c)) same a.one_of_them)
+
 pub each-told : (earlier : List Call) (c : Call) → JudgedByTable (engine_after earlier) (history_of earlier) c (step_of (engine_after earlier) c)
     → Each62 earlier c (λ packet p. p.status ≤ status_departed → Told (history_of earlier) c packet p)
-unfolding cut_packets cut
-each-told earlier c w packet i p e s = go (table_by (history_of earlier) c) refl
-  where
-    go : (t : Judged (Unit {0})) → table_by (history_of earlier) c ≡ t → Told (history_of earlier) c packet p
-    go (refuse n) q = absurd (rw ((w.number n).1 q) at i)
-    go (accept u) q = told (history_of earlier) c packet p e s (subst (In packet) (w.packets q) i)
+each-told earlier c w packet i p e s =
+    told (history_of earlier) c packet p e s (one_of_written (history_of earlier) c packet p e (subst (In packet) w.packets i)).1
 
 -- ---- nothing ahead is recorded as passed
 

@@ -1,4 +1,4 @@
--- Every packet of an accepted call is within its ranges: the reader takes its bytes and gives it back.
+-- Every packet of a call is within its ranges: the reader takes its bytes and gives it back.
 use Rattle.std.specs.Prelude.{if◌then◌else◌, Option, Some, None}
 use mathlib.Core.Path.{◌≡◌, refl, sym, ◌∙◌, ap, subst}
 use mathlib.Core.Logic.{inl, inr}
@@ -7,9 +7,12 @@ use mathlib.Core.List.{List, [], ◌∷◌, ◌++◌, map}
 use Prim.Native.Nat.{ℕ, zero, suc, ◌+◌, ◌≤◌}
 use native.Mathlib.Omega.{arith}
 use lib.Dec.{eqb, leb}
+use lib.ListN.{length}
 use borrow.Author.Tests.{le-leb}
 use Rattle.wire.specs.Numbers.{flag}
-use Rattle.wire.specs.Judged.Judged.{accept}
+use Rattle.wire.specs.Judged.{Judged}
+use Rattle.wire.specs.Judged.Judged.{refuse, accept}
+use Rattle.wire.specs.Refusals.{turns_down}
 use Rattle.engine_value.specs.Engine.{Route}
 use Rattle.engine_value.specs.declared.Position.{Position}
 use Rattle.engine_value.specs.declared.Load.{Load}
@@ -25,7 +28,7 @@ use Rattle.route.specs.Route.{LoadValue}
 use Rattle.route.proofs.Ranges.{PointFits}
 use Rattle.layout.specs.Layout.{fits}
 use Rattle.layout.proofs.LayoutLaws.{Typed}
-use Rattle.packets.specs.Layouts.{header_layout, unknown_nidc}
+use Rattle.packets.specs.Layouts.{header_layout, unknown_nidc, kind65, kind_size}
 use Rattle.packets.specs.View.{header_view}
 use Rattle.status_word.specs.View.{conditions_view}
 use Rattle.status_word.specs.Sentences.{ZerosAndOnes}
@@ -45,12 +48,12 @@ use Rattle.position.specs.declared.Standing.TheVariants.{Unused, Targeted, Reach
 use Rattle.conditions.specs.Conditions.{end_ahead}
 use Rattle.conditions.proofs.NineLaws.{conditions_zeros}
 use Rattle.state_codes.proofs.CodeLaws.{code-most}
-use Rattle.call_values.specs.Packets.{PointChange, header, timing_point, jp_received, traction_brake, traction_brakes, ato_status, status_due, received, packets_of}
+use Rattle.call_values.specs.Packets.{PointChange, header, timing_point, jp_received, traction_brake, traction_brakes, ato_status, status_due, received, packets_of, jp_turned_down, packets_refused}
 use Rattle.call_values.specs.Call.{Call}
 use Rattle.whole_list.specs.Values.{History, event_of_call, load_of_call, role_of_call, position_by, route_by}
 use Rattle.whole_list.specs.Rules.{standing_by, conditions_by, state_by}
 use Rattle.whole_list.specs.Requests.{traction_by}
-use Rattle.whole_list.specs.Table.{own_by, change_at, standing_then, changes_from, skip_change, changes_by, head_of, head_of_call, status_by, packets_by}
+use Rattle.whole_list.specs.Table.{own_by, change_at, standing_then, changes_from, skip_change, changes_by, head_of, head_of_call, status_by, packets_by, table_by, packets_refused_by, packets_if, written_by}
 use Rattle.whole_list.specs.Recorded.{In}
 use Rattle.whole_list.specs.WholeList.{bytes_of_each}
 use Rattle.whole_list.proofs.Recorded.{Ranged}
@@ -95,16 +98,23 @@ module _ (j : Route) (x : Position) (r : Ranged j x) where
         (header_typed, (tt, (omega (arith, p.nidtp), (tt, (tt, tt))))),
       )
 
+  country_most : (b : Bool) → (if b then x.nidc else unknown_nidc) ≤ unknown_nidc
+  country_most true = omega (arith, r.nidc)
+  country_most false = omega arith
+
   fits_65 : (h : Head) → HeadFits h → Fits (jp_received j x h)
   unfolding jp_received
   fits_65 h p = (
-    rw (header_fits, le-leb _ unknown_nidc (country (known j x)), le-leb h.atots 16384 p.atots, le-leb h.date 32767 p.date),
+    rw (header_fits, le-leb _ unknown_nidc (country_most (known j x)), le-leb h.atots 16384 p.atots, le-leb h.date 32767 p.date),
     (header_typed, (tt, (tt, (tt, (omega (arith, p.seconds), (omega (arith, p.counter), (tt, tt))))))),
   )
-    where
-      country : (b : Bool) → (if b then x.nidc else unknown_nidc) ≤ unknown_nidc
-      country true = omega (arith, r.nidc)
-      country false = omega arith
+
+  fits_turned_down : Fits (jp_turned_down j x)
+  unfolding jp_turned_down
+  fits_turned_down = (
+    rw (header_fits, le-leb _ unknown_nidc (country_most (known j x))),
+    (header_typed, (tt, (tt, (tt, (omega arith, (omega arith, (tt, tt))))))),
+  )
 
   fits_61 : (q : Requested) → ContentFits q → Fits (traction_brake j x q)
   unfolding traction_brake
@@ -123,6 +133,14 @@ module _ (j : Route) (x : Position) (r : Ranged j x) where
   all_65 : (o : Option Head) → ((h : Head) → o ≡ Some h → HeadFits h) → All Fits (received j x o)
   all_65 None k = tt
   all_65 (Some h) k = (fits_65 h (k h refl), tt)
+
+  all_refused : (n room : ℕ) → All Fits (packets_refused j x n room)
+  unfolding packets_refused
+  all_refused n room = go (turns_down n && leb (kind_size kind65) room)
+    where
+      go : (b : Bool) → All Fits (when b (jp_turned_down j x))
+      go true = (fits_turned_down, tt)
+      go false = tt
 
   all_61 : (o : Option Requested) → ((q : Requested) → o ≡ Some q → ContentFits q) → All Fits (traction_brakes j x o)
   all_61 None k = tt
@@ -219,6 +237,17 @@ module _ (h : History) (c : Call) where
       (all_62 _ _ r (changes_by h c) (route-in (c ∷ h)) (status_in_lem h c))
       (all_append Fits (own_by h c) _ (all_61 _ _ r _ content_in)
       (all_68 _ _ r (status_due (status_by h) (status_by (c ∷ h))) _ _ (code-most (state_by (c ∷ h))) (conditions_zeros _ _ _ _))))
+
+  pub refused_fit : (n : ℕ) → All Fits (packets_refused_by h c n)
+  refused_fit n = all_refused (route_by h) (position_by h) (ranged h) n (length c.memory)
+
+  -- accepted or refused
+  pub written_fit : All Fits (written_by h c)
+  written_fit = go (table_by h c)
+    where
+      go : (t : Judged (Unit {0})) → All Fits (packets_if h c t)
+      go (refuse n) = refused_fit n
+      go (accept u) = packets_fit
 
 -- each is read back as it was
 pub read_back : (ps : List Packet) → All Fits ps → map packet_of (bytes_of_each ps) ≡ map accept ps

@@ -2,11 +2,10 @@
 use mathlib.Core.Path.{◌≡◌, refl, sym, ◌∙◌, ap, subst}
 use mathlib.Core.Logic.{◌≢◌, ◌↔◌}
 use mathlib.Core.Bool.{Bool, false}
-use mathlib.Core.List.{List, [], ◌∷◌, ◌++◌, map}
+use mathlib.Core.List.{List, [], ◌∷◌, map}
 use Rattle.std.specs.Prelude.{Option, Some, None}
 use Prim.Native.Nat.{ℕ}
-use lib.ListN.{length, drop}
-use lib.Seq.{drop-append_seam}
+use lib.ListN.{length, take}
 use Rattle.wire.specs.Judged.{Judged, then_judge}
 use Rattle.wire.specs.Judged.Judged.{refuse, accept}
 use Rattle.engine_value.specs.Engine.{fresh, route_in}
@@ -14,7 +13,7 @@ use Rattle.engine_value.specs.declared.Engine.{Engine}
 use Rattle.event.specs.Kinds.{Row, SwitchOn, Configure, SwitchOff, Fail, EngagePress, ByState, kind_of, row_of}
 use Rattle.event.specs.declared.Event.{Event}
 use Rattle.event.proofs.Known.{OfRow, known}
-use Rattle.packets.specs.Packets.{packet_of, joined, cut, cut_packets}
+use Rattle.packets.specs.Packets.{packet_of, joined, cut_packets}
 use Rattle.timing.specs.Report.{run}
 use Rattle.state_codes.specs.Codes.{code, state_at}
 use Rattle.state_codes.proofs.CodeLaws.{state_code}
@@ -23,35 +22,28 @@ use Rattle.states.specs.States.{machine, by_row, machine_after}
 use Rattle.states.specs.declared.Values.{Values}
 use Rattle.state_codes.specs.declared.State.{State}
 use Rattle.state_codes.specs.declared.State.TheVariants.{NP, CO, EG}
-use Rattle.call_values.specs.Call.{Call}
+use Rattle.call_values.specs.Call.{Call, Answer, refused, accepted, bytes_written}
 use Rattle.call_values.specs.declared.Accepted.{Accepted}
-use Rattle.call.specs.Call.{Outcome, Step, conditions_in, judged, outcome_of, step_of}
+use Rattle.call.specs.Call.{Outcome, Step, conditions_in, with_packets, judged, outcome_of, step_of}
 use Rattle.call.proofs.Rows.{memory_length}
-use Rattle.whole_list.specs.Values.{History, event_of_call, latest, route_by, reports_since, behind_at_load}
+use Rattle.whole_list.specs.Values.{History, event_of_call, latest, position_by, route_by, reports_since, behind_at_load}
 use Rattle.whole_list.specs.Rules.{conditions_by, machine_by, state_by, request_by, Engaged}
 use Rattle.whole_list.specs.Requests.{requests_since, after_requests, traction_by}
 use Rattle.whole_list.proofs.Requests.{traction_exactly}
-use Rattle.whole_list.specs.Table.{packets_by, answer_by, table_by}
+use Rattle.whole_list.specs.Table.{packets_by, accepted_by, table_by, packets_refused_by, packets_if, written_by, answer_if, answer_by}
 use Rattle.whole_list.specs.Calls.{play, engine_after, trace, with_accepted, accepted_in, history_of, later_answer, last_answer, keep, accepted_calls}
-use Rattle.whole_list.specs.Recorded.{bytes_written, packets_after, newest, last_status}
+use Rattle.whole_list.specs.Recorded.{packets_after, newest, last_status}
 use Rattle.whole_list.specs.WholeList.{EngagedExactly, PointsStand, bytes_of_each, StatusPacket, StatusWritten, RequestWrites, Has61, JudgedByTable, WholeList, NothingAhead, NoTrace, RequestExactly}
 use Rattle.whole_list.proofs.Decoded.{zones-booked}
 use Rattle.whole_list.proofs.Fields.{skips_of, progress_run, engine_of, stands_at}
 use Rattle.whole_list.proofs.FieldsControl.{conditions-in}
 use Rattle.whole_list.proofs.TableRows.{ruled, judged_is}
 use Rattle.whole_list.proofs.Engaged.{Good, power_accepts, stands_exactly, saw, engaged_exactly, requested_exactly}
-use Rattle.whole_list.proofs.Recorded.{memory_read}
-use Rattle.whole_list.proofs.Readable.{packets_fit, read_back}
+use Rattle.whole_list.proofs.Recorded.{memory_read, newest_refused}
+use Rattle.whole_list.proofs.Readable.{written_fit, read_back}
 use Rattle.whole_list.proofs.Shown.{shown_by}
 use Rattle.whole_list.proofs.Passed as passed
 use Rattle.whole_list.proofs.Status.{Names, names_next, names_first}
-
--- the same number, or none
-same_number : (r : Judged Accepted) (t : Judged (Unit {0})) (m n : ℕ) → r ≡ refuse m → t ≡ refuse m → (r ≡ refuse n) ↔ (t ≡ refuse n)
-same_number r t m n a b = ((λ p. let z : m ≡ n = cc in b ∙ ap refuse z), (λ p. let z : m ≡ n = cc in a ∙ ap refuse z))
-
-no_number : (r : Judged Accepted) (t : Judged (Unit {0})) (x : Accepted) (u : Unit {0}) (n : ℕ) → r ≡ accept x → t ≡ accept u → (r ≡ refuse n) ↔ (t ≡ refuse n)
-no_number r t x u n a b = ((λ p. cc), (λ p. cc))
 
 -- ---- one call
 
@@ -62,45 +54,63 @@ pub outcome-is : (h : History) (c : Call) → step_of (engine_of h) c ≡ outcom
 unfolding step_of
 outcome-is h c = ap (outcome_of (engine_of h) c.memory) (judged_is h c)
 
+-- the engine after a call of which the table says so
+abbrev engine_if : History → Call → Judged (Unit {0}) → Engine
+engine_if h c (refuse n) = engine_of h
+engine_if h c (accept u) = engine_of (c ∷ h)
+
+abbrev pub outcome_if : History → Call → Judged (Unit {0}) → Outcome
+outcome_if h c t = record { answer = answer_if h c t; engine = engine_if h c t; memory = with_packets (packets_if h c t) c.memory }
+
 module _ (h : History) (c : Call) where
-  refused_is : (n : ℕ) → table_by h c ≡ refuse n → step_of (engine_of h) c ≡ record { answer = refuse n; engine = engine_of h; memory = c.memory }
+  by_rules : (t : Judged (Unit {0})) → outcome_by h c t ≡ outcome_if h c t
   unfolding outcome_of
-  refused_is n e = outcome-is h c ∙ ap (outcome_by h c) e
+  by_rules (refuse n) = refl
+  by_rules (accept u) = refl
 
-  accepted_is : table_by h c ≡ accept tt
-      → step_of (engine_of h) c ≡ record { answer = accept (answer_by h c); engine = engine_of (c ∷ h); memory = joined (packets_by h c) ++ drop (length (joined (packets_by h c))) c.memory }
-  unfolding outcome_of
-  accepted_is e = outcome-is h c ∙ ap (outcome_by h c) e
+  pub step_by_rules : step_of (engine_of h) c ≡ outcome_if h c (table_by h c)
+  step_by_rules = outcome-is h c ∙ by_rules (table_by h c)
 
-  number_is : (n : ℕ) → ((step_of (engine_of h) c).answer ≡ refuse n) ↔ (table_by h c ≡ refuse n)
-  number_is n = go (table_by h c) refl
-    where
-      go : (t : Judged (Unit {0})) → table_by h c ≡ t → ((step_of (engine_of h) c).answer ≡ refuse n) ↔ (table_by h c ≡ refuse n)
-      go (refuse m) e = same_number _ (table_by h c) m n (ap (λ r. r.answer) (refused_is m e)) e
-      go (accept u) e = no_number _ (table_by h c) (answer_by h c) u n (ap (λ r. r.answer) (accepted_is e)) e
+  bytes_if : (t : Judged (Unit {0})) → bytes_written (answer_if h c t) ≡ length (joined (packets_if h c t))
+  bytes_if (refuse n) = refl
+  bytes_if (accept u) = refl
 
-  written_is : table_by h c ≡ accept tt → packets_after (step_of (engine_of h) c).answer (step_of (engine_of h) c).memory ≡ bytes_of_each (packets_by h c)
-  written_is e = ap (λ r. packets_after r.answer r.memory) (accepted_is e) ∙ memory_read (packets_by h c) c.memory
+  bytes_are : bytes_written (step_of (engine_of h) c).answer ≡ length (joined (written_by h c))
+  bytes_are = ap (λ r. bytes_written r.answer) step_by_rules ∙ bytes_if (table_by h c)
 
-  behind_is : table_by h c ≡ accept tt → drop (bytes_written (step_of (engine_of h) c).answer) (step_of (engine_of h) c).memory ≡ drop (bytes_written (step_of (engine_of h) c).answer) c.memory
-  behind_is e =
-      let n = length (joined (packets_by h c)) in
-      ap (λ r. drop (bytes_written r.answer) r.memory) (accepted_is e)
-      ∙ drop-append_seam (joined (packets_by h c)) (drop n c.memory)
-      ∙ sym (ap (λ r. drop (bytes_written r.answer) c.memory) (accepted_is e))
+  pub written_is : packets_after (step_of (engine_of h) c).answer (step_of (engine_of h) c).memory ≡ bytes_of_each (written_by h c)
+  written_is =
+      ap (λ r. cut_packets (take (bytes_written (step_of (engine_of h) c).answer) r.memory)) step_by_rules
+      ∙ ap (λ n. cut_packets (take n (with_packets (written_by h c) c.memory))) bytes_are
+      ∙ memory_read (written_by h c) c.memory
+
+  accepted_if : (t : Judged (Unit {0})) → ((a : Accepted) × (answer_if h c t ≡ accepted a)) ↔ (t ≡ accept tt)
+  accepted_if (refuse n) = ((λ p. let q = p.1 in cc), (λ e. cc))
+  accepted_if (accept u) = ((λ p. refl), (λ e. (accepted_by h c, refl)))
+
+  number_if : (t : Judged (Unit {0})) (n : ℕ) → ((bytes : ℕ) × (answer_if h c t ≡ refused n bytes)) ↔ (t ≡ refuse n)
+  number_if (refuse m) n = (
+    (λ p. let q = p.1 in let z : m ≡ n = cc in ap refuse z),
+    (λ e. let z : m ≡ n = cc in (length (joined (packets_refused_by h c m)), ap (λ k. refused k (length (joined (packets_refused_by h c m)))) z)),
+  )
+  number_if (accept u) n = ((λ p. let q = p.1 in cc), (λ e. cc))
+
+  answer-is : (step_of (engine_of h) c).answer ≡ answer_by h c
+  answer-is = ap (λ r. r.answer) step_by_rules
 
   -- ---- 4
   judged_by_table : JudgedByTable (engine_of h) h c (step_of (engine_of h) c)
   judged_by_table = record {
-    number = number_is;
-    refused_engine = λ n e. ap (λ r. r.engine) (refused_is n e);
-    refused_memory = λ n e. ap (λ r. r.memory) (refused_is n e);
-    answer = λ e. ap (λ r. r.answer) (accepted_is e);
-    packets = written_is;
-    read_back = λ e. ap (map packet_of) (written_is e) ∙ read_back (packets_by h c) (packets_fit h c);
-    traction = λ e. subst (λ (l : List (List ℕ)). Has61 l ↔ RequestWrites h c) (sym (written_is e)) (traction_exactly h c);
-    behind = behind_is;
+    is_accepted = subst (λ x. ((a : Accepted) × (x ≡ accepted a)) ↔ (table_by h c ≡ accept tt)) (sym answer-is) (accepted_if (table_by h c));
+    number = λ n. subst (λ x. ((bytes : ℕ) × (x ≡ refused n bytes)) ↔ (table_by h c ≡ refuse n)) (sym answer-is) (number_if (table_by h c) n);
+    answer = answer-is;
+    refused_engine = λ n e. ap (λ r. r.engine) step_by_rules ∙ ap (engine_if h c) e;
+    memory = ap (λ r. r.memory) step_by_rules;
+    bytes = bytes_are;
     as_long = memory_length (engine_of h) c;
+    packets = written_is;
+    read_back = ap (map packet_of) written_is ∙ read_back (written_by h c) (written_fit h c);
+    traction = λ e. subst (λ (l : List (List ℕ)). Has61 l ↔ RequestWrites h c) (sym (written_is ∙ ap (λ t. bytes_of_each (packets_if h c t)) e)) (traction_exactly h c);
   }
 
 -- ---- a list of calls
@@ -148,19 +158,23 @@ abbrev Next : Call → History → Option (List ℕ) → Option Accepted → Out
 Next c h o a r = Kept r.engine (with_accepted r.answer c h) (newest o (packets_after r.answer r.memory)) (later_answer r.answer a)
 
 keeps_one : (h : History) (o : Option (List ℕ)) (a : Option Accepted) (c : Call) → Good h → Named h o → Answered h a → Next c h o a (step_of (engine_of h) c)
-unfolding cut_packets cut newest
-keeps_one h o a c g n s = go (table_by h c) refl
+keeps_one h o a c g n s = subst (Next c h o a) (sym (step_by_rules h c)) (go (table_by h c) refl)
   where
-    go : (t : Judged (Unit {0})) → table_by h c ≡ t → Next c h o a (step_of (engine_of h) c)
-    go (refuse m) e = subst (Next c h o a) (sym (refused_is h c m e)) (record { seen = refl; good = g; named = n; answered = s })
+    go : (t : Judged (Unit {0})) → table_by h c ≡ t → Next c h o a (outcome_if h c t)
+    go (refuse m) e =
+        record {
+          seen = refl;
+          good = g;
+          named = rw (memory_read (packets_refused_by h c m) c.memory, newest_refused (route_by h) (position_by h) o m (length c.memory)) n;
+          answered = s;
+        }
     go (accept u) e =
-        subst (Next c h o a) (sym (accepted_is h c e))
-        (record {
+        record {
           seen = refl;
           good = (e, g);
           named = rw (memory_read (packets_by h c) c.memory) (named_more h c o e n);
-          answered = (answer_by h c, refl, refl);
-        })
+          answered = (accepted_by h c, refl, refl);
+        }
 
 keeps : (calls : List Call) (e : Engine) (h : History) (o : Option (List ℕ)) (a : Option Accepted) → Kept e h o a
     → Kept (play e calls) (accepted_in h (trace e calls)) (last_status o (trace e calls)) (last_answer a (trace e calls))
@@ -241,14 +255,18 @@ whole_list calls =
       shown = rw k.seen (shown_by (history_of calls));
     }
 
+-- of a call that is made next
+pub judged_next : (earlier : List Call) (c : Call) → JudgedByTable (engine_after earlier) (history_of earlier) c (step_of (engine_after earlier) c)
+judged_next earlier c = claim_judged _ _ c (kept earlier).seen
+
 -- ---- corollaries
 
 -- refused calls leave no trace
-left : (e : Engine) (c : Call) (n : ℕ) → (step_of e c).answer ≡ refuse n → (step_of e c).engine ≡ e
+left : (e : Engine) (c : Call) (n bytes : ℕ) → (step_of e c).answer ≡ refused n bytes → (step_of e c).engine ≡ e
 unfolding step_of outcome_of
-left e c n q = go (judged e c) q
+left e c n bytes q = go (judged e c) q
   where
-    go : (m : Judged Step) → (outcome_of e c.memory m).answer ≡ refuse n → (outcome_of e c.memory m).engine ≡ e
+    go : (m : Judged Step) → (outcome_of e c.memory m).answer ≡ refused n bytes → (outcome_of e c.memory m).engine ≡ e
     go (refuse k) q = refl
     go (accept s) q = cc
 
@@ -264,12 +282,12 @@ untraced (c ∷ calls) e h = go (step_of e c).answer refl (untraced calls e h) (
     Same : Engine → History → List Call → Type 0
     Same x l cs = (play e cs ≡ play x calls) × (accepted_in h (trace e cs) ≡ accepted_in l (trace x calls))
 
-    go : (r : Judged Accepted) → (step_of e c).answer ≡ r
+    go : (r : Answer) → (step_of e c).answer ≡ r
         → (play e (accepted_calls e calls) ≡ play e calls) × (accepted_in h (trace e (accepted_calls e calls)) ≡ accepted_in h (trace e calls))
         → ((l : History) → (play next (accepted_calls next calls) ≡ play next calls) × (accepted_in l (trace next (accepted_calls next calls)) ≡ accepted_in l (trace next calls)))
         → Same next (with_accepted (step_of e c).answer c h) (keep (step_of e c).answer c (accepted_calls next calls))
-    go (refuse n) q here there = rw q (subst (λ x. Same x h (accepted_calls x calls)) (sym (left e c n q)) here)
-    go (accept x) q here there = rw q ((there h).0, ap (λ r. accepted_in (with_accepted r c h) (trace next (accepted_calls next calls))) q ∙ (there (c ∷ h)).1)
+    go (refused n bytes) q here there = rw q (subst (λ x. Same x h (accepted_calls x calls)) (sym (left e c n bytes q)) here)
+    go (accepted x) q here there = rw q ((there h).0, ap (λ r. accepted_in (with_accepted r c h) (trace next (accepted_calls next calls))) q ∙ (there (c ∷ h)).1)
 
 pub no_trace : (calls : List Call) → NoTrace calls
 no_trace calls = let z = untraced calls fresh [] in record { same_engine = z.0; same_history = z.1 }
@@ -282,4 +300,4 @@ ad_request calls =
 
 -- nothing ahead is recorded as passed
 pub nothing-ahead : (earlier : List Call) (c : Call) → NothingAhead earlier c
-nothing-ahead earlier c = passed.nothing-ahead earlier c (claim_judged _ _ c (kept earlier).seen)
+nothing-ahead earlier c = passed.nothing-ahead earlier c (judged_next earlier c)

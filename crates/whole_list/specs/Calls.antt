@@ -1,10 +1,8 @@
 -- A list of calls in the order of time, and what comes of it.
 use Rattle.std.specs.Prelude.{List, [], ◌∷◌, ℕ, Option, Some}
-use Rattle.wire.specs.Judged.{Judged}
-use Rattle.wire.specs.Judged.Judged.{refuse, accept}
 use Rattle.engine_value.specs.Engine.{fresh}
 use Rattle.engine_value.specs.declared.Engine.{Engine}
-use Rattle.call_values.specs.Call.{Call}
+use Rattle.call_values.specs.Call.{Call, Answer, refused, accepted}
 use Rattle.call_values.specs.declared.Accepted.{Accepted}
 use Rattle.call.specs.Call.{step_of}
 use Rattle.whole_list.specs.Values.{History}
@@ -21,7 +19,7 @@ engine_after calls = play fresh calls
 -- one call as it went: what it brought, what it answered, and its memory as it left it
 pub record Done : Type 0 where
   pub call : Call
-  pub answer : Judged Accepted
+  pub answer : Answer
   pub memory : List ℕ
 
 unfoldable pub trace : Engine → List Call → List Done
@@ -29,9 +27,9 @@ trace e [] = []
 trace e (c ∷ l) = record { call = c; answer = (step_of e c).answer; memory = (step_of e c).memory } ∷ trace (step_of e c).engine l
 
 -- "It is accepted if it answers a state and not a number"
-abbrev pub with_accepted : Judged Accepted → Call → History → History
-with_accepted (refuse n) c h = h
-with_accepted (accept a) c h = c ∷ h
+abbrev pub with_accepted : Answer → Call → History → History
+with_accepted (refused n bytes) c h = h
+with_accepted (accepted a) c h = c ∷ h
 
 -- "The rules see only the calls' arguments and which were accepted."
 unfoldable pub accepted_in : History → List Done → History
@@ -42,18 +40,18 @@ abbrev pub history_of : List Call → History
 history_of calls = accepted_in [] (trace fresh calls)
 
 -- the last accepted answer
-abbrev pub later_answer : Judged Accepted → Option Accepted → Option Accepted
-later_answer (refuse n) o = o
-later_answer (accept a) o = Some a
+abbrev pub later_answer : Answer → Option Accepted → Option Accepted
+later_answer (refused n bytes) o = o
+later_answer (accepted a) o = Some a
 
 unfoldable pub last_answer : Option Accepted → List Done → Option Accepted
 last_answer o [] = o
 last_answer o (d ∷ l) = last_answer (later_answer d.answer o) l
 
 -- the calls that were accepted, in the order of time
-abbrev pub keep : Judged Accepted → Call → List Call → List Call
-keep (refuse n) c l = l
-keep (accept a) c l = c ∷ l
+abbrev pub keep : Answer → Call → List Call → List Call
+keep (refused n bytes) c l = l
+keep (accepted a) c l = c ∷ l
 
 unfoldable pub accepted_calls : Engine → List Call → List Call
 accepted_calls e [] = []

@@ -1,22 +1,20 @@
--- The claim is not empty: lists of calls, refused ones among them: one that ends in EG, one that ends in DE, one that creeps, one with traction requests.
-use Rattle.std.specs.Prelude.{◌≡◌, true, false, List, [], ◌∷◌, ◌++◌, map, ℕ, length, Some, None}
+-- The claim is not empty: lists of calls, refused ones among them: one that ends in EG, one that ends in DE, one that creeps, one whose profiles are turned down, one with
+-- traction requests.
+use Rattle.std.specs.Prelude.{◌≡◌, true, false, List, [], ◌∷◌, ◌++◌, map, ℕ, length, drop, replicate, Some, None}
 use Rattle.status_word.specs.View.{conditions_number}
-use Rattle.wire.specs.Judged.{Judged}
-use Rattle.wire.specs.Judged.Judged.{refuse}
 use Rattle.engine_value.specs.Engine.{fresh}
 use Rattle.position.specs.Standing.{standing}
 use Rattle.position.specs.declared.Standing.{Standing}
-use Rattle.position.specs.declared.Standing.TheVariants.{Targeted, Reached, Passed}
+use Rattle.position.specs.declared.Standing.TheVariants.{Unused, Targeted, Reached, Passed}
 use Rattle.state_codes.specs.Codes.{code}
-use Rattle.call_values.specs.Call.{Call}
-use Rattle.call_values.specs.declared.Accepted.{Accepted}
-use Rattle.call.specs.Trials.{answered, plain, power_on, configured, reports, at, press, mode, plainly, trial_load}
+use Rattle.call_values.specs.Call.{Call, Answer, refused}
+use Rattle.call.specs.Trials.{answered, plain, power_on, configured, loads, reports, at, press, mode, plainly, trial_book, trial_journey, trial_load}
 use Rattle.event.specs.declared.TractionRequest.{TractionRequest}
 use Rattle.traction.specs.Requests.{remembered}
 use Rattle.whole_list.specs.Requests.{requests_since, traction_by}
 use Rattle.whole_list.specs.Rules.{standing_by, conditions_by, state_by, request_by}
 use Rattle.whole_list.specs.Calls.{engine_after, Done, trace, history_of, last_answer}
-use Rattle.whole_list.specs.Recorded.{last_status}
+use Rattle.whole_list.specs.Recorded.{recorded_by, last_status}
 
 -- the journey of document 01's trials: a stop at 7001, where a press in CO is refused
 abbrev pub stopped : List Call
@@ -37,6 +35,17 @@ crept = stopped ++ (at 40150 50 ∷ at 39849 50 ∷ at 16777215 50 ∷ at 40151 
 abbrev pub left : List Call
 left = crept ++ (at 40151 50 ∷ [])
 
+-- stopped, and two journeys turned down: an empty one, and the trials' own with a book that is none; the third is taken
+abbrev pub turned_down : List Call
+turned_down = stopped ++ (loads [] trial_book ∷ loads trial_journey (0xFF ∷ []) ∷ [])
+
+-- its NID_C, NID_ATOTS 16,384, stamp 0, status 1
+abbrev pub not_received : List ℕ
+not_received = 0x00 ∷ 0x11 ∷ 0x40 ∷ 0x00 ∷ 0x00 ∷ 0x00 ∷ 0x00 ∷ 0x00 ∷ 0x00 ∷ 0x00 ∷ 0x00 ∷ 0x01 ∷ []
+
+abbrev pub taken : List Call
+taken = turned_down ++ (trial_load ∷ [])
+
 -- engaged, requests of 20 and 75 (range 2), −72, which range 2 holds, and −72 with another Q_ATO_SupTB; one in RE, and one of 101, which is refused
 abbrev pub request : ℕ → ℕ → Call
 request byte suptb = plain (0x0E ∷ byte ∷ 0x01 ∷ 0x02 ∷ suptb ∷ 0x03 ∷ 0x04 ∷ [])
@@ -48,7 +57,7 @@ pulling = stopped ++ (reports 31 ∷ configured ∷ request 20 7 ∷ press ∷ m
 abbrev pub entered : List Call
 entered = pulling ++ (mode 0 ∷ press ∷ mode 1 ∷ [])
 
-abbrev pub answers_of : List Call → List (Judged Accepted)
+abbrev pub answers_of : List Call → List Answer
 answers_of calls = map (λ (d : Done). d.answer) (trace fresh calls)
 
 abbrev pub stands : List Call → ℕ → Standing
@@ -56,8 +65,8 @@ stands calls k = standing (engine_after calls).progress k
 
 pub record Example : Type 0 where
   pub answers : answers_of finished
-      ≡ answered 1 false 19 ∷ refuse 6 ∷ answered 1 false 48 ∷ answered 1 false 44 ∷ answered 1 false 19 ∷ answered 4 true 19
-      ∷ answered 4 true 0 ∷ refuse 1 ∷ answered 5 true 19 ∷ answered 5 true 25 ∷ answered 6 true 44 ∷ refuse 6 ∷ []
+      ≡ answered 1 false 19 ∷ refused 6 0 ∷ answered 1 false 48 ∷ answered 1 false 44 ∷ answered 1 false 19 ∷ answered 4 true 19
+      ∷ answered 4 true 0 ∷ refused 1 0 ∷ answered 5 true 19 ∷ answered 5 true 25 ∷ answered 6 true 44 ∷ refused 6 0 ∷ []
   -- 7001 is reached, and then passed; 7002 is ahead; the state is EG
   pub reached : stands stopped 0 ≡ Reached
   pub passed : stands driven 0 ≡ Passed
@@ -73,7 +82,7 @@ pub record Example : Type 0 where
   pub last_status_too : last_status None (trace fresh finished) ≡ Some (plainly 68 90001 500 (0x1F ∷ 0x36 ∷ []))
   -- creeping writes 68 at the start, and where condition 6 goes and comes, but no 62; the departure writes 62 and 68
   pub answers_crept : answers_of left
-      ≡ answered 1 false 19 ∷ refuse 6 ∷ answered 1 false 48 ∷ answered 1 false 44 ∷ answered 1 false 19 ∷ answered 1 false 0
+      ≡ answered 1 false 19 ∷ refused 6 0 ∷ answered 1 false 48 ∷ answered 1 false 44 ∷ answered 1 false 19 ∷ answered 1 false 0
       ∷ answered 1 false 19 ∷ answered 1 false 19 ∷ answered 1 false 44 ∷ []
   pub reached_still : stands crept 0 ≡ Reached
   pub departed : map (stands left) (0 ∷ 1 ∷ []) ≡ Passed ∷ Targeted ∷ []
@@ -86,10 +95,18 @@ pub record Example : Type 0 where
   pub by_rows_too : code (state_by (history_of finished)) ≡ 6
   pub all_nine_lem : conditions_number (conditions_by (history_of driven)) ≡ 511
   pub requested : request_by (history_of driven) ≡ true
+  -- each that is turned down writes a 65 of status 1, with NID_C and NID_OPERATIONAL of the journey in force; engine, history and last packet 68 stay
+  pub answers_turned_down : answers_of taken
+      ≡ answered 1 false 19 ∷ refused 6 0 ∷ answered 1 false 48 ∷ answered 1 false 44 ∷ refused 9 29 ∷ refused 7 29 ∷ answered 1 false 29 ∷ []
+  pub recorded_lem : map recorded_by (drop 4 (trace fresh turned_down)) ≡ replicate 2 (plainly 65 39900 0 not_received ∷ [])
+  pub same_engine : engine_after turned_down ≡ engine_after stopped
+  pub same_history : history_of turned_down ≡ history_of stopped
+  pub last_status_kept : last_status None (trace fresh turned_down) ≡ last_status None (trace fresh stopped)
+  pub targeted_again : map (stands taken) (0 ∷ 1 ∷ []) ≡ Targeted ∷ Unused ∷ []
   -- 61 at 20, at 75 and with the other Q_ATO_SupTB; by the rules and in the engine range 2 and 6, until EG is entered again
   pub requests : answers_of pulling
-      ≡ answered 1 false 19 ∷ refuse 6 ∷ answered 1 false 48 ∷ answered 1 false 44 ∷ answered 1 false 19 ∷ answered 4 true 19 ∷ answered 4 true 0
-      ∷ answered 4 true 0 ∷ answered 5 true 19 ∷ answered 5 true 22 ∷ answered 5 true 22 ∷ answered 5 true 0 ∷ answered 5 true 22 ∷ refuse 2 ∷ []
+      ≡ answered 1 false 19 ∷ refused 6 0 ∷ answered 1 false 48 ∷ answered 1 false 44 ∷ answered 1 false 19 ∷ answered 4 true 19 ∷ answered 4 true 0
+      ∷ answered 4 true 0 ∷ answered 5 true 19 ∷ answered 5 true 22 ∷ answered 5 true 22 ∷ answered 5 true 0 ∷ answered 5 true 22 ∷ refused 2 0 ∷ []
   pub since_EG : map (λ (x : TractionRequest). x.request) (requests_since (history_of pulling)) ≡ 20 ∷ 75 ∷ 0xB8 ∷ 0xB8 ∷ []
   pub ranged : traction_by (history_of pulling) ≡ Some (remembered 2 6)
   pub remembers : (engine_after pulling).traction ≡ record { remembered = true; range = 2; suptb = 6; spare = 0 }

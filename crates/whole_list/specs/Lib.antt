@@ -7,4 +7,5 @@ pub mod Calls
 pub mod Recorded
 pub mod WholeList
 pub mod Creeping
+pub mod TurnedDown
 pub mod Example

@@ -1,18 +1,11 @@
 -- What stands recorded: the packets at the front of a call's memory, as that call left it.
 use Rattle.std.specs.Prelude.{List, [], ◌∷◌, ◌⊎◌, ◌≡◌, ℕ, take, get_or, eqb, if◌then◌else◌, Option, Some}
-use Rattle.wire.specs.Judged.{Judged}
-use Rattle.wire.specs.Judged.Judged.{refuse, accept}
 use Rattle.packets.specs.Packets.{cut_packets}
-use Rattle.call_values.specs.declared.Accepted.{Accepted}
+use Rattle.call_values.specs.Call.{Answer, bytes_written}
 use Rattle.whole_list.specs.Calls.{Done}
 
--- the bytes that a call wrote
-abbrev pub bytes_written : Judged Accepted → ℕ
-bytes_written (refuse n) = 0
-bytes_written (accept a) = a.bytes
-
 -- "a packet 68 is read in its call's output memory as that call left it": the packets at the front of that memory
-abbrev pub packets_after : Judged Accepted → List ℕ → List (List ℕ)
+abbrev pub packets_after : Answer → List ℕ → List (List ℕ)
 packets_after answer memory = cut_packets (take (bytes_written answer) memory)
 
 abbrev pub recorded_by : Done → List (List ℕ)

@@ -1,4 +1,4 @@
--- The packets of an accepted call and the table of numbers, by the rules: functions of the history and the call. Nothing here is of crate `call`.
+-- The table of numbers, and what a call writes and answers, by the rules: functions of the history and the call. Nothing here is of crate `call`.
 use Rattle.std.specs.Prelude.{Bool, ◌||◌, List, [], ◌∷◌, ◌++◌, ℕ, zero, suc, ◌+◌, length, ltb, leb, if◌then◌else◌, Option, Some, None}
 use Rattle.wire.specs.Judged.{Judged, then_judge, row, ◌>>=◌, ◌>>◌}
 use Rattle.wire.specs.Judged.Judged.{refuse, accept}
@@ -18,9 +18,9 @@ use Rattle.position.specs.declared.Standing.TheVariants.{Unused, Targeted, Reach
 use Rattle.state_codes.specs.Codes.{code}
 use Rattle.conditions.specs.Conditions.{end_ahead}
 use Rattle.state_codes.specs.Numbers.{power_rows, state_row}
-use Rattle.call_values.specs.Packets.{PointChange, point_change, Status, traction_brakes, packets_of}
+use Rattle.call_values.specs.Packets.{PointChange, point_change, Status, traction_brakes, packets_of, packets_refused}
 use Rattle.call_values.specs.Rows.{offset_beyond, same_bool}
-use Rattle.call_values.specs.Call.{Call}
+use Rattle.call_values.specs.Call.{Call, Answer, refused, accepted}
 use Rattle.call_values.specs.declared.Accepted.{Accepted}
 use Rattle.traction.specs.Requests.{written_content}
 use Rattle.whole_list.specs.Values.{History, event_of_call, load_of_call, role_of_call, position_by, route_by, skipped_by}
@@ -89,8 +89,8 @@ own_by h c = traction_brakes (route_by (c ∷ h)) (position_by (c ∷ h)) (writt
 unfoldable pub packets_by : History → Call → List Packet
 packets_by h c = packets_of (route_by (c ∷ h)) (position_by (c ∷ h)) (head_of_call c) (changes_by h c) (own_by h c) (status_by h) (status_by (c ∷ h))
 
-abbrev pub answer_by : History → Call → Accepted
-answer_by h c = record { state = code (state_by (c ∷ h)); request = request_by (c ∷ h); bytes = length (joined (packets_by h c)) }
+abbrev pub accepted_by : History → Call → Accepted
+accepted_by h c = record { state = code (state_by (c ∷ h)); request = request_by (c ∷ h); bytes = length (joined (packets_by h c)) }
 
 -- ---- the table of numbers
 
@@ -117,3 +117,25 @@ table_by h c = do
   state_row (state_by h) (kind_of event)
   kind_rows h c
   row 16 (ltb (length c.memory) (length (joined (packets_by h c))))
+
+-- ---- every call: what it writes, and what it answers
+
+-- "A load refused by 7 to 12 writes packet 65 with status 1"
+abbrev pub packets_refused_by : History → Call → ℕ → List Packet
+packets_refused_by h c n = packets_refused (route_by h) (position_by h) n (length c.memory)
+
+-- the packets of a call of which the table says so
+abbrev pub packets_if : History → Call → Judged (Unit {0}) → List Packet
+packets_if h c (refuse n) = packets_refused_by h c n
+packets_if h c (accept u) = packets_by h c
+
+abbrev pub written_by : History → Call → List Packet
+written_by h c = packets_if h c (table_by h c)
+
+-- "It is accepted if it answers a state and not a number"
+abbrev pub answer_if : History → Call → Judged (Unit {0}) → Answer
+answer_if h c (refuse n) = refused n (length (joined (packets_refused_by h c n)))
+answer_if h c (accept u) = accepted (accepted_by h c)
+
+abbrev pub answer_by : History → Call → Answer
+answer_by h c = answer_if h c (table_by h c)

@@ -7,7 +7,7 @@ use Rattle.engine_value.specs.declared.Engine.{Engine}
 use Rattle.event.specs.declared.TractionRequest.{TractionRequest}
 use Rattle.event.specs.declared.Event.TheVariants.{PositionReport, Traction}
 use Rattle.status_word.specs.View.{conditions_number}
-use Rattle.packets.specs.Packets.{packet_of, packet_bytes}
+use Rattle.packets.specs.Packets.{packet_of, packet_bytes, joined}
 use Rattle.status_word.specs.declared.OperationalConditions.{OperationalConditions}
 use Rattle.packets.specs.declared.TimingPoint.{TimingPoint}
 use Rattle.packets.specs.declared.AtoStatus.{AtoStatus}
@@ -23,7 +23,7 @@ use Rattle.states.specs.States.{wanted}
 use Rattle.state_codes.specs.declared.EtcsMode.TheVariants.{Other}
 use Rattle.state_codes.specs.declared.State.TheVariants.{EG, DE}
 use Rattle.traction.specs.View.{traction_of}
-use Rattle.call_values.specs.Call.{Call}
+use Rattle.call_values.specs.Call.{Call, refused, accepted, bytes_written}
 use Rattle.call_values.specs.declared.Accepted.{Accepted}
 use Rattle.call.specs.Call.{Outcome, step_of, conditions_in}
 use Rattle.call.specs.View.{shown_view}
@@ -31,9 +31,9 @@ use Rattle.call.specs.declared.Shown.{Shown}
 use Rattle.whole_list.specs.Values.{History, event_of_call, route_by, report_at}
 use Rattle.whole_list.specs.Rules.{StandsBy, standing_by, conditions_by, values_by, JustReached, became_reached_by, state_by, request_by, upto, Engaged}
 use Rattle.whole_list.specs.Requests.{traction_by}
-use Rattle.whole_list.specs.Table.{packets_by, answer_by, table_by}
+use Rattle.whole_list.specs.Table.{table_by, written_by, answer_by}
 use Rattle.whole_list.specs.Calls.{engine_after, trace, history_of, last_answer, accepted_calls}
-use Rattle.whole_list.specs.Recorded.{bytes_written, packets_after, number_in, last_status, In}
+use Rattle.whole_list.specs.Recorded.{packets_after, number_in, last_status, In}
 
 -- 1. "Engaged is state 5, in the engine and in the last accepted answer": e is the engine, h the history, `last` the last accepted answer
 pub record EngagedExactly (e : Engine) (h : History) (last : Option Accepted) : Type 0 where
@@ -75,21 +75,24 @@ pub record RequestWrites (h : History) (c : Call) : Type 0 where
 abbrev pub Has61 : List (List ℕ) → Type 0
 Has61 l = (packet : List ℕ) × In packet l × (number_in packet ≡ 61)
 
--- 4. a call c at the engine e, after the history h, gives r: "It is accepted if it answers a state and not a number, as it does exactly when no row
--- of the table of numbers refuses it." "Every refusal returns the number only and changes neither engine nor memory."
+-- 4. a call c at the engine e, after the history h, gives r
 pub record JudgedByTable (e : Engine) (h : History) (c : Call) (r : Outcome) : Type 0 where
-  pub number : (n : ℕ) → (r.answer ≡ refuse n) ↔ (table_by h c ≡ refuse n)
+  -- "It is accepted if it answers a state and not a number, as it does exactly when no row of the table of numbers refuses it."
+  pub is_accepted : ((a : Accepted) × (r.answer ≡ accepted a)) ↔ (table_by h c ≡ accept tt)
+  pub number : (n : ℕ) → ((bytes : ℕ) × (r.answer ≡ refused n bytes)) ↔ (table_by h c ≡ refuse n)
+  pub answer : r.answer ≡ answer_by h c
+  -- "Engine state after a refusal is still that before it"
   pub refused_engine : (n : ℕ) → table_by h c ≡ refuse n → r.engine ≡ e
-  pub refused_memory : (n : ℕ) → table_by h c ≡ refuse n → r.memory ≡ c.memory
-  -- accepted: what is answered, the packets that stand at the front of memory, and that the bytes behind them are kept
-  pub answer : table_by h c ≡ accept tt → r.answer ≡ accept (answer_by h c)
-  pub packets : table_by h c ≡ accept tt → packets_after r.answer r.memory ≡ bytes_of_each (packets_by h c)
-  -- "The packet reader returns the packet's fields": of each of them, those that the rules give
-  pub read_back : table_by h c ≡ accept tt → map packet_of (packets_after r.answer r.memory) ≡ map accept (packets_by h c)
+  -- accepted or refused: its packets by the rules, and its old bytes from there on; with no packet the memory stays as it was
+  pub memory : r.memory ≡ joined (written_by h c) ++ drop (length (joined (written_by h c))) c.memory
+  -- the count that it answers is theirs
+  pub bytes : bytes_written r.answer ≡ length (joined (written_by h c))
+  pub as_long : length r.memory ≡ length c.memory
+  -- cut from the front they are these packets; "The packet reader returns the packet's fields": of each of them, those that the rules give
+  pub packets : packets_after r.answer r.memory ≡ bytes_of_each (written_by h c)
+  pub read_back : map packet_of (packets_after r.answer r.memory) ≡ map accept (written_by h c)
   -- a packet 61 stands among them exactly when the call is a request that changes range or Q_ATO_SupTB, or is the first
   pub traction : table_by h c ≡ accept tt → Has61 (packets_after r.answer r.memory) ↔ RequestWrites h c
-  pub behind : table_by h c ≡ accept tt → drop (bytes_written r.answer) r.memory ≡ drop (bytes_written r.answer) c.memory
-  pub as_long : length r.memory ≡ length c.memory
 
 -- 5. what is computed of a history, and what the rules say of it word by word, are the same
 pub record AsRuled (h : History) : Type 0 where
@@ -153,7 +156,8 @@ pub record TrulyPassed (h : History) (packet : List ℕ) : Type 0 where
 abbrev pub NothingAhead : List Call → Call → Type 0
 NothingAhead earlier c = Each62 earlier c (λ packet p. p.status ≡ status_passed → TrulyPassed (c ∷ history_of earlier) packet)
 
--- refused calls leave no trace: the list with its refused calls taken out ends in the same engine, with the same history
+-- refused calls leave no trace in engine and history: the list with its refused calls taken out ends in the same. What they recorded is not meant: a packet 65 of
+-- status 1 stands in the memory of a call whose profiles were turned down
 pub record NoTrace (calls : List Call) : Type 0 where
   pub same_engine : engine_after (accepted_calls fresh calls) ≡ engine_after calls
   pub same_history : history_of (accepted_calls fresh calls) ≡ history_of calls

@@ -49,7 +49,7 @@ lists = record {
 }
 
 rows : Rows
-rows = record { refuses = refl; passes = refl; first = refl; second = refl; neither = refl; value = refl; judged = refl; verdicts = refl; all = refl }
+rows = record { refuses = refl; passes = refl; first = refl; second = refl; neither = refl; value = refl; judged = refl; verdicts = refl; all = refl; profiles = refl }
 
 pub anchors : Anchors
 anchors = record { numbers = numbers; lists = lists; rows = rows }

@@ -5,7 +5,7 @@ use Rattle.wire.specs.Lists.{All, any, every, those, same_numbers, tabulate, sum
 use Rattle.wire.specs.Judged.{Judged, then_judge, row, ◌>>=◌, ◌>>◌}
 use Rattle.wire.specs.Judged.Judged.{refuse, accept}
 use Rattle.std.specs.Prelude.{Ok, Err}
-use Rattle.wire.specs.Refusals.{number_of}
+use Rattle.wire.specs.Refusals.{number_of, turns_down}
 use Rattle.wire.specs.View.{judged as view}
 use Rattle.wire.specs.declared.Refusal.{Refusal}
 
@@ -87,6 +87,9 @@ pub record Rows : Type 0 where
       ∷ Refusal.JourneyForm ∷ Refusal.SegmentTwice ∷ Refusal.Points ∷ Refusal.Order ∷ Refusal.Beyond ∷ Refusal.NoStop ∷ Refusal.Skip ∷ Refusal.Output
       ∷ Refusal.PacketLength ∷ Refusal.PacketNumber ∷ Refusal.PacketRange ∷ []
       ) ≡ 1 ∷ 2 ∷ 3 ∷ 4 ∷ 5 ∷ 6 ∷ 7 ∷ 8 ∷ 9 ∷ 10 ∷ 11 ∷ 12 ∷ 13 ∷ 14 ∷ 15 ∷ 16 ∷ 17 ∷ 18 ∷ 19 ∷ []
+  -- 02, Q-4: "refused by 7 to 12", of 1 to 19
+  pub profiles : map turns_down (1 ∷ 2 ∷ 3 ∷ 4 ∷ 5 ∷ 6 ∷ 7 ∷ 8 ∷ 9 ∷ 10 ∷ 11 ∷ 12 ∷ 13 ∷ 14 ∷ 15 ∷ 16 ∷ 17 ∷ 18 ∷ 19 ∷ [])
+      ≡ false ∷ false ∷ false ∷ false ∷ false ∷ false ∷ true ∷ true ∷ true ∷ true ∷ true ∷ true ∷ false ∷ false ∷ false ∷ false ∷ false ∷ false ∷ false ∷ []
 
 pub record Anchors : Type 0 where
   pub numbers : Numbers

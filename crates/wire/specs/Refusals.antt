@@ -1,5 +1,5 @@
 -- Document 01, the table of numbers: the number of each row.
-use Rattle.std.specs.Prelude.{ℕ}
+use Rattle.std.specs.Prelude.{ℕ, Bool, ◌&&◌, leb}
 use Rattle.wire.specs.declared.Refusal.{Refusal}
 use Rattle.wire.specs.declared.Refusal.TheVariants.{EventForm, EventRange, NoPower, Powered, Fault, State, BookForm, BookTwice, JourneyForm, SegmentTwice, Points, Order, Beyond, NoStop, Skip, Output, PacketLength, PacketNumber, PacketRange}
 
@@ -27,3 +27,7 @@ number_of Output = 16
 number_of PacketLength = 17
 number_of PacketNumber = 18
 number_of PacketRange = 19
+
+-- 02, Q-4: "A load refused by 7 to 12": its profiles are turned down, by a row of the places book and journey
+abbrev pub turns_down : ℕ → Bool
+turns_down n = leb 7 n && leb n 12

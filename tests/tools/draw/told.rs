@@ -1,8 +1,8 @@
 //! What the independent model says of a scenario. `told answers SCENARIO`: a line for each event, R and the number, or
-//! the state and whether AD is requested. `told packets SCENARIO`: every packet in words.
+//! the state and whether AD is requested. `told packets SCENARIO`: every packet in words, also of loads turned down.
 
 use model::calls::MEMORY;
-use model::engine::Engine;
+use model::engine::{written, Engine};
 use model::packets::{split_packets, Content, Packet};
 use model::words::{packet_in_words, STATES};
 use tools::language::Scenario;
@@ -22,17 +22,16 @@ fn main() {
             _ => nidtp.to_string(),
         };
         match answer {
-            Ok(answer) if what == "packets" => {
-                for packet in split_packets(&out[..answer.bytes]) {
+            _ if what == "packets" => {
+                for packet in split_packets(&out[..written(answer)]) {
                     println!("{}", packet_in_words(packet, &|nidtp| name(packet, nidtp)));
                 }
             }
-            Err(number) if what == "answers" => println!("R {number}"),
-            Ok(answer) if what == "answers" => {
+            Err(refused) => println!("R {}", refused.number),
+            Ok(answer) => {
                 let request = if answer.request { "requested" } else { "not requested" };
                 println!("{} {request}", STATES[usize::from(answer.state)]);
             }
-            _ => {}
         }
     }
 }

@@ -1,8 +1,8 @@
 //! The proved engine and the model side by side, in each state.
 
 use crate::text::{wrong, Checked};
-use model::calls::Call;
-use model::engine::{AV, CO, DE, EG, FA, NA, NP, RE};
+use model::calls::{answer_line, Call};
+use model::engine::{written, AV, CO, DE, EG, FA, NA, NP, RE};
 use model::packets::split_packets;
 use model::values::Journey;
 use model::words::STATES;
@@ -14,14 +14,12 @@ pub fn play(pair: &mut Pair, calls: &[Call], line: usize) -> Checked<(String, Ve
     let mut last = (String::new(), Vec::new());
     let mut memory = Memory::new();
     for call in calls {
-        last = match pair.call(call, &mut memory) {
+        let answer = match pair.call(call, &mut memory) {
             Err(difference) => return wrong(line, difference),
-            Ok(Err(number)) => (format!("R {number}"), Vec::new()),
-            Ok(Ok(answer)) => {
-                let packets = split_packets(&memory.proved[..answer.bytes]).into_iter().map(<[u8]>::to_vec).collect();
-                (format!("A {} {} {}", answer.state, u8::from(answer.request), answer.bytes), packets)
-            }
+            Ok(answer) => answer,
         };
+        let packets = split_packets(&memory.proved[..written(answer)]).into_iter().map(<[u8]>::to_vec).collect();
+        last = (answer_line(answer), packets);
         if !pair.proved.shows(&pair.model) {
             return wrong(line, "the engine shows other values than the model");
         }
@@ -32,7 +30,8 @@ pub fn play(pair: &mut Pair, calls: &[Call], line: usize) -> Checked<(String, Ve
 /// The number that refuses the call on such an engine; 0 where it is accepted.
 pub fn refusal(on: &Pair, call: &Call, line: usize) -> Checked<u8> {
     let (answer, _) = play(&mut on.clone(), std::slice::from_ref(call), line)?;
-    Ok(answer.strip_prefix("R ").map_or(0, |number| number.parse().unwrap()))
+    let number = answer.strip_prefix("R ").and_then(|rest| rest.split(' ').next());
+    Ok(number.map_or(0, |number| number.parse().unwrap()))
 }
 
 /// The packets of these calls from a fresh engine, as they are read.

@@ -3,9 +3,10 @@
 use crate::engines::play;
 use crate::text::{number_of, same, wrong, Checked, Page, Row};
 use model::calls::Call;
+use model::engine::TURNED_DOWN;
 use model::events::UNDEFINED;
 use model::values::{write_book, Journey, JourneyPoint, Record, RecordPoint};
-use model::words::{DRIVER, STATES, STATE_NAMES};
+use model::words::{DRIVER, LOADS, STATES, STATE_NAMES};
 use proved::hollwern::read;
 use proved::pair::Pair;
 use std::collections::BTreeSet;
@@ -51,15 +52,23 @@ fn check_reports(page: &Page) -> Checked<()> {
     Ok(())
 }
 
-/// A stop 7001 at 40,000 with R 150 and a passing point 7002 at 90,000.
-fn two_points() -> Call {
+/// A stop 7001 at 40,000 with R 150 and a passing point 7002 at 90,000, the End of Journey or not.
+fn journey_of_two(end: bool) -> Journey {
     let stop = JourneyPoint { nidtp: 7001, stop: true, ..JourneyPoint::default() };
-    let passing = JourneyPoint { nidtp: 7002, end: true, ..JourneyPoint::default() };
-    let journey = Journey { segments: vec![(17, 500)], points: vec![stop, passing], ..Journey::default() };
+    let passing = JourneyPoint { nidtp: 7002, end, ..JourneyPoint::default() };
+    Journey { segments: vec![(17, 500)], points: vec![stop, passing], ..Journey::default() }
+}
+
+/// Over one segment of 100,000.
+fn load_of(journey: Journey) -> Call {
     let places = [(7001, 40_000, 150), (7002, 90_000, 0)];
     let points = places.map(|(nidtp, place, reach)| RecordPoint { nidtp, place, reach }).to_vec();
     let record = Record { nidc: 17, nidsp: 500, length: 100_000, points, ..Record::default() };
     Call::load(journey.write(), write_book(&[record]))
+}
+
+fn two_points() -> Call {
+    load_of(journey_of_two(true))
 }
 
 /// The two as the row has them.
@@ -121,6 +130,33 @@ fn check_statuses(page: &Page) -> Checked<()> {
     Ok(())
 }
 
+/// The statuses of packet 65, each as a load writes it, with what is the journey's in it.
+fn check_loads(page: &Page) -> Checked<()> {
+    let rows = page.table("Packet 65", "Status")?;
+    same(rows[0].line, "statuses", rows.len(), LOADS.len())?;
+    let (date, seconds, counter, atots) = (5, 6, 7, 8);
+    for (status, row) in rows.iter().enumerate() {
+        let journey = Journey { date, seconds, counter, atots: Some(atots), ..journey_of_two(status == 0) };
+        let (_, packets) = play(&mut Pair::fresh(), &[Call::power_on(), load_of(journey)], row.line)?;
+        let packet = read(&packets[0]);
+        same(row.line, "status", row.number("Status")?, packet.status.into())?;
+        same(row.line, "meaning", row.text("Meaning")?, LOADS[status])?;
+        let fields: [(&str, u32, u32); 4] = [
+            ("NID_ATOTS", packet.atots.into(), atots.into()),
+            ("Date", packet.date.into(), date.into()),
+            ("Seconds", packet.seconds, seconds),
+            ("Counter", packet.counter.into(), counter.into()),
+        ];
+        for (column, found, of_journey) in fields {
+            let text = row.text(column)?;
+            let told = number_of(text).map_or(text.into(), |number| number.to_string());
+            let found = if found == of_journey { "the journey's".into() } else { found.to_string() };
+            same(row.line, column, told, found)?;
+        }
+    }
+    Ok(())
+}
+
 /// The numbers of the places, put together, and the numbers that are explained, count up from 1.
 fn check_numbers(page: &Page) -> Checked<()> {
     let mut last = 0;
@@ -128,6 +164,8 @@ fn check_numbers(page: &Page) -> Checked<()> {
         for number in row.text("Numbers")?.split(' ') {
             last += 1;
             same(row.line, "number", number, &last.to_string())?;
+            let writes = if TURNED_DOWN.contains(&(last as u8)) { "packet 65" } else { "nothing" };
+            same(row.line, "writes", row.text("Writes")?, writes)?;
         }
     }
     same(1, "numbers", count_items(page, "## 10. Numbers", "- **")?, last)
@@ -183,6 +221,7 @@ pub fn check(page: &Page, header: &str) -> Checked<usize> {
     check_standings(page)?;
     check_creeps(page)?;
     check_statuses(page)?;
+    check_loads(page)?;
     check_numbers(page)?;
     check_lines(page)?;
     check_names(page, header)?;

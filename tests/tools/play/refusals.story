@@ -1,4 +1,4 @@
-71 events. Below each, the unit's answer and the packets that it writes for the recorder.
+79 events. Below each, the unit's answer and the packets that it writes for the recorder.
 Distances are in cm, speeds in cm/s; AD is the ETCS mode automatic driving.
 
 line 126: length 20000
@@ -28,6 +28,9 @@ line 132: bytes FF
 
 line 133: bytes 0B
     refused by 9 (journey): the journey is empty
+    4100000000000000FFFFFF0000FFFFFFFF040040000000000000000001
+        65 profiles turned down: NID_C 1024, NID_ATOTS 16384, date 0, seconds 0, counter 0, status 1
+        [NID_C 0 NID_SP 0 offset undefined speed 0 NID_OPERATIONAL FFFFFFFF]
 
 line 134: bytes 0B00
     refused by 1 (event): its length is 2; of kind 11 it must be 1
@@ -67,93 +70,183 @@ line 145: traction -101
 
 line 147: load Day B1
     refused by 7 (book): record WideCountry: NID_C is 1,024; it must be 0 to 1,023
+    4100000000000000FFFFFF0000FFFFFFFF040040000000000000000001
+        65 profiles turned down: NID_C 1024, NID_ATOTS 16384, date 0, seconds 0, counter 0, status 1
+        [NID_C 0 NID_SP 0 offset undefined speed 0 NID_OPERATIONAL FFFFFFFF]
 
 line 148: load Day B2
     refused by 7 (book): record NoLength: the length is 0; it must be 1 to 16,777,214
+    4100000000000000FFFFFF0000FFFFFFFF040040000000000000000001
+        65 profiles turned down: NID_C 1024, NID_ATOTS 16384, date 0, seconds 0, counter 0, status 1
+        [NID_C 0 NID_SP 0 offset undefined speed 0 NID_OPERATIONAL FFFFFFFF]
 
 line 149: load Day B3
     refused by 7 (book): record TooLong: the length is 16,777,215; it must be 1 to 16,777,214
+    4100000000000000FFFFFF0000FFFFFFFF040040000000000000000001
+        65 profiles turned down: NID_C 1024, NID_ATOTS 16384, date 0, seconds 0, counter 0, status 1
+        [NID_C 0 NID_SP 0 offset undefined speed 0 NID_OPERATIONAL FFFFFFFF]
 
 line 150: load Day B4
     refused by 7 (book): record FarPoint: the place of its point 1 is 11; it must be 0 to 10
+    4100000000000000FFFFFF0000FFFFFFFF040040000000000000000001
+        65 profiles turned down: NID_C 1024, NID_ATOTS 16384, date 0, seconds 0, counter 0, status 1
+        [NID_C 0 NID_SP 0 offset undefined speed 0 NID_OPERATIONAL FFFFFFFF]
 
 line 151: load Day B5
     refused by 7 (book): record WideReach: R of its point 1 is 10,001; it must be 0 to 10,000
+    4100000000000000FFFFFF0000FFFFFFFF040040000000000000000001
+        65 profiles turned down: NID_C 1024, NID_ATOTS 16384, date 0, seconds 0, counter 0, status 1
+        [NID_C 0 NID_SP 0 offset undefined speed 0 NID_OPERATIONAL FFFFFFFF]
 
 line 152: load Day B6
     refused by 7 (book): record NoName: NID_TP of its point 1 is FFFFFFFF hexadecimal; it must be below FFFFFFFF hexadecimal
+    4100000000000000FFFFFF0000FFFFFFFF040040000000000000000001
+        65 profiles turned down: NID_C 1024, NID_ATOTS 16384, date 0, seconds 0, counter 0, status 1
+        [NID_C 0 NID_SP 0 offset undefined speed 0 NID_OPERATIONAL FFFFFFFF]
 
 line 153: load Day B7
     refused by 7 (book): record FarZone: the end of its zone 1 is 11; it must be 3 to 10
+    4100000000000000FFFFFF0000FFFFFFFF040040000000000000000001
+        65 profiles turned down: NID_C 1024, NID_ATOTS 16384, date 0, seconds 0, counter 0, status 1
+        [NID_C 0 NID_SP 0 offset undefined speed 0 NID_OPERATIONAL FFFFFFFF]
 
 line 154: load Day B8
     refused by 7 (book): record BackZone: the end of its zone 1 is 4; it must be 5 to 10
+    4100000000000000FFFFFF0000FFFFFFFF040040000000000000000001
+        65 profiles turned down: NID_C 1024, NID_ATOTS 16384, date 0, seconds 0, counter 0, status 1
+        [NID_C 0 NID_SP 0 offset undefined speed 0 NID_OPERATIONAL FFFFFFFF]
 
 line 155: load Day B9
     refused by 7 (book): record LateZone: the start of its zone 1 is 11; it must be 0 to 10
+    4100000000000000FFFFFF0000FFFFFFFF040040000000000000000001
+        65 profiles turned down: NID_C 1024, NID_ATOTS 16384, date 0, seconds 0, counter 0, status 1
+        [NID_C 0 NID_SP 0 offset undefined speed 0 NID_OPERATIONAL FFFFFFFF]
 
 line 156: load Day B10
     refused by 7 (book): record FiveZones: the count of zones is 5; it must be 1 to 4
+    4100000000000000FFFFFF0000FFFFFFFF040040000000000000000001
+        65 profiles turned down: NID_C 1024, NID_ATOTS 16384, date 0, seconds 0, counter 0, status 1
+        [NID_C 0 NID_SP 0 offset undefined speed 0 NID_OPERATIONAL FFFFFFFF]
 
 line 157: load Day Twice
     refused by 8 (book): the segment of record Depot stands twice in the book
+    4100000000000000FFFFFF0000FFFFFFFF040040000000000000000001
+        65 profiles turned down: NID_C 1024, NID_ATOTS 16384, date 0, seconds 0, counter 0, status 1
+        [NID_C 0 NID_SP 0 offset undefined speed 0 NID_OPERATIONAL FFFFFFFF]
 
 line 158: load Day Again
     refused by 8 (book): the segment of record Depot stands twice in the book, also as record DepotAgain
+    4100000000000000FFFFFF0000FFFFFFFF040040000000000000000001
+        65 profiles turned down: NID_C 1024, NID_ATOTS 16384, date 0, seconds 0, counter 0, status 1
+        [NID_C 0 NID_SP 0 offset undefined speed 0 NID_OPERATIONAL FFFFFFFF]
 
 line 159: load Day Same
     refused by 8 (book): record Doubles has NID_TP 1 twice
+    4100000000000000FFFFFF0000FFFFFFFF040040000000000000000001
+        65 profiles turned down: NID_C 1024, NID_ATOTS 16384, date 0, seconds 0, counter 0, status 1
+        [NID_C 0 NID_SP 0 offset undefined speed 0 NID_OPERATIONAL FFFFFFFF]
 
 line 160: load LateDate Line
     refused by 9 (journey): the date is 32,768; it must be 0 to 32,767
+    4100000000000000FFFFFF0000FFFFFFFF040040000000000000000001
+        65 profiles turned down: NID_C 1024, NID_ATOTS 16384, date 0, seconds 0, counter 0, status 1
+        [NID_C 0 NID_SP 0 offset undefined speed 0 NID_OPERATIONAL FFFFFFFF]
 
 line 161: load WideSession Line
     refused by 9 (journey): NID_ATOTS is 16,384; it must be 0 to 16,383
+    4100000000000000FFFFFF0000FFFFFFFF040040000000000000000001
+        65 profiles turned down: NID_C 1024, NID_ATOTS 16384, date 0, seconds 0, counter 0, status 1
+        [NID_C 0 NID_SP 0 offset undefined speed 0 NID_OPERATIONAL FFFFFFFF]
 
 line 162: load Nowhere Line
     refused by 9 (journey): the count of segments is 0; it must be 1 to 40
+    4100000000000000FFFFFF0000FFFFFFFF040040000000000000000001
+        65 profiles turned down: NID_C 1024, NID_ATOTS 16384, date 0, seconds 0, counter 0, status 1
+        [NID_C 0 NID_SP 0 offset undefined speed 0 NID_OPERATIONAL FFFFFFFF]
 
 line 163: load Pointless Line
     refused by 9 (journey): the count of points is 0; it must be 1 to 64
+    4100000000000000FFFFFF0000FFFFFFFF040040000000000000000001
+        65 profiles turned down: NID_C 1024, NID_ATOTS 16384, date 0, seconds 0, counter 0, status 1
+        [NID_C 0 NID_SP 0 offset undefined speed 0 NID_OPERATIONAL FFFFFFFF]
 
 line 164: load Abroad Line
     refused by 9 (journey): NID_C of segment WideCountry is 1,024; it must be 0 to 1,023
+    4100000000000000FFFFFF0000FFFFFFFF040040000000000000000001
+        65 profiles turned down: NID_C 1024, NID_ATOTS 16384, date 0, seconds 0, counter 0, status 1
+        [NID_C 0 NID_SP 0 offset undefined speed 0 NID_OPERATIONAL FFFFFFFF]
 
 line 165: load Data Line
     refused by 9 (journey): point Shed: the stopping data is 128; it must be 0 to 127
+    4100000000000000FFFFFF0000FFFFFFFF040040000000000000000001
+        65 profiles turned down: NID_C 1024, NID_ATOTS 16384, date 0, seconds 0, counter 0, status 1
+        [NID_C 0 NID_SP 0 offset undefined speed 0 NID_OPERATIONAL FFFFFFFF]
 
 line 166: load Nameless Line
     refused by 9 (journey): point Unnamed: NID_TP is FFFFFFFF hexadecimal; it must be below FFFFFFFF hexadecimal
+    4100000000000000FFFFFF0000FFFFFFFF040040000000000000000001
+        65 profiles turned down: NID_C 1024, NID_ATOTS 16384, date 0, seconds 0, counter 0, status 1
+        [NID_C 0 NID_SP 0 offset undefined speed 0 NID_OPERATIONAL FFFFFFFF]
 
 line 167: load Circle Line
     refused by 10 (journey): the journey goes through segment Depot twice
+    4100000000000000FFFFFF0000FFFFFFFF040040000000000000000001
+        65 profiles turned down: NID_C 1024, NID_ATOTS 16384, date 0, seconds 0, counter 0, status 1
+        [NID_C 0 NID_SP 0 offset undefined speed 0 NID_OPERATIONAL FFFFFFFF]
 
 line 168: load Alias Line
     refused by 10 (journey): the journey goes through segment Depot twice, also as segment DepotAgain
+    4100000000000000FFFFFF0000FFFFFFFF040040000000000000000001
+        65 profiles turned down: NID_C 1024, NID_ATOTS 16384, date 0, seconds 0, counter 0, status 1
+        [NID_C 0 NID_SP 0 offset undefined speed 0 NID_OPERATIONAL FFFFFFFF]
 
 line 169: load ShedTwice Line
     refused by 11 (journey): NID_TP 7001 stands twice in the journey: point Shed
+    4100000000000000FFFFFF0000FFFFFFFF040040000000000000000001
+        65 profiles turned down: NID_C 1024, NID_ATOTS 16384, date 0, seconds 0, counter 0, status 1
+        [NID_C 0 NID_SP 0 offset undefined speed 0 NID_OPERATIONAL FFFFFFFF]
 
 line 170: load MillTwin Line
     refused by 11 (journey): NID_TP 7003 stands twice in the journey: point Mill, also as point Twin
+    4100000000000000FFFFFF0000FFFFFFFF040040000000000000000001
+        65 profiles turned down: NID_C 1024, NID_ATOTS 16384, date 0, seconds 0, counter 0, status 1
+        [NID_C 0 NID_SP 0 offset undefined speed 0 NID_OPERATIONAL FFFFFFFF]
 
 line 171: load Endless Line
     refused by 11 (journey): no point is the End of Journey
+    4100000000000000FFFFFF0000FFFFFFFF040040000000000000000001
+        65 profiles turned down: NID_C 1024, NID_ATOTS 16384, date 0, seconds 0, counter 0, status 1
+        [NID_C 0 NID_SP 0 offset undefined speed 0 NID_OPERATIONAL FFFFFFFF]
 
 line 172: load TwoEnds Line
     refused by 11 (journey): 2 points are the End of Journey: point Shed, point Mill
+    4100000000000000FFFFFF0000FFFFFFFF040040000000000000000001
+        65 profiles turned down: NID_C 1024, NID_ATOTS 16384, date 0, seconds 0, counter 0, status 1
+        [NID_C 0 NID_SP 0 offset undefined speed 0 NID_OPERATIONAL FFFFFFFF]
 
 line 173: load OtherBook Short
     refused by 11 (journey): segment Depot is in the book without point Shed
+    4100000000000000FFFFFF0000FFFFFFFF040040000000000000000001
+        65 profiles turned down: NID_C 1024, NID_ATOTS 16384, date 0, seconds 0, counter 0, status 1
+        [NID_C 0 NID_SP 0 offset undefined speed 0 NID_OPERATIONAL FFFFFFFF]
 
 line 174: load Falls Line
     refused by 12 (journey): the segment index falls, from 1 of point Mill to 0 of point Shed
+    4100000000000000FFFFFF0000FFFFFFFF040040000000000000000001
+        65 profiles turned down: NID_C 1024, NID_ATOTS 16384, date 0, seconds 0, counter 0, status 1
+        [NID_C 0 NID_SP 0 offset undefined speed 0 NID_OPERATIONAL FFFFFFFF]
 
 line 175: load Backward Line
     refused by 12 (journey): point Shed, 60,000 from the journey's start, is not behind point Bridge, at 90,000
+    4100000000000000FFFFFF0000FFFFFFFF040040000000000000000001
+        65 profiles turned down: NID_C 1024, NID_ATOTS 16384, date 0, seconds 0, counter 0, status 1
+        [NID_C 0 NID_SP 0 offset undefined speed 0 NID_OPERATIONAL FFFFFFFF]
 
 line 176: load Level Line
     refused by 12 (journey): point Wall, 140,000 from the journey's start, is not behind point Gate, at 140,000
+    4100000000000000FFFFFF0000FFFFFFFF040040000000000000000001
+        65 profiles turned down: NID_C 1024, NID_ATOTS 16384, date 0, seconds 0, counter 0, status 1
+        [NID_C 0 NID_SP 0 offset undefined speed 0 NID_OPERATIONAL FFFFFFFF]
 
 line 179: skip Shed
     refused by 14 (skip): no journey is loaded
@@ -167,20 +260,26 @@ line 180: load Day Line
         68 state CO: lacking: 0 ETCS conditions, 1 no emergency brake, 5 no inconsistency, 6 located in the journey, 8 data valid
         [NID_C 0 NID_SP 0 offset undefined speed 0 NID_OPERATIONAL FFFFFFFF]
 
-line 181: configured
+line 181: load Falls Line
+    refused by 12 (journey): the segment index falls, from 1 of point Mill to 0 of point Shed
+    4100000000000000FFFFFF0000FFFFFFFF040040000000000000000001
+        65 profiles turned down: NID_C 1024, NID_ATOTS 16384, date 0, seconds 0, counter 0, status 1
+        [NID_C 0 NID_SP 0 offset undefined speed 0 NID_OPERATIONAL FFFFFFFF]
+
+line 182: configured
     NA (not available), AD not requested; targeted: Shed
         NA: the driver may drive by hand; the unit waits for the conditions that are lacking
     4400000000000000FFFFFF0000FFFFFFFF09C2
         68 state NA: lacking: 0 ETCS conditions, 1 no emergency brake, 5 no inconsistency, 6 located in the journey, 8 data valid
         [NID_C 0 NID_SP 0 offset undefined speed 0 NID_OPERATIONAL FFFFFFFF]
 
-line 182: configured
+line 183: configured
     refused by 6 (state): configured is taken in CO alone, the state is NA
 
-line 183: position Depot 100001 speed 0
+line 184: position Depot 100001 speed 0
     refused by 13 (position): the offset 100,001 is beyond the length of segment Depot, 100,000
 
-line 184: position Depot 59850 speed 0
+line 185: position Depot 59850 speed 0
     NA, AD not requested; reached: Shed
     3E0011000001F40000E9CA0000FFFFFFFF001100001B590900
         62 Shed stopped: NID_C 17, NID_TP 7001, Q_EOJ_REACHED 1 (End of Journey ahead), alignment front, stopping data 0
@@ -189,34 +288,40 @@ line 184: position Depot 59850 speed 0
         68 state NA: lacking: 0 ETCS conditions, 1 no emergency brake, 5 no inconsistency, 8 data valid
         [NID_C 17 NID_SP 500 offset 59850 speed 0 NID_OPERATIONAL FFFFFFFF]
 
-line 185: skip Bridge
+line 186: load Backward Line
+    refused by 12 (journey): point Shed, 60,000 from the journey's start, is not behind point Bridge, at 90,000
+    410011000001F40000E9CA0000FFFFFFFF001140000000000000000001
+        65 profiles turned down: NID_C 17, NID_ATOTS 16384, date 0, seconds 0, counter 0, status 1
+        [NID_C 17 NID_SP 500 offset 59850 speed 0 NID_OPERATIONAL FFFFFFFF]
+
+line 187: skip Bridge
     refused by 14 (skip): point Bridge is a passing point, no stop
 
-line 186: skip Gate
+line 188: skip Gate
     refused by 14 (skip): the journey has no such point
 
-line 187: skip Shed
+line 189: skip Shed
     refused by 15 (skip): point Shed is reached
 
-line 188: revoke Mill
+line 190: revoke Mill
     refused by 15 (skip): the driver does not skip point Mill; that trackside skips it counts for nothing here
 
-line 189: skip Mill
+line 191: skip Mill
     NA, AD not requested; reached: Shed
     3E0011000001F40000E9CA0000FFFFFFFF001100001B5B2900
         62 Mill skipped by the driver: NID_C 17, NID_TP 7003, Q_EOJ_REACHED 1 (End of Journey ahead), alignment front, stopping data 0
         [NID_C 17 NID_SP 500 offset 59850 speed 0 NID_OPERATIONAL FFFFFFFF]
 
-line 190: skip Mill
+line 192: skip Mill
     refused by 15 (skip): the driver skips point Mill already
 
-line 191: revoke Mill
+line 193: revoke Mill
     NA, AD not requested; reached: Shed
     3E0011000001F40000E9CA0000FFFFFFFF001100001B5B3100
         62 Mill driver skip revoked: NID_C 17, NID_TP 7003, Q_EOJ_REACHED 1 (End of Journey ahead), alignment front, stopping data 0
         [NID_C 17 NID_SP 500 offset 59850 speed 0 NID_OPERATIONAL FFFFFFFF]
 
-line 192: position Depot 60500 speed 100
+line 194: position Depot 60500 speed 100
     NA, AD not requested; passed: Shed; targeted: Bridge
     3E0011000001F40000EC540064FFFFFFFF001100001B591100
         62 Shed departed: NID_C 17, NID_TP 7001, Q_EOJ_REACHED 1 (End of Journey ahead), alignment front, stopping data 0
@@ -225,33 +330,75 @@ line 192: position Depot 60500 speed 100
         68 state NA: lacking: 0 ETCS conditions, 1 no emergency brake, 5 no inconsistency, 8 data valid
         [NID_C 17 NID_SP 500 offset 60500 speed 100 NID_OPERATIONAL FFFFFFFF]
 
-line 193: revoke Shed
+line 195: revoke Shed
     refused by 15 (skip): point Shed is passed
 
-line 194: fault
-    FA (failure), AD not requested; targeted: Bridge
+line 196: position Harbour 100000 speed 100
+    NA, AD not requested; passed: Bridge, Mill, Quay; no point left
+    3E0012000001F4000186A00064FFFFFFFF001100001B5A0100
+        62 Bridge passed: NID_C 17, NID_TP 7002, Q_EOJ_REACHED 1 (End of Journey ahead), alignment front, stopping data 0
+        [NID_C 18 NID_SP 500 offset 100000 speed 100 NID_OPERATIONAL FFFFFFFF]
+    3E0012000001F4000186A00064FFFFFFFF001100001B5B0100
+        62 Mill passed: NID_C 17, NID_TP 7003, Q_EOJ_REACHED 1 (End of Journey ahead), alignment front, stopping data 0
+        [NID_C 18 NID_SP 500 offset 100000 speed 100 NID_OPERATIONAL FFFFFFFF]
+    3E0012000001F4000186A00064FFFFFFFF001200001B5E0000
+        62 Quay passed: NID_C 18, NID_TP 7006, Q_EOJ_REACHED 0 (End of Journey reached or passed), alignment front, stopping data 0
+        [NID_C 18 NID_SP 500 offset 100000 speed 100 NID_OPERATIONAL FFFFFFFF]
+    440012000001F4000186A00064FFFFFFFF0D02
+        68 state NA: lacking: 0 ETCS conditions, 1 no emergency brake, 2 End of Journey not reached, 3 last point not passed, 5 no inconsistency, 8 data valid
+        [NID_C 18 NID_SP 500 offset 100000 speed 100 NID_OPERATIONAL FFFFFFFF]
+
+line 197: load ShedTwice Line
+    refused by 11 (journey): NID_TP 7001 stands twice in the journey: point Shed
+    410012000001F4000186A00064FFFFFFFF001240000000000000000001
+        65 profiles turned down: NID_C 18, NID_ATOTS 16384, date 0, seconds 0, counter 0, status 1
+        [NID_C 18 NID_SP 500 offset 100000 speed 100 NID_OPERATIONAL FFFFFFFF]
+
+line 198: position Yard 40000 speed 100
+    NA, AD not requested; no point left
+    440011000001F700009C400064FFFFFFFF0902
+        68 state NA: lacking: 0 ETCS conditions, 1 no emergency brake, 2 End of Journey not reached, 3 last point not passed, 5 no inconsistency, 6 located in the journey, 8 data valid
+        [NID_C 17 NID_SP 503 offset 40000 speed 100 NID_OPERATIONAL FFFFFFFF]
+
+line 199: load Level Line
+    refused by 12 (journey): point Wall, 140,000 from the journey's start, is not behind point Gate, at 140,000
+    410011000001F700009C400064FFFFFFFF040040000000000000000001
+        65 profiles turned down: NID_C 1024, NID_ATOTS 16384, date 0, seconds 0, counter 0, status 1
+        [NID_C 17 NID_SP 503 offset 40000 speed 100 NID_OPERATIONAL FFFFFFFF]
+
+line 200: position Depot undefined speed 100
+    NA, AD not requested; no point left
+
+line 201: load Day Twice
+    refused by 8 (book): the segment of record Depot stands twice in the book
+    410011000001F400FFFFFF0064FFFFFFFF040040000000000000000001
+        65 profiles turned down: NID_C 1024, NID_ATOTS 16384, date 0, seconds 0, counter 0, status 1
+        [NID_C 17 NID_SP 500 offset undefined speed 100 NID_OPERATIONAL FFFFFFFF]
+
+line 202: fault
+    FA (failure), AD not requested; no point left
         FA: the driver may drive by hand; only power off is left to the unit
-    440011000001F40000EC540064FFFFFFFF0DC7
-        68 state FA: lacking: 0 ETCS conditions, 1 no emergency brake, 5 no inconsistency, 8 data valid
-        [NID_C 17 NID_SP 500 offset 60500 speed 100 NID_OPERATIONAL FFFFFFFF]
+    440011000001F400FFFFFF0064FFFFFFFF0907
+        68 state FA: lacking: 0 ETCS conditions, 1 no emergency brake, 2 End of Journey not reached, 3 last point not passed, 5 no inconsistency, 6 located in the journey, 8 data valid
+        [NID_C 17 NID_SP 500 offset undefined speed 100 NID_OPERATIONAL FFFFFFFF]
 
-line 195: load Day B1
+line 203: load Day B1
     refused by 5 (power): there is a fault: only power off is taken
 
-line 196: traction 0
+line 204: traction 0
     refused by 5 (power): there is a fault: only power off is taken
 
-line 197: power on
+line 205: power on
     refused by 4 (power): power is on already, the state is FA
 
-line 198: power off
+line 206: power off
     NP (no power), AD not requested
         NP: the driver may drive by hand; the unit takes no part
     4400000000000000FFFFFF0000FFFFFFFF0800
         68 state NP: lacking: 0 ETCS conditions, 1 no emergency brake, 2 End of Journey not reached, 3 last point not passed, 4 profiles to the target, 5 no inconsistency, 6 located in the journey, 8 data valid
         [NID_C 0 NID_SP 0 offset undefined speed 0 NID_OPERATIONAL FFFFFFFF]
 
-line 199: power off
+line 207: power off
     refused by 3 (power): there is no power: only power on is taken
 
-9 events accepted, 62 refused; the independent model answers the same
+12 events accepted, 67 refused; the independent model answers the same

@@ -10,7 +10,7 @@ use Rattle.route.specs.View.{loaded_view}
 use Rattle.effects.specs.View.{effect_view}
 use Rattle.judge.specs.View.{engine_after}
 use Rattle.engine.specs.View.{call}
-use Rattle.engine.proofs.Laws.{refused, accepted, Occurs, no_effect, has_effect, load_refused, load_taken}
+use Rattle.engine.proofs.Laws.{refused_by, accepted_by, Occurs, no_effect, has_effect, load_refused, load_taken}
 use Rattle.engine.proofs.load.Goals as goal
 use Rattle.engine.proofs.load.Goals.{After-new-o, After-load}
 
@@ -33,7 +33,7 @@ returns-in_err-l c = λ bytes read allowed role.
     let a = c.args in
     let p = (goal.at.returns-in_err-l c).After-new-o in
     let k = call bytes a.journey.now a.book.now a.out.now in
-    refused a.e.now k c.from_residual.result c.in_err-l.field-0.0 (search rules)
+    refused_by a.e.now k c.from_residual.result c.in_err-l.field-0.0 (search rules)
     (no_effect a.e.now k c.new-o.result (occurs p bytes read allowed) load (its_role p role) _ (load_refused c.new-o.result.engine.now (carried c.new-o.result.event) a.journey.now a.book.now _ c.in_err-l.ensures))
 
 -- its effect is judged
@@ -51,7 +51,7 @@ returns-in_err-t c = λ bytes read allowed role.
     let a = c.args in
     let p = goal.at.returns-in_err-t c in
     let k = call bytes a.journey.now a.book.now a.out.now in
-    refused a.e.now k c.from_residual-in_err-t.result c.in_err-t.field-0.0 (search rules)
+    refused_by a.e.now k c.from_residual-in_err-t.result c.in_err-t.field-0.0 (search rules)
     (c.in_err-t.ensures.step a.out.now refl c.load.ensures.beside ∙ load_judged p.After-load bytes (occurs p.After-new-o bytes read allowed) (its_role p.After-new-o role))
 
 pub returns : goal.returns
@@ -61,5 +61,5 @@ returns c = λ bytes read allowed role.
     let k = call bytes a.journey.now a.book.now a.out.now in
     let t = c.in_ok-t in
     let o = occurs p.After-new-o bytes read allowed in
-    accepted a.e.now k c.new-o.result o t.t (t.ensures.step a.out.now refl c.load.ensures.beside ∙ load_judged p.After-load bytes o (its_role p.After-new-o role))
+    accepted_by a.e.now k c.new-o.result o t.t (t.ensures.step a.out.now refl c.load.ensures.beside ∙ load_judged p.After-load bytes o (its_role p.After-new-o role))
     (t.ensures.size (engine_after a.e.now t.t)) t.ensures.fits _ _ _ c.accept.ensures.engine c.accept.ensures.answer c.accept.ensures.output
