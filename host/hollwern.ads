@@ -16,7 +16,7 @@ package Hollwern is
    --  Bytes of an engine.
    Engine_Size : constant := 3_460;
    --  No event writes more bytes than this.
-   Bytes_Most : constant := 1_669;
+   Bytes_Most : constant := 1_619;
    --  The most points of a journey.
    Points_Most : constant := 64;
    --  The most segments of a journey.

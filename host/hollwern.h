@@ -44,7 +44,7 @@
 /* Bytes of an engine; its alignment is 4. */
 #define HOLLWERN_ENGINE_SIZE 3460
 /* No event writes more bytes than this. */
-#define HOLLWERN_BYTES_MOST 1669
+#define HOLLWERN_BYTES_MOST 1619
 /* The most points and segments of a journey, records of a book, points and zones of a record; and so the most bytes of
  * a journey and of a book that is not refused. */
 #define HOLLWERN_POINTS_MOST 64

@@ -17,7 +17,7 @@ pub const VERSION: u32 = VERSION_MAJOR * 65_536 + VERSION_MINOR * 256 + VERSION_
 /// Bytes of an engine.
 pub const ENGINE_SIZE: usize = 3_460;
 /// No event writes more bytes than this.
-pub const BYTES_MOST: usize = 1_669;
+pub const BYTES_MOST: usize = 1_619;
 /// The most points of a journey.
 pub const POINTS_MOST: usize = 64;
 /// The most segments of a journey.

@@ -1,4 +1,4 @@
--- No call writes more than 1,669 bytes, whatever engine it finds: with so much memory 16 does not come.
+-- No call writes more than 1,619 bytes, whatever engine it finds: with so much memory 16 does not come.
 use Prim.Native.Nat.{ℕ, zero, suc, ◌+◌, ◌-◌, ◌*◌, ◌≤◌}
 use mathlib.Core.Path.{◌≡◌, refl, sym, ap, subst, ◌∙◌}
 use mathlib.Core.List.{List, [], ◌∷◌, ◌++◌, map}
@@ -8,6 +8,7 @@ use lib.ListN.{length, length-append, length-map}
 use lib.Dec.{ltb}
 use borrow.Author.Tests.{le-ltb}
 use native.Mathlib.Omega.{arith}
+use Rattle.wire.specs.Numbers.{flag}
 use Rattle.wire.specs.Judged.{Judged, then_judge, row}
 use Rattle.wire.specs.Judged.Judged.{refuse, accept}
 use Rattle.engine_value.specs.Engine.{Route, route_in, progress}
@@ -26,7 +27,7 @@ use Rattle.journey.specs.declared.Head.{Head}
 use Rattle.route.specs.Route.{LoadValue, load_of}
 use Rattle.position.specs.Position.{point_count, placed, known}
 use Rattle.timing.specs.Distance as distance
-use Rattle.timing.specs.Distance.{report_from, beyond, leaves}
+use Rattle.timing.specs.Distance.{report_from, beyond, at_stop, leaves}
 use Rattle.timing.specs.Report.{following, looked, looked_from, departs, first_looked, reported, became_reached}
 use Rattle.timing.specs.Changes.{change, passings, when, changes_of, report_changes, status_departed, status_stopped}
 use Rattle.position.specs.Standing.{standing, behind}
@@ -49,43 +50,51 @@ use Rattle.call.proofs.Rows.{taken}
 
 -- ---- the points that a report changes
 
-next-most : (j : Route) (r : distance.Report) (n k : ℕ) → (looked j r n k).next ≤ k + n
+-- those that pass from point k on, and the one that is reached, are among the n points
+look_most : (j : Route) (r : distance.Report) (n k : ℕ) → (looked j r n k).next - k + flag (looked j r n k).reached ≤ n
 unfolding looked
-next-most j r zero k = omega arith
-next-most j r (suc n) k = go _ refl _ refl (next-most j r n (k + 1))
+look_most j r zero k = omega arith
+look_most j r (suc n) k = go _ refl _ refl (look_most j r n (k + 1))
   where
-    go : (a : Bool) → known j r.position && placed j k ≡ a → (b : Bool) → beyond j r k ≡ b → (looked j r n (k + 1)).next ≤ k + 1 + n → (looked j r (suc n) k).next ≤ k + suc n
-    go false p b q h = rw p (omega arith)
+    here : (b : Bool) → k - k + flag b ≤ suc n
+    here true = omega arith
+    here false = omega arith
+
+    go : (a : Bool) → known j r.position && placed j k ≡ a → (b : Bool) → beyond j r k ≡ b
+        → (looked j r n (k + 1)).next - (k + 1) + flag (looked j r n (k + 1)).reached ≤ n → (looked j r (suc n) k).next - k + flag (looked j r (suc n) k).reached ≤ suc n
+    go false p b q h = rw p (here false)
     go true p true q h = rw (p, q) (omega arith)
-    go true p false q h = rw (p, q) (omega arith)
+    go true p false q h = rw (p, q) (here (at_stop j r k))
 
 length-passings : (n k : ℕ) → length (passings n k) ≡ n
 unfolding passings
 length-passings zero k = refl
 length-passings (suc n) k = ap suc (length-passings n (k + 1))
 
-length-when : {A : Type 0} (b : Bool) (a : A) → length (when b a) ≤ 1
-length-when true a = omega arith
-length-when false a = omega arith
+length-when : {A : Type 0} (b : Bool) (a : A) → length (when b a) ≡ flag b
+length-when true a = refl
+length-when false a = refl
 
 module _ (j : Route) (r : distance.Report) (p : Progress) where
-  after_most : (k : ℕ) → (looked_from j r k).next - k ≤ 64
-  after_most k = omega (arith, next-most j r (point_count j - k) k)
+  after_most : (k : ℕ) → (looked_from j r k).next - k + flag (looked_from j r k).reached ≤ point_count j - k
+  after_most k = look_most j r (point_count j - k) k
 
-  passed_most : (reported j r p).next - first_looked j r p ≤ 64
-  passed_most = go p.reached refl (leaves j r p.next) refl
-    where
-      go : (a : Bool) → p.reached ≡ a → (b : Bool) → leaves j r p.next ≡ b → (reported j r p).next - first_looked j r p ≤ 64
-      go false e b f = rw (reported_looks j r p e, e) (after_most p.next)
-      go true e false f = rw (reported_stays j r p e f, e, f) (omega arith)
-      go true e true f = rw (reported_departs j r p e f, e, f) (after_most (following p.next))
-
-  changes_most : length (report_changes j r p) ≤ 66
+  -- the one that departs, those that pass and the one that is reached differ
+  changes_most : length (report_changes j r p) ≤ 64
   unfolding report_changes
   changes_most =
       let a = length-when (departs j r p) (change p.next status_departed (progress (first_looked j r p) false)) in
       let b = length-when (became_reached j r p) (change (reported j r p).next status_stopped (reported j r p)) in
-      simp (length-append, length-passings) (omega (arith, passed_most, a, b))
+      simp (length-append, length-passings) (omega (arith, points_most, a, b))
+    where
+      points_most : flag (departs j r p) + ((reported j r p).next - first_looked j r p) + flag (became_reached j r p) ≤ 64
+      points_most = go p.reached refl (leaves j r p.next) refl
+        where
+          go : (a : Bool) → p.reached ≡ a → (b : Bool) → leaves j r p.next ≡ b
+              → flag (departs j r p) + ((reported j r p).next - first_looked j r p) + flag (became_reached j r p) ≤ 64
+          go false e b f = rw (reported_looks j r p e, e) (omega (arith, after_most p.next))
+          go true e false f = rw (reported_stays j r p e f, e, f) (omega arith)
+          go true e true f = rw (reported_departs j r p e f, e, f) (omega (arith, after_most (following p.next)))
 
 -- ---- what an effect writes, but for packet 68
 
@@ -95,7 +104,7 @@ load_bytes (Some h) = 29
 
 abbrev Small : Judged Effect → Type 0
 Small (refuse n) = Unit {0}
-Small (accept f) = load_bytes f.loaded + 25 * length f.changes ≤ 1650
+Small (accept f) = load_bytes f.loaded + 25 * length f.changes ≤ 1600
 
 small_row : (n : ℕ) (b : Bool) (f : Effect) → Small (accept f) → Small (then_judge (row n b) (λ a. accept f))
 small_row n true f h = tt
@@ -110,7 +119,7 @@ small-load : (e : Engine) (c : Carried) (x : Judged LoadValue) → Small (then_j
 small-load e c (refuse n) = tt
 small-load e c (accept l) = omega arith
 
-small-report : (e : Engine) (c : Carried) (l : LookedUp) → length (changes_of e.progress l.report) ≤ 66 → Small (position_effect e c l)
+small-report : (e : Engine) (c : Carried) (l : LookedUp) → length (changes_of e.progress l.report) ≤ 64 → Small (position_effect e c l)
 unfolding position_effect
 small-report e c l h = small_row 13 (offset_beyond l.segment (train_with e c).position) (reported_in e c l.report) (omega arith)
 
@@ -166,19 +175,19 @@ own_none e event m q =
 
 -- all but packet 68
 with_own : (e : Engine) (journey book : List ℕ) (event : Event) (f : Effect) (m : Engine) → effect e journey book event ≡ accept f
-    → load_bytes f.loaded + 25 * length f.changes + length (joined (own_packets e event m)) ≤ 1650
+    → load_bytes f.loaded + 25 * length f.changes + length (joined (own_packets e event m)) ≤ 1600
 with_own e journey book event f m q = go (carried event).traction refl (traction-of event)
   where
-    go : (o : Option TractionRequest) → (carried event).traction ≡ o → OfTraction o event → load_bytes f.loaded + 25 * length f.changes + length (joined (own_packets e event m)) ≤ 1650
+    go : (o : Option TractionRequest) → (carried event).traction ≡ o → OfTraction o event → load_bytes f.loaded + 25 * length f.changes + length (joined (own_packets e event m)) ≤ 1600
     go None p k =
-        let h : load_bytes f.loaded + 25 * length f.changes ≤ 1650 = subst Small q (small e journey book event) in
+        let h : load_bytes f.loaded + 25 * length f.changes ≤ 1600 = subst Small q (small e journey book event) in
         omega (arith, h, own_none e event m p)
     go (Some x) p k =
         let z = request-small e journey book x f (subst (λ (v : Event). effect e journey book v ≡ accept f) k q) in
         omega (arith, z, size_61 (route_in m) m.train.position (written_content (state_at e.control.state) event (remembered_in e.traction) (remembered_in m.traction)))
 
 -- "16 shorter than this event's packets"
-pub bytes_most : (e : Engine) (journey book : List ℕ) (event : Event) (f : Effect) → effect e journey book event ≡ accept f → length (joined (step_by e event f).packets) ≤ 1669
+pub bytes_most : (e : Engine) (journey book : List ℕ) (event : Event) (f : Effect) → effect e journey book event ≡ accept f → length (joined (step_by e event f).packets) ≤ 1619
 unfolding packets_of
 bytes_most e journey book event f q =
     let m = (step_by e event f).engine in
@@ -196,16 +205,16 @@ bytes_most e journey book event f q =
     omega (arith, h, a, b, d, size_65 j x f.loaded, size_62s j x changes, n, size_68 j x due (status_in m).state (status_in m).conditions)
 
 -- with so much memory that row does not refuse
-pub row_16 : (e : Engine) (journey book memory : List ℕ) (event : Event) (f : Effect) → effect e journey book event ≡ accept f → 1669 ≤ length memory
+pub row_16 : (e : Engine) (journey book memory : List ℕ) (event : Event) (f : Effect) → effect e journey book event ≡ accept f → 1619 ≤ length memory
     → row 16 (ltb (length memory) (length (joined (step_by e event f).packets))) ≡ accept tt
 row_16 e journey book memory event f q h = rw (le-ltb (length memory) (length (joined (step_by e event f).packets)) (omega (arith, bytes_most e journey book event f q)))
 
 -- every call, accepted or refused, writes no more
-pub call_bytes_most : (e : Engine) (c : Call) → bytes_written (step_of e c).answer ≤ 1669
+pub call_bytes_most : (e : Engine) (c : Call) → bytes_written (step_of e c).answer ≤ 1619
 unfolding step_of outcome_of
 call_bytes_most e c = go (judged e c) refl
   where
-    go : (j : Judged Step) → judged e c ≡ j → bytes_written (outcome_of e c.memory j).answer ≤ 1669
+    go : (j : Judged Step) → judged e c ≡ j → bytes_written (outcome_of e c.memory j).answer ≤ 1619
     go (refuse n) q = omega (arith, (refused_fits (route_in e) e.train.position n (length c.memory)).1)
     go (accept s) q =
         let t = taken e c s q in
