@@ -2,12 +2,15 @@
  * answer and each packet as it is read. */
 #include "hollwern.h"
 #include <stdio.h>
+#include <string.h>
 
 /* Segment 17/500, 100,000 long; stop 7001 at 40,000 with R 150; 7002 at 90,000, End of Journey. */
 static const uint8_t journey[] = {0x1A, 0, 0, 0, 0, 0, 0, 0, 1, 0, 17, 0, 0, 0x01, 0xF4, 2,
                                   0x13, 0, 0, 0x1B, 0x59, 0, 0x43, 0, 0, 0x1B, 0x5A, 0};
 static const uint8_t book[] = {0x0F, 0, 17, 0, 0, 0x01, 0xF4, 0, 0x01, 0x86, 0xA0, 2,
                                0, 0, 0x1B, 0x59, 0, 0, 0x9C, 0x40, 0, 150, 0, 0, 0x1B, 0x5A, 0, 0x01, 0x5F, 0x90, 0, 0};
+/* The same journey, with the train held at 7001: byte 16 is that point's map. */
+static uint8_t held[sizeof journey];
 static hollwern_engine engine;
 static uint8_t out[HOLLWERN_BYTES_MOST];
 
@@ -32,9 +35,9 @@ static void show_packet(const uint8_t *bytes, size_t n) {
         printf(" state %u conditions %03X\n", p.state, p.conditions);
 }
 
-/* Lends so many bytes of the journey. What was written is for the recorder, accepted or refused. */
-static void call_lending(const uint8_t *event, size_t n, size_t journey_n) {
-    hollwern_answer a = hollwern_step(&engine, event, n, journey, journey_n, book, sizeof book, out, sizeof out);
+/* Lends so many bytes as the journey. What was written is for the recorder, accepted or refused. */
+static void call_lending(const uint8_t *event, size_t n, const uint8_t *lent, size_t lent_n) {
+    hollwern_answer a = hollwern_step(&engine, event, n, lent, lent_n, book, sizeof book, out, sizeof out);
     if (a.accepted)
         printf("A %u %u %zu\n", a.state, a.request, a.bytes);
     else
@@ -47,7 +50,7 @@ static void call_lending(const uint8_t *event, size_t n, size_t journey_n) {
     }
 }
 
-static void call(const uint8_t *event, size_t n) { call_lending(event, n, sizeof journey); }
+static void call(const uint8_t *event, size_t n) { call_lending(event, n, journey, sizeof journey); }
 
 static void call_kind(uint8_t kind) { call(&kind, 1); }
 
@@ -94,6 +97,8 @@ int main(void) {
         fprintf(stderr, "example: header and libhollwern.a are of different versions\n");
         return 1;
     }
+    memcpy(held, journey, sizeof held);
+    held[16] |= HOLLWERN_POINT_HELD;
     hollwern_fresh(&engine);
     call_kind(HOLLWERN_KIND_POWER_ON);
     call_kind(HOLLWERN_KIND_POWER_ON); /* once more: refused */
@@ -110,7 +115,13 @@ int main(void) {
     call(mode_other, sizeof mode_other);
     position(39900, 0); /* P7: the stop is reached */
     show();
-    call_lending(load, 1, sizeof journey - 1); /* a byte short: turned down by 9, and recorded */
+    call_lending(load, 1, journey, sizeof journey - 1); /* a byte short: turned down by 9, and recorded */
+    call_lending(load, 1, held, sizeof held);           /* the train is to be held: 7001 is targeted again */
+    position(39900, 0);                                 /* reached again, and held: packets 62 with status 1 and 3 */
+    call_kind(HOLLWERN_KIND_PRESS);                     /* refused by 20 */
+    call(load, 1);                                      /* held no longer: a packet 62 with status 4 behind 65 */
+    position(39900, 0);
+    call_kind(HOLLWERN_KIND_PRESS); /* taken */
     position(40150, 50); /* a creep within R 150: still reached */
     position(40151, 50); /* beyond R: departed */
     position(90001, 50); /* P6: 7002 is passed */

@@ -113,6 +113,14 @@ fn main() {
     position(&mut e, 39_900, 0); // P7: the stop is reached
     show(&e);
     call_lending(&mut e, &[KIND_LOAD], &JOURNEY[..27]); // a byte short: turned down by 9, and recorded
+    let mut held = JOURNEY;
+    held[16] |= POINT_HELD; // the map of 7001
+    call_lending(&mut e, &[KIND_LOAD], &held); // the train is to be held: 7001 is targeted again
+    position(&mut e, 39_900, 0); // reached again, and held: packets 62 with status 1 and 3
+    call(&mut e, &[KIND_PRESS]); // refused by 20
+    call(&mut e, &[KIND_LOAD]); // held no longer: a packet 62 with status 4 behind 65
+    position(&mut e, 39_900, 0);
+    call(&mut e, &[KIND_PRESS]); // taken
     position(&mut e, 40_150, 50); // a creep within R 150: still reached
     position(&mut e, 40_151, 50); // beyond R: departed
     position(&mut e, 90_001, 50); // P6: 7002 is passed

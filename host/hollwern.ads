@@ -9,14 +9,14 @@ private with System;
 package Hollwern is
    --  The version of these declarations; Linked_Version tells that of the archive. They must be equal.
    Version_Major : constant := 2;
-   Version_Minor : constant := 0;
+   Version_Minor : constant := 1;
    Version_Patch : constant := 0;
    Version : constant := Version_Major * 65_536 + Version_Minor * 256 + Version_Patch;
 
    --  Bytes of an engine.
    Engine_Size : constant := 3_460;
    --  No event writes more bytes than this.
-   Bytes_Most : constant := 1_619;
+   Bytes_Most : constant := 1_644;
    --  The most points of a journey.
    Points_Most : constant := 64;
    --  The most segments of a journey.
@@ -88,6 +88,7 @@ package Hollwern is
    Point_Stop : constant := 16;
    Point_Skipped : constant := 32;
    Point_End : constant := 64;
+   Point_Held : constant := 128;
 
    --  A journey's points and packet 62: what of the train counts at the point.
    Alignment_Front : constant := 0;
@@ -132,6 +133,8 @@ package Hollwern is
    Status_Passed : constant := 0;
    Status_Stopped : constant := 1;
    Status_Departed : constant := 2;
+   Status_Held : constant := 3;
+   Status_Hold_Revoked : constant := 4;
    Status_Skipped : constant := 5;
    Status_Revoked : constant := 6;
 
@@ -159,6 +162,7 @@ package Hollwern is
    Refused_Packet_Length : constant := 17;
    Refused_Packet_Number : constant := 18;
    Refused_Packet_Range : constant := 19;
+   Refused_Held : constant := 20;
 
    type Byte_Array is array (size_t range <>) of Unsigned_8;
 

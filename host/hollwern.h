@@ -37,14 +37,14 @@
 
 /* The version of these declarations; hollwern_version tells that of the archive. They must be equal. */
 #define HOLLWERN_VERSION_MAJOR 2
-#define HOLLWERN_VERSION_MINOR 0
+#define HOLLWERN_VERSION_MINOR 1
 #define HOLLWERN_VERSION_PATCH 0
 #define HOLLWERN_VERSION (HOLLWERN_VERSION_MAJOR * 65536 + HOLLWERN_VERSION_MINOR * 256 + HOLLWERN_VERSION_PATCH)
 
 /* Bytes of an engine; its alignment is 4. */
 #define HOLLWERN_ENGINE_SIZE 3460
 /* No event writes more bytes than this. */
-#define HOLLWERN_BYTES_MOST 1619
+#define HOLLWERN_BYTES_MOST 1644
 /* The most points and segments of a journey, records of a book, points and zones of a record; and so the most bytes of
  * a journey and of a book that is not refused. */
 #define HOLLWERN_POINTS_MOST 64
@@ -112,6 +112,7 @@
 #define HOLLWERN_POINT_STOP 16
 #define HOLLWERN_POINT_SKIPPED 32 /* by trackside; with STOP only */
 #define HOLLWERN_POINT_END 64     /* End of Journey */
+#define HOLLWERN_POINT_HELD 128   /* by trackside; with STOP only */
 
 /* A journey's points and packet 62: what of the train counts at the point. */
 #define HOLLWERN_ALIGNMENT_FRONT 0
@@ -156,14 +157,17 @@
 #define HOLLWERN_STATUS_PASSED 0
 #define HOLLWERN_STATUS_STOPPED 1
 #define HOLLWERN_STATUS_DEPARTED 2
-#define HOLLWERN_STATUS_SKIPPED 5 /* by the driver */
-#define HOLLWERN_STATUS_REVOKED 6 /* the driver's skip */
+#define HOLLWERN_STATUS_HELD 3         /* behind that of STOPPED, where the stop is held */
+#define HOLLWERN_STATUS_HOLD_REVOKED 4 /* by a load, while the held stop was reached */
+#define HOLLWERN_STATUS_SKIPPED 5      /* by the driver */
+#define HOLLWERN_STATUS_REVOKED 6      /* the driver's skip */
 
 /* Status in packet 65. */
 #define HOLLWERN_JP_ACCEPTED 0
 #define HOLLWERN_JP_TURNED_DOWN 1 /* a load that 7 to 12 refuse; the packet tells no stamp of it */
 
-/* Why a call was refused: the first of these that holds. hollwern_step has 1 to 16, hollwern_read 17 to 19. */
+/* Why a call was refused: the first of these that holds, 20 being looked at right after 6. hollwern_step has 1 to 16 and
+ * 20, hollwern_read 17 to 19. */
 #define HOLLWERN_REFUSED_EVENT_FORM 1      /* event empty, of unknown kind or of wrong length */
 #define HOLLWERN_REFUSED_EVENT_RANGE 2     /* field of the event out of its range */
 #define HOLLWERN_REFUSED_NO_POWER 3        /* in NP, and not power on */
@@ -183,6 +187,7 @@
 #define HOLLWERN_REFUSED_PACKET_LENGTH 17  /* empty, or 61, 62, 65 or 68 of wrong length */
 #define HOLLWERN_REFUSED_PACKET_NUMBER 18  /* another number than 61, 62, 65 and 68 */
 #define HOLLWERN_REFUSED_PACKET_RANGE 19   /* field of the packet out of its range */
+#define HOLLWERN_REFUSED_HELD 20           /* press while a held stop is reached */
 
 /* An engine. Only the calls below look inside. */
 typedef struct hollwern_engine {

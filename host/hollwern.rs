@@ -10,14 +10,14 @@ compile_error!("hollwern.rs: libhollwern.a is for x86-64 Linux only");
 
 /// The version of these declarations; `version` tells that of the archive. They must be equal.
 pub const VERSION_MAJOR: u32 = 2;
-pub const VERSION_MINOR: u32 = 0;
+pub const VERSION_MINOR: u32 = 1;
 pub const VERSION_PATCH: u32 = 0;
 pub const VERSION: u32 = VERSION_MAJOR * 65_536 + VERSION_MINOR * 256 + VERSION_PATCH;
 
 /// Bytes of an engine.
 pub const ENGINE_SIZE: usize = 3_460;
 /// No event writes more bytes than this.
-pub const BYTES_MOST: usize = 1_619;
+pub const BYTES_MOST: usize = 1_644;
 /// The most points of a journey.
 pub const POINTS_MOST: usize = 64;
 /// The most segments of a journey.
@@ -89,6 +89,7 @@ pub const POINT_STOPPING: u8 = 8;
 pub const POINT_STOP: u8 = 16;
 pub const POINT_SKIPPED: u8 = 32;
 pub const POINT_END: u8 = 64;
+pub const POINT_HELD: u8 = 128;
 
 // A journey's points and packet 62: what of the train counts at the point.
 pub const ALIGNMENT_FRONT: u8 = 0;
@@ -133,6 +134,8 @@ pub const PACKET_ATO_STATUS: u8 = 68;
 pub const STATUS_PASSED: u8 = 0;
 pub const STATUS_STOPPED: u8 = 1;
 pub const STATUS_DEPARTED: u8 = 2;
+pub const STATUS_HELD: u8 = 3;
+pub const STATUS_HOLD_REVOKED: u8 = 4;
 pub const STATUS_SKIPPED: u8 = 5;
 pub const STATUS_REVOKED: u8 = 6;
 
@@ -160,6 +163,7 @@ pub const REFUSED_OUTPUT: u8 = 16;
 pub const REFUSED_PACKET_LENGTH: u8 = 17;
 pub const REFUSED_PACKET_NUMBER: u8 = 18;
 pub const REFUSED_PACKET_RANGE: u8 = 19;
+pub const REFUSED_HELD: u8 = 20;
 
 /// An engine. Equal calls on equal engines leave equal ones.
 #[repr(C)]

@@ -1,10 +1,10 @@
 //! Counts what the lists of calls bring up.
 
 use model::calls::Call;
-use model::engine::{behind_front, written, Answer, Engine, Refused, Traction, DE, EG, NP, TURNED_DOWN};
+use model::engine::{behind_front, written, Answer, Engine, Refused, Traction, DE, EG, FA, NP, RE, TURNED_DOWN};
 use model::events::{LOAD, POSITION_REPORT, TRACTION, UNDEFINED};
 use model::packets::{split_packets, Content, Packet};
-use model::route::Segment;
+use model::route::{Point, Segment};
 use model::words::STATES;
 use std::collections::BTreeMap;
 
@@ -28,6 +28,8 @@ pub struct Coverage {
     crept: bool,
     /// The last call was a load that is turned down.
     just_turned_down: bool,
+    /// The last load came while a held stop was reached and kept the hold, and no stop was reached since.
+    hold_kept: bool,
 }
 
 /// The segment on which the position is known.
@@ -47,10 +49,17 @@ fn beyond_first(engine: &Engine) -> Option<(i64, i64)> {
     Some((d, i64::from(point.reach)))
 }
 
+/// The held stop that is reached.
+pub(crate) fn held_stop(engine: &Engine) -> Option<&Point> {
+    let point = engine.route.points().get(usize::from(engine.now.first));
+    point.filter(|point| engine.now.reached && point.held)
+}
+
 impl Coverage {
     pub fn count(&mut self, call: &Call, before: &Engine, after: &Engine, answer: Result<Answer, Refused>, out: &[u8]) {
         self.calls += 1;
         split_packets(&out[..written(answer)]).iter().for_each(|packet| self.count_packet(packet));
+        self.count_presses(call, before, answer.err().map(|refused| refused.number));
         if call.event.first() == Some(&TRACTION) {
             *self.requests.entry(before.now.state).or_default() += 1;
         }
@@ -68,6 +77,7 @@ impl Coverage {
                 self.count_situations(call.event[0], before, after);
                 self.count_creeps(call.event[0], before, after, bytes);
                 self.count_traction(call.event[0], before, after, bytes);
+                self.count_holds(call.event[0], before, after);
             }
         }
         self.just_turned_down = answer.is_err_and(|refused| TURNED_DOWN.contains(&refused.number));
@@ -149,6 +159,72 @@ impl Coverage {
         note("request forgotten at power off", now.state == NP && was.traction.is_some());
     }
 
+    /// Held stops, by document 02: a press that is refused there, and one that is not.
+    fn count_presses(&mut self, call: &Call, before: &Engine, number: Option<u8>) {
+        let (now, press) = (&before.now, call.event == [8]);
+        let held = held_stop(before);
+        let place = if now.reached { beyond_first(before) } else { None };
+        let refused = press && number == Some(20);
+        let mut note = |name, holds: bool| *self.situations.entry(name).or_default() += usize::from(holds);
+        note("press at a held stop", refused);
+        note("press at a held stop, one pending", refused && now.press);
+        note("press at a held stop in a creep", refused && self.crept);
+        note("press at a held stop behind -R", refused && place.is_some_and(|(d, reach)| d < -reach));
+        note("press at a held stop, position unknown", refused && place.is_none());
+        note("press outside RE at a held stop", press && number == Some(6) && held.is_some());
+        note("press taken at a reached stop not held", press && number.is_none() && now.reached);
+        note("press taken, held stop targeted", press && number.is_none() && held.is_none() && self.hold_kept);
+    }
+
+    /// Held stops that become reached, and how they are left.
+    fn count_holds(&mut self, kind: u8, before: &Engine, after: &Engine) {
+        let (was, now) = (&before.now, &after.now);
+        let (report, old) = (kind == POSITION_REPORT, held_stop(before));
+        let became = report && now.reached && !was.reached && held_stop(after).is_some();
+        let mut note = |name, holds: bool| *self.situations.entry(name).or_default() += usize::from(holds);
+        note("held stop reached", became);
+        note("held stop reached, a press pending", became && now.press && now.state == RE);
+        note("held stop reached in EG", became && was.state == EG);
+        note("held stop reached, End of Journey", became && now.first == after.route.end);
+        note("held stop reached again after a load", became && self.hold_kept);
+        note("engaged at a held stop", was.state != EG && now.state == EG && old.is_some());
+        note("held stop departed", report && old.is_some() && now.first > was.first);
+        note("held and skipped", now.loaded && after.route.points().iter().any(|point| point.held && point.skipped));
+        note("power off at a held stop", now.state == NP && old.is_some());
+        note("fault at a held stop", now.state == FA && old.is_some());
+        self.hold_kept &= now.loaded && !now.reached;
+        if kind == LOAD {
+            self.count_loads_at_held_stop(before, after);
+        }
+    }
+
+    /// What a load makes of the held stop that is reached.
+    fn count_loads_at_held_stop(&mut self, before: &Engine, after: &Engine) {
+        let (was, now) = (&before.now, &after.now);
+        let old = held_stop(before);
+        let new = after.route.points().iter().find(|point| old.is_some_and(|old| old.nidtp == point.nidtp));
+        let ends = old.is_some() && new.is_none_or(|point| !point.held);
+        let keeps = new.filter(|point| point.held);
+        let behind = keeps.is_some_and(|point| after.route.points()[..usize::from(now.first)].contains(point));
+        let nidc = |engine: &Engine, point: &Point| engine.route.segments()[usize::from(point.segment)].nidc;
+        let abroad = new.zip(old).is_some_and(|(new, old)| nidc(after, new) != nidc(before, old));
+        let mut note = |name, holds: bool| *self.situations.entry(name).or_default() += usize::from(holds);
+        note("hold ended, no such point", ends && new.is_none());
+        note("hold ended, stop", ends && new.is_some_and(|point| point.stop && !point.skipped));
+        note("hold ended, skipped stop", ends && new.is_some_and(|point| point.skipped));
+        note("hold ended, passing point", ends && new.is_some_and(|point| !point.stop));
+        note("hold ended, in another country", ends && abroad);
+        note("hold ended with a press pending", ends && now.press);
+        note("hold ended in EG", ends && was.state == EG);
+        note("hold ended, End of Journey behind", ends && after.route.end < now.first);
+        note("hold kept", keeps.is_some());
+        note("hold kept, skipped", keeps.is_some_and(|point| point.skipped));
+        note("hold kept, in another country", keeps.is_some() && abroad);
+        note("hold kept, put behind", behind);
+        note("no hold ended, stop not held", was.reached && old.is_none());
+        self.hold_kept = keeps.is_some();
+    }
+
     /// Loads that are turned down, by document 02.
     fn count_turned_down(&mut self, number: u8, engine: &Engine) {
         let position = match known_segment(engine) {
@@ -172,6 +248,7 @@ impl Coverage {
         note("turned down in DE", now.state == DE);
         note("turned down with a press pending", now.press);
         note("turned down at a reached stop", now.reached);
+        note("turned down at a held stop", held_stop(engine).is_some());
         note("turned down in a creep", now.reached && self.crept);
         note("turned down, points passed", now.loaded && now.first > 0);
         note("turned down, driver skip in force", now.skips != 0);
@@ -189,6 +266,11 @@ impl Coverage {
             _ => bytes[0].to_string(),
         };
         *self.packets.entry(name).or_default() += 1;
+    }
+
+    /// The situations that no call brought up.
+    pub fn missing(&self) -> Vec<&str> {
+        self.situations.iter().filter(|(_, count)| **count == 0).map(|(name, _)| *name).collect()
     }
 
     pub fn print(&self) {

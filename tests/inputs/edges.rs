@@ -3,6 +3,7 @@
 
 use crate::creeps::creeps;
 use crate::faults::good_events;
+use crate::held::held_stops;
 use crate::profiles::{base, ending, greatest_values, one_segment, p_journey, passing, record, stop};
 use crate::script::{Script, Start, STARTS};
 use crate::trials::all_trials;
@@ -372,7 +373,7 @@ fn odd_input(script: &mut Script) {
 
 pub fn all_edges() -> Vec<Call> {
     let mut script = Script::default();
-    let cases: [fn(&mut Script); 23] = [
+    let cases: [fn(&mut Script); 24] = [
         trials_p,
         kinds_in_states,
         pairs_of_events,
@@ -395,6 +396,7 @@ pub fn all_edges() -> Vec<Call> {
         traction_memory,
         odd_input,
         loads_turned_down,
+        held_stops,
         |script| script.calls.extend(all_trials().into_iter().map(|trial| trial.call)),
     ];
     cases.iter().for_each(|case| case(&mut script));

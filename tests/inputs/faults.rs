@@ -154,11 +154,9 @@ pub const JOURNEY_FAULTS: &[Fault] = &[
     fault(9, "point without index", |p, k| p.point(k).flip ^= 2),
     fault(9, "point map without bit 0", |p, k| p.point(k).flip_map ^= 1),
     fault(9, "point map without bit 1", |p, k| p.point(k).flip_map ^= 2),
-    fault(9, "point map bit 7", |p, k| p.point(k).flip ^= 128),
-    fault(9, "skip without stop", |p, k| {
-        let point = p.point(k);
-        (point.stop, point.skipped) = (false, true);
-    }),
+    fault(9, "skip without stop", |p, k| no_stop(p.point(k), true, false)),
+    fault(9, "hold without stop", |p, k| no_stop(p.point(k), false, true)),
+    fault(9, "skipped hold without stop", |p, k| no_stop(p.point(k), true, true)),
     fault(9, "journey cut by a byte", |p, _| p.journey_cut = 1),
     fault(9, "a byte behind the journey", |p, _| p.journey_more.push(0)),
     fault(10, "segment twice in the journey", |p, k| {
@@ -187,6 +185,11 @@ pub const JOURNEY_FAULTS: &[Fault] = &[
     fault(12, "places equal", |p, _| move_place(p, 0)),
     fault(12, "places fall", |p, _| move_place(p, 1)),
 ];
+
+/// A passing point that trackside skips or at which the train is held.
+fn no_stop(point: &mut JourneyPoint, skipped: bool, held: bool) {
+    (point.stop, point.skipped, point.held) = (false, skipped, held);
+}
 
 /// Gives the last point the name of another, in the book too.
 fn rename_last(profiles: &mut Profiles, which: usize) {

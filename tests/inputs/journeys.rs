@@ -69,6 +69,7 @@ fn a_point(random: &mut Random, nidtp: u32, segment: usize) -> JourneyPoint {
         stopping: random.pick(&[None, Some(0), Some(5), Some(96), Some(127)]),
         stop,
         skipped: stop && random.chance(15),
+        held: stop && random.chance(30),
         ..JourneyPoint::default()
     }
 }
@@ -161,9 +162,9 @@ fn rewrite_once(random: &mut Random, profiles: &mut Profiles, engine: &Engine) {
     let first = usize::from(engine.now.first).min(profiles.journey.points.len() - 1);
     let any = if random.chance(70) { first } else { random.below(profiles.journey.points.len()) };
     let point = &mut profiles.journey.points[any];
-    match random.below(9) {
+    match random.below(12) {
         0 if point.stop => point.skipped = !point.skipped,
-        1 => (point.stop, point.skipped) = (!point.stop, false),
+        1 => (point.stop, point.skipped, point.held) = (!point.stop, false, false),
         2 => point.alignment = random.pick(&[None, Some(0), Some(1), Some(2)]),
         3 => move_end(random, profiles),
         4 => drop_first_point(profiles),
@@ -172,8 +173,24 @@ fn rewrite_once(random: &mut Random, profiles: &mut Profiles, engine: &Engine) {
         7 if !profiles.book.is_empty() => {
             profiles.book.remove(random.below(profiles.book.len()));
         }
+        8 | 9 if point.stop => point.held = !point.held,
+        10 => move_country(profiles, any),
         _ => profiles.journey.operational = Some(random.next() as u32),
     }
+}
+
+/// The point's segment to another country, where there is none of that name.
+fn move_country(profiles: &mut Profiles, k: usize) {
+    let index = usize::from(profiles.journey.points[k].segment);
+    let (nidc, nidsp) = profiles.journey.segments[index];
+    let other = (nidc ^ 1, nidsp);
+    if profiles.journey.segments.contains(&other) || profiles.record_of(other).is_some() {
+        return;
+    }
+    if let Some(record) = profiles.record_of((nidc, nidsp)) {
+        record.nidc = other.0;
+    }
+    profiles.journey.segments[index] = other;
 }
 
 fn move_end(random: &mut Random, profiles: &mut Profiles) {

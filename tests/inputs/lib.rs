@@ -4,6 +4,7 @@ pub mod coverage;
 mod creeps;
 pub mod edges;
 mod faults;
+mod held;
 mod journeys;
 pub mod lists;
 pub mod packet_trials;

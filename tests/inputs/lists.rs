@@ -1,5 +1,6 @@
 //! Guided random lists of calls. The model's engine runs along, so that every state comes up often.
 
+use crate::coverage::held_stop;
 use crate::faults::{good_events, wrong_lengths, wrong_ranges, Fault, BOOK_FAULTS, JOURNEY_FAULTS};
 use crate::journeys::{new_profiles, rewrite};
 use crate::profiles::Profiles;
@@ -48,6 +49,9 @@ impl Generator {
         }
         if matches!(now.state, EG | DE) && self.random.chance(self.requests) {
             return self.traction();
+        }
+        if held_stop(&self.engine).is_some() && self.random.chance(35) {
+            return self.call_at_held_stop();
         }
         match self.random.weighed(&[91, 4, 3, 2]) {
             0 => match now.state {
@@ -127,6 +131,11 @@ impl Generator {
     }
 
     fn call_in_ready(&mut self) -> Call {
+        let first = usize::from(self.engine.now.first);
+        let target = self.engine.route.points().get(first);
+        if self.engine.now.press && target.is_some_and(|point| point.held) && self.random.chance(25) {
+            return self.near_point(first, 0);
+        }
         match (self.engine.now.press, self.random.below(100)) {
             (false, 0..=54) => Call::press(),
             (true, 0..=64) => Call::mode(1),
@@ -158,6 +167,19 @@ impl Generator {
             2 => Call::mode(0),
             3 => Call::reports(31),
             _ => self.any_call(),
+        }
+    }
+
+    fn call_at_held_stop(&mut self) -> Call {
+        match self.random.weighed(&[22, 42, 20, 8, 8]) {
+            0 => Call::press(),
+            1 => self.load(),
+            2 => self.position(),
+            3 => Call::mode(1),
+            _ => {
+                let speed = self.speed();
+                self.elsewhere(speed)
+            }
         }
     }
 

@@ -182,8 +182,22 @@ fn power_on() -> Packet {
 
 /// "P7 the stop at 39,900 writes 3E 0011 000001F4 00009BDC 0000 FFFFFFFF 0011 00001B59 09 00."
 fn stopped() -> Packet {
+    told_of_the_stop([1, 0, 1, 0])
+}
+
+/// Of P7's stop: the same where it is held, whose info 1 + 8 × 3 is 19 hexadecimal.
+fn held() -> Packet {
+    told_of_the_stop([1, 0, 3, 0])
+}
+
+/// Its hold ended, aligned to the rear, the End of Journey passed: info 2 × 2 + 8 × 4 is 24 hexadecimal.
+fn hold_revoked() -> Packet {
+    told_of_the_stop([0, 2, 4, 0])
+}
+
+fn told_of_the_stop(bytes: [u8; 4]) -> Packet {
     let header = Header { nidc: 17, nidsp: 500, offset: 39_900, speed: 0, operational: u32::MAX };
-    timing_point(header, 17, 7001, [1, 0, 1, 0])
+    timing_point(header, 17, 7001, bytes)
 }
 
 /// Each field of 62 at the end of its range: info 1 + 2 × 2 + 8 × 8 is 45 hexadecimal.
@@ -209,6 +223,8 @@ fn written() -> Vec<PacketTrial> {
         whole("power on", power_on()),
         whole("P7", stopped()),
         whole("62 at its ends", greatest()),
+        whole("62 held", held()),
+        whole("62 hold revoked", hold_revoked()),
         // status 1 is 08, 127 is 7F
         whole("62 stopping data", point(0, [0, 0, 1, 127])),
         // 1,024 is 0400, 16,384 is 4000, 32,767 is 7FFF
@@ -261,6 +277,8 @@ fn out_of_range() -> Vec<PacketTrial> {
         beyond("62 status 9", point(0, [0, 0, 9, 0])),
         beyond("62 stopping data 128", point(0, [0, 0, 1, 128])),
         beyond("62 stopping data 1, status 0", point(0, [0, 0, 0, 1])),
+        beyond("62 stopping data 1, status 3", point(0, [0, 0, 3, 1])),
+        beyond("62 stopping data 1, status 4", point(0, [0, 0, 4, 1])),
         beyond("65 NID_C 1025", received(1025, 0, 0, 0)),
         beyond("65 NID_ATOTS 16385", received(0, 16_385, 0, 0)),
         beyond("65 date 32768", received(0, 0, 32_768, 0)),
@@ -291,6 +309,8 @@ fn read_back() -> Vec<PacketTrial> {
         back("power on", power_on()),
         back("P7", stopped()),
         back("62 at its ends", greatest()),
+        back("62 held", held()),
+        back("62 hold revoked", hold_revoked()),
         back("65 at its ends", received(1024, 16_384, 32_767, 0)),
         back("65 turned down", turned_down()),
         back("65 status 1 at its ends", received(1024, 16_384, 32_767, 1)),

@@ -53,6 +53,10 @@ pub fn passing(nidtp: u32, segment: u8) -> JourneyPoint {
     JourneyPoint { nidtp, segment, ..JourneyPoint::default() }
 }
 
+pub fn held(point: JourneyPoint) -> JourneyPoint {
+    JourneyPoint { held: true, ..point }
+}
+
 pub fn ending(point: JourneyPoint) -> JourneyPoint {
     JourneyPoint { end: true, ..point }
 }

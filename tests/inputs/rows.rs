@@ -67,9 +67,21 @@ pub fn rows() -> Vec<Row> {
         bounded("report that passes 64 points", &first, at(39, 9_000, 100)),
         bounded("power off", &first, Call::power_off()),
     ];
+    rows.extend(at_held_stop(largest.clone()));
     rows.extend(skips(&first));
     rows.extend(loads(&first, largest));
     rows
+}
+
+/// The first stop is held: it becomes reached, and a press is refused there.
+fn at_held_stop(mut profiles: Profiles) -> Vec<Row> {
+    profiles.journey.points[0].held = true;
+    let (before, report) = (ready(&profiles, 0), at(0, 1_000, 0));
+    let reached = [&before[..], &[report.clone()]].concat();
+    vec![
+        bounded("report that reaches a held stop", &before, report),
+        bounded("refused: press at a held stop", &reached, Call::press()),
+    ]
 }
 
 fn skips(ready: &[Call]) -> Vec<Row> {

@@ -108,10 +108,15 @@ impl Script {
 
     /// Power on and what leads there.
     pub fn start(&mut self, start: Start) -> &mut Script {
+        self.start_with(start, &p_journey())
+    }
+
+    /// The same with these profiles.
+    pub fn start_with(&mut self, start: Start, profiles: &Profiles) -> &mut Script {
         if start == Start::NoPower {
             return self;
         }
-        self.on().load(&p_journey()).at(20_000, 0);
+        self.on().load(profiles).at(20_000, 0);
         match start {
             Start::NoPower | Start::Configuration => self,
             Start::NotAvailable => self.reports(30).configured(),

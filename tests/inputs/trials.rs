@@ -172,6 +172,19 @@ fn accepted_journeys() -> Vec<Trial> {
     ]
 }
 
+/// Held stops: skipped ones too, the End of Journey, all.
+fn accepted_holds() -> Vec<Trial> {
+    let held = |name: &str, change: fn(&mut [JourneyPoint])| {
+        trial(name, changed(|profiles| change(&mut profiles.journey.points)), None)
+    };
+    vec![
+        held("held", |points| points[0].held = true),
+        held("held and skipped", |points| points[2].held = true),
+        held("End of Journey held", |points| points[7].held = true),
+        held("every stop held", |points| points.iter_mut().for_each(|point| point.held = point.stop)),
+    ]
+}
+
 /// The last values of a book that no row refuses.
 fn accepted_books() -> Vec<Trial> {
     let ok = |name: &str, call: Call| trial(name, call, None);
@@ -208,7 +221,7 @@ fn accepted_books() -> Vec<Trial> {
 
 /// Loads in a state where they are accepted or refused by their profiles alone.
 fn load_trials() -> Vec<Trial> {
-    [single_faults(), pairs(), cuts(), more_refusals(), accepted_journeys(), accepted_books()]
+    [single_faults(), pairs(), cuts(), more_refusals(), accepted_journeys(), accepted_holds(), accepted_books()]
         .into_iter()
         .flatten()
         .collect()

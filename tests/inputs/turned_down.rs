@@ -33,7 +33,7 @@ fn turned_down(profiles: &Profiles) -> Vec<Profiles> {
 
 impl Script {
     /// The six loads made of these profiles, one after the other.
-    fn turn_down(&mut self, profiles: &Profiles) -> &mut Script {
+    pub fn turn_down(&mut self, profiles: &Profiles) -> &mut Script {
         turned_down(profiles).iter().for_each(|profiles| self.calls.push(profiles.load()));
         self
     }

@@ -144,7 +144,7 @@ pub fn read_answer(line: &str) -> Option<Result<Answer, Refused>> {
     let words: Vec<&str> = line.split(' ').collect();
     let answer = match words[..] {
         ["R", number, _] => {
-            let number = number.parse().ok().filter(|number| (1..=16).contains(number))?;
+            let number = number.parse().ok().filter(|number| matches!(number, 1..=16 | 20))?;
             Err(Refused { number, bytes: if TURNED_DOWN.contains(&number) { SIZE_65 } else { 0 } })
         }
         ["A", state, request, bytes] => {

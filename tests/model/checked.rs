@@ -36,6 +36,7 @@ impl Checked {
         if reason.as_ref().map(|(number, _)| *number) != answer.err().map(|refused| refused.number) {
             return Err(format!("the answer is {answer:?}, the reason found {reason:?}"));
         }
+        self.rules.check_press(call, answer.err().map(|refused| refused.number))?;
         let bytes = written(answer);
         if self.out[bytes..] != memory[bytes..] {
             return Err("memory behind the packets changed".into());

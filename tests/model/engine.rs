@@ -138,20 +138,33 @@ pub fn behind_front(length: u32, alignment: u8) -> u32 {
 #[derive(Clone, Copy)]
 enum Changes {
     None,
-    /// Points `from..to` passed, the first of them by departure; then point `to` was reached.
+    /// Points `from..to` passed, the first of them by departure; then point `to` was reached, which may be held.
     Report {
         from: u8,
         to: u8,
         departed: bool,
         reached: bool,
+        held: bool,
     },
     /// The driver skipped a point (5) or revoked that (6).
     Driver {
         point: u8,
         status: u8,
     },
-    Load(Stamp),
+    /// The old journey's stop at which the train is held no longer, if there is one.
+    Load {
+        stamp: Stamp,
+        revoked: Option<Revoked>,
+    },
     Traction(TractionBrake),
+}
+
+/// What packet 62 with status 4 says of a stop: as it was in the old journey.
+#[derive(Clone, Copy)]
+struct Revoked {
+    nidc: u16,
+    nidtp: u32,
+    alignment: u8,
 }
 
 impl Changes {
@@ -162,9 +175,11 @@ impl Changes {
     fn bytes(&self) -> usize {
         match *self {
             Changes::None => 0,
-            Changes::Report { from, to, reached, .. } => SIZE_62 * (usize::from(to - from) + usize::from(reached)),
+            Changes::Report { from, to, reached, held, .. } => {
+                SIZE_62 * (usize::from(to - from) + usize::from(reached) + usize::from(held))
+            }
             Changes::Driver { .. } => SIZE_62,
-            Changes::Load(_) => SIZE_65,
+            Changes::Load { revoked, .. } => SIZE_65 + if revoked.is_some() { SIZE_62 } else { 0 },
             Changes::Traction(_) => SIZE_61,
         }
     }
@@ -204,7 +219,7 @@ impl Engine {
     /// The answer, or the number that refuses: then engine and memory are as before.
     fn step(&mut self, call: &Call, out: &mut [u8]) -> Result<Answer, u8> {
         let event = read_event(&call.event)?;
-        self.now.admit(event)?;
+        self.now.admit(event, &self.route)?;
         if event == Event::Load {
             return self.load(&call.journey, &call.book, out);
         }
@@ -223,10 +238,18 @@ impl Engine {
         let mut now = self.now;
         now.take_load(&route);
         now.settle(Event::Load, &route, false);
-        let answer = finish(&self.now, &now, &route, Changes::Load(stamp), out)?;
+        let changes = Changes::Load { stamp, revoked: self.revoked_by(&route) };
+        let answer = finish(&self.now, &now, &route, changes, out)?;
         self.now = now;
         self.route = route;
         Ok(answer)
+    }
+
+    /// The held stop that is reached, where the new journey lacks its NID_TP or has it unheld.
+    fn revoked_by(&self, next: &Route) -> Option<Revoked> {
+        let &Point { segment, nidtp, alignment, .. } = self.now.held_stop(&self.route)?;
+        let nidc = self.route.segments()[usize::from(segment)].nidc;
+        (!next.holds(nidtp)).then_some(Revoked { nidc, nidtp, alignment })
     }
 
     /// Where each point of the journey stands.
@@ -242,8 +265,8 @@ impl Engine {
 }
 
 impl Now {
-    /// Numbers 3 to 6.
-    fn admit(&self, event: Event) -> Result<(), u8> {
+    /// Numbers 3 to 6, and 20.
+    fn admit(&self, event: Event, route: &Route) -> Result<(), u8> {
         match event {
             Event::PowerOn if self.state != NP => Err(4),
             Event::PowerOn => Ok(()),
@@ -252,8 +275,15 @@ impl Now {
             _ if self.state == FA => Err(5),
             Event::Configured if self.state != CO => Err(6),
             Event::Press if self.state != RE => Err(6),
+            Event::Press if self.held_stop(route).is_some() => Err(20),
             _ => Ok(()),
         }
+    }
+
+    /// The held stop that is reached.
+    fn held_stop<'a>(&self, route: &'a Route) -> Option<&'a Point> {
+        let reached = self.reached.then(|| &route.points()[usize::from(self.first)]);
+        reached.filter(|point| point.held)
     }
 
     /// Takes over what the event brings and moves the timing points. Numbers 13 to 15.
@@ -352,7 +382,8 @@ impl Now {
             reached = speed == 0 && self.reaches(front, route);
             self.reached = reached;
         }
-        Ok(Changes::Report { from, to: self.first, departed, reached })
+        let held = reached && self.held_stop(route).is_some();
+        Ok(Changes::Report { from, to: self.first, departed, reached, held })
     }
 
     /// The position is known, and the first point not passed, which is reached, has d > R.
@@ -489,7 +520,7 @@ fn finish(before: &Now, now: &Now, route: &Route, changes: Changes, out: &mut [u
     let mut at = 0;
     let header = now.header();
     let mut put = |content| at += Packet { header, content }.put(&mut out[at..]);
-    if let Changes::Load(stamp) = changes {
+    if let Changes::Load { stamp, .. } = changes {
         put(load_content(now, route, stamp, 0));
     }
     put_points(now, route, changes, &mut put);
@@ -512,7 +543,7 @@ fn load_content(now: &Now, route: &Route, stamp: Stamp, status: u8) -> Content {
 /// Packets 62. Q_EOJ_REACHED of each is after that change.
 fn put_points(now: &Now, route: &Route, changes: Changes, put: &mut impl FnMut(Content)) {
     match changes {
-        Changes::Report { from, to, departed, reached } => {
+        Changes::Report { from, to, departed, reached, held } => {
             for k in from..to {
                 let status = if departed && k == from { 2 } else { 0 };
                 put(point_content(route, k, k < route.end, status));
@@ -520,9 +551,16 @@ fn put_points(now: &Now, route: &Route, changes: Changes, put: &mut impl FnMut(C
             if reached {
                 put(point_content(route, to, to < route.end, 1));
             }
+            if held {
+                put(point_content(route, to, to < route.end, 3));
+            }
+        }
+        Changes::Load { revoked: Some(Revoked { nidc, nidtp, alignment }), .. } => {
+            let q_eoj_reached = u8::from(now.end_not_reached(route));
+            put(Content::Point { nidc, nidtp, q_eoj_reached, alignment, status: 4, stopping: 0 });
         }
         Changes::Driver { point, status } => put(point_content(route, point, now.end_not_reached(route), status)),
-        Changes::None | Changes::Load(_) | Changes::Traction(_) => {}
+        Changes::None | Changes::Load { .. } | Changes::Traction(_) => {}
     }
 }
 

@@ -1,4 +1,4 @@
-//! The independent model: document 01 with of document 02 once more, in plain Rust. It gives the expected
+//! The independent model: document 01 with of document 02 once more, in plain Rust. It gives the expected
 //! lines of the tests and is the baseline for speed. Nothing here looks at the proved core.
 
 pub mod calls;

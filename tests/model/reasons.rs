@@ -1,5 +1,5 @@
-//! Why a call is refused, in words: for each number 1 to 15 which of its row's reasons it was. The layouts are read
-//! once more, field by field, so that the field can be named; `checked` compares the number with the one answered.
+//! Why a call is refused, in words: for each number but 16 which of its row's reasons it was. The layouts are read once
+//! more, field by field, so that the field can be named; `checked` compares the number with the one answered.
 
 use crate::calls::Call;
 use crate::engine::{Engine, Standing, CO, FA, NP, RE};
@@ -37,6 +37,7 @@ pub fn reason(engine: &Engine, call: &Call, names: &dyn Names) -> Option<Reason>
     let refused = match read_event(&call.event) {
         Err(refused) => Err(refused),
         Ok(event) => admit(engine.now.state, event).and_then(|()| match event {
+            Event::Press => press(engine, names),
             Event::Load => load(&call.journey, &call.book, names),
             Event::Report(position, _) => position_report(engine, position, names),
             Event::Skip(nidtp) => skip(engine, nidtp, true, names),
@@ -176,6 +177,15 @@ fn admit(state: u8, event: Event) -> Result<(), Reason> {
     }
 }
 
+/// Number 20, in RE.
+fn press(engine: &Engine, names: &dyn Names) -> Result<(), Reason> {
+    let mut points = engine.standings().zip(engine.route.points());
+    let Some(k) = points.position(|(standing, point)| standing == Standing::Reached && point.held) else {
+        return Ok(());
+    };
+    Err((20, format!("{} is reached, and the train is held there", names.point(k))))
+}
+
 /// Numbers 7 to 12.
 fn load(journey: &[u8], book: &[u8], names: &dyn Names) -> Result<(), Reason> {
     let with = |number: u8| move |reason: String| (number, reason);
@@ -285,9 +295,11 @@ fn read_journey(bytes: &[u8], names: &dyn Names) -> Result<(), String> {
 }
 
 fn read_journey_point(from: &mut Fields) -> Result<(), String> {
-    let map = from.map(0b11, 0b111_1111)?;
-    if map & 0b11_0000 == 0b10_0000 {
-        return Err("trackside skips it (bit 5), and it is no stop (bit 4)".into());
+    let map = from.map(0b11, 0b1111_1111)?;
+    for (bit, what) in [(5, "trackside skips it"), (7, "it is held")] {
+        if map >> 4 & 1 == 0 && map >> bit & 1 == 1 {
+            return Err(format!("{what} (bit {bit}), and it is no stop (bit 4)"));
+        }
     }
     from.number("NID_TP", 4, 0, u32::MAX - 1)?;
     from.free("the segment index", 1)?;

@@ -1,4 +1,5 @@
-//! Document 01, "Book and journey": their layouts (7, 8; 9 to 12) and what a load keeps of them.
+//! Document 01, "Book and journey": their layouts (7, 8; 9 to 12) and what a load keeps of them. Bit 7 of a point:
+//! document 02, Q-5.
 
 use crate::numbers::{within, Numbers};
 
@@ -153,6 +154,8 @@ pub struct Point {
     pub stop: bool,
     pub skipped: bool,
     pub end: bool,
+    /// Dispatchers hold trains there.
+    pub held: bool,
 }
 
 impl Point {
@@ -166,11 +169,14 @@ impl Point {
         stop: false,
         skipped: false,
         end: false,
+        held: false,
     };
 
     fn read(from: &mut Numbers) -> Option<Point> {
         let map = from.u8()?;
-        if map & 0b1000_0011 != 0b0000_0011 || map & 0b0011_0000 == 0b0010_0000 {
+        let stop = map & 16 != 0;
+        let (skipped, held) = (map & 32 != 0, map & 128 != 0);
+        if map & 0b11 != 0b11 || !stop && (skipped || held) {
             return None;
         }
         Some(Point {
@@ -178,9 +184,10 @@ impl Point {
             segment: from.u8()?,
             alignment: if map & 4 != 0 { within(from.u8()?, 0, 2)? } else { 0 },
             stopping: if map & 8 != 0 { within(from.u8()?, 0, 127)? } else { 0 },
-            stop: map & 16 != 0,
-            skipped: map & 32 != 0,
+            stop,
+            skipped,
             end: map & 64 != 0,
+            held,
             ..Point::EMPTY
         })
     }
@@ -347,6 +354,11 @@ impl Route {
 
     pub fn find_segment(&self, nidc: u16, nidsp: u32) -> Option<usize> {
         self.segments().iter().position(|segment| segment.nidsp == nidsp && segment.nidc == nidc)
+    }
+
+    /// It has a held stop of that name, of whatever country.
+    pub fn holds(&self, nidtp: u32) -> bool {
+        self.points().iter().any(|point| point.nidtp == nidtp && point.held)
     }
 
     pub fn find_stop(&self, nidtp: u32) -> Option<usize> {

@@ -1,6 +1,6 @@
-//! The history rule and the engagement rule of document 01, with the departure, the range and the packet of a load that
-//! is turned down of document 02 (Q-3, Q-1, Q-4), read literally over the accepted events, and the States rows run over
-//! the conditions that follow from them. Nothing here looks at an engine, but for the comparison at the end.
+//! The history rule and the engagement rule of document 01, with the departure, the range, the packet of a load that is
+//! turned down and held stops of document 02 (Q-3, Q-1, Q-4, Q-5), read literally over the accepted events, and the States
+//! rows run over the conditions that follow from them. Nothing here looks at an engine, but for the comparison at the end.
 
 use crate::calls::Call;
 use crate::engine::{Engine, Refused, Standing, AV, CO, DE, EG, FA, NA, NP, RE};
@@ -172,6 +172,18 @@ impl Moment {
     fn otn(&self) -> bool {
         self.o() && self.t() && self.n()
     }
+
+    /// The held stop that is reached by the history rule: held by the load in force.
+    fn held_stop(&self) -> Option<&JourneyPoint> {
+        let points = &self.values.load.as_ref()?.journey.points;
+        let held = |&k: &usize| points[k].held && self.standings[k] == Standing::Reached;
+        (0..points.len()).find(held).map(|k| &points[k])
+    }
+
+    /// Q_EOJ_REACHED: 0 once the End of Journey is reached or passed, else 1.
+    fn q_eoj_reached(&self) -> u8 {
+        u8::from(self.conditions & 4 != 0)
+    }
 }
 
 /// The first report from `from` on that settles the point, and whether it passes there (else it is reached there).
@@ -264,6 +276,11 @@ fn range_after(had: Option<u8>, request: i8) -> u8 {
     had.filter(|&range| range_holds(range, size)).unwrap_or_else(lowest)
 }
 
+/// The status that a packet 62 has.
+fn status(packet: &[u8]) -> Option<u8> {
+    (packet[0] == 62).then(|| packet[23] / 8)
+}
+
 /// The accepted events since power off.
 #[derive(Debug)]
 pub struct Rules {
@@ -351,6 +368,7 @@ impl Rules {
     fn pressed_at(&self, i: usize, j: usize) -> bool {
         let moments = &self.moments;
         moments[i].event == Event::Press
+            && moments[i - 1].held_stop().is_none()
             && moments[..i].iter().any(|moment| moment.event == Event::Configured)
             && moments[i - 1..j].iter().all(|moment| moment.otn() && !moment.ad())
     }
@@ -386,14 +404,75 @@ impl Rules {
         request && (before.is_none() || after != before)
     }
 
-    /// Of the packets of the last accepted call: 61 stands among them just where it is due, with the event's bytes.
+    /// Of the packets of the last accepted call: 61 stands among them just where it is due, with the event's bytes, and
+    /// so do those of a stop that is held or held no longer.
     pub fn check_packets(&self, call: &Call, packets: &[&[u8]]) -> Result<(), String> {
         let due = if self.traction_due() { vec![&call.event[2..]] } else { vec![] };
         let written: Vec<&[u8]> = packets.iter().filter(|packet| packet[0] == 61).map(|packet| &packet[17..]).collect();
-        if due == written {
+        if due != written {
+            return Err(format!("packet 61: by the rules with {due:02X?}, written with {written:02X?}"));
+        }
+        self.check_held(packets)?;
+        self.check_revoked(packets)
+    }
+
+    /// "When a held stop becomes reached, packet 62 with status 3 follows the one with status 1": the same but for the
+    /// status, and stopping data 0. No other has status 3.
+    fn check_held(&self, packets: &[&[u8]]) -> Result<(), String> {
+        let Some(last) = self.moments.last() else { return Ok(()) };
+        let held = |packet: &[u8]| last.held_stop().is_some_and(|point| packet[19..23] == point.nidtp.to_be_bytes());
+        let mut due = Vec::new();
+        for packet in packets.iter().filter(|packet| status(packet) != Some(3)) {
+            due.push(packet.to_vec());
+            if status(packet) == Some(1) && held(packet) {
+                due.push([&packet[..23], &[packet[23] + 8 * (3 - 1), 0]].concat());
+            }
+        }
+        if due == packets {
             Ok(())
         } else {
-            Err(format!("packet 61: by the rules with {due:02X?}, written with {written:02X?}"))
+            Err(format!("status 3: by the rules {due:02X?}, written {packets:02X?}"))
+        }
+    }
+
+    /// "If an accepted load comes while a held stop is reached, and the new journey has its NID_TP unheld or lacks it,
+    /// status 4 is written after packet 65, using the old point's fields but the new journey's Q_EOJ_REACHED."
+    fn revoked(&self) -> Option<Vec<u8>> {
+        let [.., before, last] = &self.moments[..] else { return None };
+        let (old, point) = (before.values.load.as_ref()?, before.held_stop()?);
+        let new = last.values.load.as_ref().filter(|_| last.event == Event::Load)?;
+        if new.journey.points.iter().any(|other| other.nidtp == point.nidtp && other.held) {
+            return None;
+        }
+        let (nidc, _) = old.journey.segments[usize::from(point.segment)];
+        let info = last.q_eoj_reached() + 2 * point.alignment.unwrap_or(0) + 8 * 4;
+        Some([&nidc.to_be_bytes()[..], &point.nidtp.to_be_bytes(), &[info, 0]].concat())
+    }
+
+    /// Of the packets of the last accepted call: the one of status 4 stands behind 65 where it is due, headed as that is,
+    /// and no other has that status.
+    fn check_revoked(&self, packets: &[&[u8]]) -> Result<(), String> {
+        let revokes = |k: &usize| status(packets[*k]) == Some(4);
+        let written: Vec<usize> = (0..packets.len()).filter(revokes).collect();
+        let as_due = match self.revoked() {
+            None => written.is_empty(),
+            Some(due) => written == [1] && packets[1][1..17] == packets[0][1..17] && packets[1][17..] == due,
+        };
+        if as_due {
+            Ok(())
+        } else {
+            Err(format!("status 4: by the rules {:02X?}, written {packets:02X?}", self.revoked()))
+        }
+    }
+
+    /// "A press while a held stop is reached is refused": in RE, and no other call is, by 20.
+    pub fn check_press(&self, call: &Call, number: Option<u8>) -> Result<(), String> {
+        let held = self.moments.last().is_some_and(|moment| moment.state == RE && moment.held_stop().is_some());
+        let refused = call.event == [8] && held;
+        if refused == (number == Some(20)) {
+            Ok(())
+        } else {
+            Err(format!("a press at a held stop: by the rules {refused}, answered {number:?}"))
         }
     }
 

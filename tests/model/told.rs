@@ -1,5 +1,6 @@
 //! Told once, in order: what the packets 62 of status 0, 1 and 2 since the load in force say of each point. That load
-//! is the last packet 65 of status 0; one of status 1 tells of a load that is turned down, and what was told goes on.
+//! is the last packet 65 of status 0; one of status 1 tells of a load that is turned down, and what was told goes on. The
+//! other statuses tell nothing of where a point stands: a 3 is looked over, also between the 1 and the 2 of a held stop.
 
 use crate::engine::{Engine, Standing};
 use crate::packets::{Content, Packet};

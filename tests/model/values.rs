@@ -34,6 +34,7 @@ pub struct JourneyPoint {
     pub stop: bool,
     pub skipped: bool,
     pub end: bool,
+    pub held: bool,
 }
 
 #[derive(Clone, PartialEq, Eq, Debug, Default)]
@@ -130,7 +131,7 @@ pub fn read_book(bytes: &[u8]) -> Option<Vec<Record>> {
 impl JourneyPoint {
     fn write(&self, to: &mut Vec<u8>) {
         let (alignment, stopping) = (self.alignment.is_some(), self.stopping.is_some());
-        let map = bits([true, true, alignment, stopping, self.stop, self.skipped, self.end, false]) ^ self.flip;
+        let map = bits([true, true, alignment, stopping, self.stop, self.skipped, self.end, self.held]) ^ self.flip;
         to.push(map ^ self.flip_map);
         if map & 1 != 0 {
             to.extend(self.nidtp.to_be_bytes());
@@ -156,9 +157,10 @@ impl JourneyPoint {
             stop: map & 16 != 0,
             skipped: map & 32 != 0,
             end: map & 64 != 0,
+            held: map & 128 != 0,
             ..JourneyPoint::default()
         };
-        (map & 0x83 == 3).then_some(point)
+        (map & 3 == 3).then_some(point)
     }
 }
 

@@ -28,8 +28,8 @@ pub const STATUSES: [&str; 9] = [
     "passed",
     "stopped",
     "departed",
-    "status 3",
-    "status 4",
+    "held",
+    "hold revoked",
     "skipped by the driver",
     "driver skip revoked",
     "status 7",
@@ -58,7 +58,7 @@ pub fn place_of_number(number: u8) -> &'static str {
     match number {
         1 | 2 => "event",
         3..=5 => "power",
-        6 => "state",
+        6 | 20 => "state",
         7 | 8 => "book",
         9..=12 => "journey",
         13 => "position",
@@ -137,6 +137,7 @@ fn point_in_words(point: &JourneyPoint) -> String {
     add(point.stopping.is_some(), format!(" stopping data {}", point.stopping.unwrap_or(0)));
     add(point.stop, " stop".into());
     add(point.skipped, " skipped".into());
+    add(point.held, " held".into());
     add(point.end, " End of Journey".into());
     words
 }

@@ -1,6 +1,7 @@
 //! `compare PLAYER COUNT SEED`: the model against a player program on so many guided random lists of calls, and the
 //! model against the literal rules after every call. On a difference it prints the shortest list found that still differs.
-//! `compare PLAYER --input FILE` takes the calls of a file instead.
+//! `compare PLAYER --input FILE` takes the calls of a file instead. So many lists that every situation that is counted must
+//! come up fail where one does not.
 
 use inputs::coverage::Coverage;
 use inputs::lists::new_ended_list;
@@ -11,6 +12,8 @@ use tools::player::run_player;
 
 /// Lists that one run of the player takes, each ended by power off.
 const BATCH: u64 = 200;
+/// From so many random lists on every situation must have come up.
+const ENOUGH: usize = 10_000;
 
 /// What the model prints, with every check around each call.
 fn checked_lines(calls: &[Call], coverage: &mut Coverage) -> Result<String, String> {
@@ -145,4 +148,9 @@ fn main() {
     }
     println!("{} lists, {} calls: model, player and rules agree", coverage.lists, coverage.calls);
     coverage.print();
+    let missing = coverage.missing();
+    if coverage.lists >= ENOUGH && !missing.is_empty() {
+        println!("no list brings up: {}", missing.join("; "));
+        std::process::exit(1);
+    }
 }

@@ -20,7 +20,7 @@ const EDGE: f64 = 7.0;
 const SEGMENTS: f64 = 88.0;
 
 /// What packet 62 tells, at its point, by its status.
-const TOLD: [&str; 7] = ["passed", "stopped", "departed", "", "", "skip", "revoked"];
+const TOLD: [&str; 7] = ["passed", "stopped", "departed", "held", "released", "skip", "revoked"];
 
 pub struct Journey<'a> {
     panels: Vec<Option<Panel<'a>>>,
@@ -181,8 +181,12 @@ impl Panel<'_> {
             svg.text("passing", GUTTER - 6.0, self.y((from + to) / 2) + 3.5, "inhibition zone");
         }
         for (k, point) in self.plan.points.iter().enumerate() {
-            let skipped = if point.trackside { ", skipped" } else { "" };
-            let words = format!("{skipped}{}", if point.end { ", end" } else { "" });
+            let mark = match (point.trackside, point.held) {
+                (true, _) => ", skipped",
+                (false, true) => ", held",
+                (false, false) => "",
+            };
+            let words = format!("{mark}{}", if point.end { ", end" } else { "" });
             let name = cut(&point.name, 22 - words.len()) + &words;
             svg.titled(&point_in_words(self.plan, point), |svg| {
                 svg.text(if point.stop { "stop" } else { "passing" }, GUTTER - 6.0, self.line(k) + 3.5, &name);
@@ -276,9 +280,11 @@ impl Panel<'_> {
         for (k, moment) in moments.iter().enumerate() {
             let told: Vec<(f64, &Written)> =
                 moment.packets.iter().filter_map(|told| Some((self.told_at(told)?, told))).collect();
-            for (y, packet) in &told {
+            for (at, (y, packet)) in told.iter().enumerate() {
                 let (x, status) = (middle(k), packet.fields.status);
-                let crowded = told.iter().any(|(other, _)| (1.0..18.0).contains(&(y - other)));
+                // the words of the point above, or of what is told of this one later, stand there
+                let crowded = told.iter().any(|(other, _)| (1.0..18.0).contains(&(y - other)))
+                    || told[at + 1..].iter().any(|(other, _)| other == y);
                 // below the mark where the front's dot is just above it
                 let dot = matches!(moment.front, Front::At(front) if (y - 18.0..*y).contains(&self.y(front)));
                 svg.titled(&packet.words, |svg| {
@@ -305,6 +311,12 @@ pub fn draw_status(svg: &mut Svg, status: u8, x: f64, y: f64) {
         0 => svg.polygon("mark passing", &[(x - 5.0, y + 4.0), (x + 5.0, y + 4.0), (x, y - 5.0)]),
         1 => svg.rect("mark stopped", x - 4.5, y - 4.5, 9.0, 9.0),
         2 => svg.circle("mark departed", x, y, 4.8),
+        3 => {
+            svg.rect("mark stopped", x - 4.5, y - 4.5, 9.0, 9.0);
+            svg.rect("bar", x - 2.6, y - 2.5, 1.8, 5.0);
+            svg.rect("bar", x + 0.8, y - 2.5, 1.8, 5.0);
+        }
+        4 => svg.rect("freed", x - 4.0, y - 4.0, 8.0, 8.0),
         5 => {
             svg.line("cross", (x - 4.0, y - 4.0), (x + 4.0, y + 4.0));
             svg.line("cross", (x - 4.0, y + 4.0), (x + 4.0, y - 4.0));

@@ -37,6 +37,7 @@ text{font-family:'Liberation Sans',Arial,Helvetica,sans-serif;font-size:10px;fil
 .stop,.passing,.segment,.told,.unknown{paint-order:stroke;stroke:#fff;stroke-width:2.6px;stroke-linejoin:round}
 .told{font-size:8px;font-weight:700;text-anchor:middle}
 .mark{stroke:#fff;stroke-width:.8}.stopped{fill:#9f1239}.departed{fill:#166534}.mark.passing{fill:#1d4ed8}
+.bar{fill:#fff}.freed{fill:#fff;stroke:#9f1239;stroke-width:2}
 .cross{stroke:#6b21a8;stroke-width:2.4}.ring{fill:#fff;stroke:#6b21a8;stroke-width:2}
 .packet{stroke:#334155;stroke-width:.8;fill:#f1f5f9}.k61{fill:#fde68a;stroke-dasharray:3 2}
 .k62{fill:#bae6fd}.k65{fill:#fff;stroke-width:2}
@@ -74,7 +75,7 @@ pub fn patterns() -> String {
 /// A form and what it stands for.
 type Entry = (&'static str, fn(&mut Svg));
 
-const ENTRIES: [Entry; 16] = [
+const ENTRIES: [Entry; 18] = [
     ("front of the train, a dot at each report", |svg| {
         svg.polyline("way", &[(0.0, 12.0), (12.0, 6.0), (26.0, 6.0)]);
         svg.circle("front", 12.0, 6.0, 3.0);
@@ -95,6 +96,8 @@ const ENTRIES: [Entry; 16] = [
     ("segment not placed", |svg| svg.rect("unplaced", 0.0, 2.0, 26.0, 12.0)),
     ("lacking", |svg| svg.rect("lacks", 0.0, 4.0, 26.0, 8.0)),
     ("62 stopped", |svg| draw_status(svg, 1, 13.0, 8.0)),
+    ("62 held: 20 refuses a press", |svg| draw_status(svg, 3, 13.0, 8.0)),
+    ("62 hold revoked", |svg| draw_status(svg, 4, 13.0, 8.0)),
     ("62 departed", |svg| draw_status(svg, 2, 13.0, 8.0)),
     ("62 passed", |svg| draw_status(svg, 0, 13.0, 8.0)),
     ("62 driver skip", |svg| draw_status(svg, 5, 13.0, 8.0)),

@@ -33,6 +33,7 @@ pub struct Point {
     pub stop: bool,
     /// Skipped by trackside.
     pub trackside: bool,
+    pub held: bool,
     pub end: bool,
 }
 
@@ -121,6 +122,7 @@ impl Plan {
             alignment: point.alignment,
             stop: point.stop,
             trackside: point.skipped,
+            held: point.held,
             end: point.end,
         };
         let points = route.points().iter().enumerate().map(point).collect();

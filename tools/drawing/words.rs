@@ -68,6 +68,9 @@ pub fn point_in_words(plan: &Plan, point: &Point) -> String {
     if point.trackside {
         words += ", skipped by trackside";
     }
+    if point.held {
+        words += ", held";
+    }
     if point.end {
         words += ", End of Journey";
     }

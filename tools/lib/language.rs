@@ -213,6 +213,7 @@ impl Scenario {
             stopping: if words.takes("data") { Some(words.number("data")?) } else { None },
             stop,
             skipped: stop && words.takes("skipped"),
+            held: stop && words.takes("held"),
             end: words.takes("end"),
             ..JourneyPoint::default()
         };

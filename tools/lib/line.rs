@@ -10,7 +10,7 @@ const FORMS: [(&str, &str); 22] = [
     ("book", "NAME [SEGMENT ..]"),
     ("journey", "NAME date n seconds n counter n [NID_OPERATIONAL hexadecimal] [NID_ATOTS n]"),
     ("through", "SEGMENT .."),
-    ("stop", "POINT [alignment front|middle|rear] [data n] [skipped] [end]"),
+    ("stop", "POINT [alignment front|middle|rear] [data n] [skipped] [held] [end]"),
     ("passing", "POINT [alignment front|middle|rear] [data n] [end]"),
     ("power", "on|off"),
     ("configured", ""),

@@ -10,9 +10,11 @@ pub const MOST: usize = 10;
 /// So many kinds of recordings are told or drawn at most.
 pub const SHOWN: usize = 40;
 
-/// What may be recorded of a point, by the status in packet 62; the last is that none of these was.
-const KINDS: [&str; 4] = ["passed", "stopped", "departed", "never passed, stopped or departed"];
-const NEVER: usize = 3;
+/// What may be recorded of a point, by the status in packet 62; the last is that none of the first three was.
+const KINDS: [&str; 6] = ["passed", "stopped", "departed", "held", "hold revoked", "never passed, stopped or departed"];
+const NEVER: usize = 5;
+/// So many statuses tell where a point stands.
+const STANDS: usize = 3;
 
 /// What was recorded of each point, a bit for each.
 #[derive(Clone, Copy, Default, PartialEq, Eq, Hash)]
@@ -28,7 +30,7 @@ impl Outcome {
     fn has(&self, kind: usize, point: usize) -> bool {
         let recorded = |kind: usize| self.0[kind] >> point & 1 == 1;
         if kind == NEVER {
-            !(0..NEVER).any(recorded)
+            !(0..STANDS).any(recorded)
         } else {
             recorded(kind)
         }

@@ -21,5 +21,9 @@ const ROWS: [&str; 16] = [
 
 /// What its row says.
 pub fn row(number: u8) -> &'static str {
-    ROWS.get(usize::from(number).wrapping_sub(1)).copied().unwrap_or("a number that no event gets")
+    match number {
+        1..=16 => ROWS[usize::from(number) - 1],
+        20 => "a press at a held stop",
+        _ => "a number that no event gets",
+    }
 }

@@ -22,6 +22,7 @@ use Rattle.conditions.specs.Conditions.{conditions}
 use Rattle.conditions.proofs.NineLaws.{conditions_zeros}
 use Rattle.state_codes.specs.Codes.{state_at}
 use Rattle.state_codes.specs.Numbers.{power_rows, state_row}
+use Rattle.hold.specs.Hold.{held_stop_in, hold_row}
 use Rattle.states.specs.States.{machine_after}
 use Rattle.states.specs.ControlGroup.{control_after}
 use Rattle.call.specs.Effect.{Effect, power_off, effect}
@@ -68,6 +69,7 @@ module _ (e : Engine) (c : Call) where
     pub is_event : event_of c.event ≡ accept event
     pub powered : power_rows (state_at e.control.state) (kind_of event) ≡ accept tt
     pub allowed : state_row (state_at e.control.state) (kind_of event) ≡ accept tt
+    pub not_held : hold_row (held_stop_in e) (kind_of event) ≡ accept tt
     pub does : effect e c.journey c.book event ≡ accept made
     pub fits : length (joined s.packets) ≤ length c.memory
     pub result : s ≡ step_by e event made
@@ -78,7 +80,8 @@ module _ (e : Engine) (c : Call) where
       let a = then_accepts (event_of c.event) _ s h in
       let b = then_accepts (power_rows (state_at e.control.state) (kind_of a.0)) _ s a.2 in
       let d = then_accepts (state_row (state_at e.control.state) (kind_of a.0)) _ s b.2 in
-      let f = then_accepts (effect e c.journey c.book a.0) _ s d.2 in
+      let k = then_accepts (hold_row (held_stop_in e) (kind_of a.0)) _ s d.2 in
+      let f = then_accepts (effect e c.journey c.book a.0) _ s k.2 in
       let t = ltb (length c.memory) (length (joined (step_by e a.0 f.0).packets)) in
       let g = then_accepts (row 16 t) _ s f.2 in
       let q : s ≡ step_by e a.0 f.0 = cc g.2 in
@@ -88,6 +91,7 @@ module _ (e : Engine) (c : Call) where
         is_event = a.1;
         powered = b.1;
         allowed = d.1;
+        not_held = k.1;
         does = f.1;
         fits = rw q (ltb-false (length c.memory) _ (row_accepts 16 t g.1));
         result = q;

@@ -1,4 +1,5 @@
--- No call writes more than 1,619 bytes, whatever engine it finds: with so much memory 16 does not come.
+-- No call writes more than 1,644 bytes, whatever engine it finds: with so much memory 16 does not come.
+use Rattle.std.specs.Prelude.{if◌then◌else◌}
 use Prim.Native.Nat.{ℕ, zero, suc, ◌+◌, ◌-◌, ◌*◌, ◌≤◌}
 use mathlib.Core.Path.{◌≡◌, refl, sym, ap, subst, ◌∙◌}
 use mathlib.Core.List.{List, [], ◌∷◌, ◌++◌, map}
@@ -12,6 +13,7 @@ use Rattle.wire.specs.Numbers.{flag}
 use Rattle.wire.specs.Judged.{Judged, then_judge, row}
 use Rattle.wire.specs.Judged.Judged.{refuse, accept}
 use Rattle.engine_value.specs.Engine.{Route, route_in, progress}
+use Rattle.engine_value.specs.declared.Point.{Point}
 use Rattle.engine_value.specs.declared.Position.{Position}
 use Rattle.engine_value.specs.declared.Progress.{Progress}
 use Rattle.engine_value.specs.declared.Engine.{Engine}
@@ -25,11 +27,11 @@ use Rattle.status_word.specs.declared.OperationalConditions.{OperationalConditio
 use Rattle.packets.proofs.PacketLaws.{length-packet_bytes, length-joined, length-one}
 use Rattle.journey.specs.declared.Head.{Head}
 use Rattle.route.specs.Route.{LoadValue, load_of}
-use Rattle.position.specs.Position.{point_count, placed, known}
+use Rattle.position.specs.Position.{point, point_count, placed, known}
 use Rattle.timing.specs.Distance as distance
 use Rattle.timing.specs.Distance.{report_from, beyond, at_stop, leaves}
 use Rattle.timing.specs.Report.{following, looked, looked_from, departs, first_looked, reported, became_reached}
-use Rattle.timing.specs.Changes.{change, passings, when, changes_of, report_changes, status_departed, status_stopped}
+use Rattle.timing.specs.Changes.{Change, change, passings, when, stopped_at, changes_of, report_changes, status_departed, status_held}
 use Rattle.position.specs.Standing.{standing, behind}
 use Rattle.position.specs.declared.Stop.{Stop}
 use Rattle.timing.proofs.Steps.{reported_stays, reported_departs, reported_looks}
@@ -38,7 +40,8 @@ use Rattle.state_codes.specs.Codes.{state_at}
 use Rattle.traction.specs.Requests.{written_content}
 use Rattle.traction.specs.View.{remembered_in}
 use Rattle.traction.proofs.Laws.{not_written}
-use Rattle.call.specs.Packets.{change_in, own_packets}
+use Rattle.hold.specs.Hold.{held_stop_in, hold_ended}
+use Rattle.call.specs.Packets.{change_in, changes_in, own_packets}
 use Rattle.look_up.specs.LookUp.{position_after, look_up}
 use Rattle.look_up.specs.declared.LookedUp.{LookedUp}
 use Rattle.call_values.specs.Rows.{offset_beyond, same_bool}
@@ -75,26 +78,35 @@ length-when : {A : Type 0} (b : Bool) (a : A) → length (when b a) ≡ flag b
 length-when true a = refl
 length-when false a = refl
 
+flag-most : (b : Bool) → flag b ≤ 1
+flag-most true = omega arith
+flag-most false = omega arith
+
+-- of a stop that becomes reached one, and one more where it is held
+length-stopped : (b : Bool) (j : Route) (p : Progress) → length (if b then stopped_at j p else []) ≤ flag b + 1
+length-stopped true j p = omega (arith, length-when (point j p.next).held (change p.next status_held p), flag-most (point j p.next).held)
+length-stopped false j p = omega arith
+
 module _ (j : Route) (r : distance.Report) (p : Progress) where
   after_most : (k : ℕ) → (looked_from j r k).next - k + flag (looked_from j r k).reached ≤ point_count j - k
   after_most k = look_most j r (point_count j - k) k
 
   -- the one that departs, those that pass and the one that is reached differ
-  changes_most : length (report_changes j r p) ≤ 64
+  points_most : flag (departs j r p) + ((reported j r p).next - first_looked j r p) + flag (became_reached j r p) ≤ 64
+  points_most = go p.reached refl (leaves j r p.next) refl
+    where
+      go : (a : Bool) → p.reached ≡ a → (b : Bool) → leaves j r p.next ≡ b
+          → flag (departs j r p) + ((reported j r p).next - first_looked j r p) + flag (became_reached j r p) ≤ 64
+      go false e b f = rw (reported_looks j r p e, e) (omega (arith, after_most p.next))
+      go true e false f = rw (reported_stays j r p e f, e, f) (omega arith)
+      go true e true f = rw (reported_departs j r p e f, e, f) (omega (arith, after_most (following p.next)))
+
+  changes_most : length (report_changes j r p) ≤ 65
   unfolding report_changes
   changes_most =
       let a = length-when (departs j r p) (change p.next status_departed (progress (first_looked j r p) false)) in
-      let b = length-when (became_reached j r p) (change (reported j r p).next status_stopped (reported j r p)) in
+      let b = length-stopped (became_reached j r p) j (reported j r p) in
       simp (length-append, length-passings) (omega (arith, points_most, a, b))
-    where
-      points_most : flag (departs j r p) + ((reported j r p).next - first_looked j r p) + flag (became_reached j r p) ≤ 64
-      points_most = go p.reached refl (leaves j r p.next) refl
-        where
-          go : (a : Bool) → p.reached ≡ a → (b : Bool) → leaves j r p.next ≡ b
-              → flag (departs j r p) + ((reported j r p).next - first_looked j r p) + flag (became_reached j r p) ≤ 64
-          go false e b f = rw (reported_looks j r p e, e) (omega (arith, after_most p.next))
-          go true e false f = rw (reported_stays j r p e f, e, f) (omega arith)
-          go true e true f = rw (reported_departs j r p e f, e, f) (omega (arith, after_most (following p.next)))
 
 -- ---- what an effect writes, but for packet 68
 
@@ -102,9 +114,16 @@ abbrev load_bytes : Option Head → ℕ
 load_bytes None = 0
 load_bytes (Some h) = 29
 
+abbrev ended : Option Point → ℕ
+ended None = 0
+ended (Some p) = 1
+
+abbrev effect_bytes : Effect → ℕ
+effect_bytes f = load_bytes f.loaded + 25 * (ended f.hold_ended + length f.changes)
+
 abbrev Small : Judged Effect → Type 0
 Small (refuse n) = Unit {0}
-Small (accept f) = load_bytes f.loaded + 25 * length f.changes ≤ 1600
+Small (accept f) = effect_bytes f ≤ 1625
 
 small_row : (n : ℕ) (b : Bool) (f : Effect) → Small (accept f) → Small (then_judge (row n b) (λ a. accept f))
 small_row n true f h = tt
@@ -117,9 +136,13 @@ small-skip e c on (Some s) = small_row 15 (behind (standing e.progress s.at) || 
 
 small-load : (e : Engine) (c : Carried) (x : Judged LoadValue) → Small (then_judge x (λ l. accept (loaded_in e c l)))
 small-load e c (refuse n) = tt
-small-load e c (accept l) = omega arith
+small-load e c (accept l) = go (hold_ended (held_stop_in e) l.route)
+  where
+    go : (o : Option Point) → 29 + 25 * (ended o + 0) ≤ 1625
+    go None = omega arith
+    go (Some p) = omega arith
 
-small-report : (e : Engine) (c : Carried) (l : LookedUp) → length (changes_of e.progress l.report) ≤ 64 → Small (position_effect e c l)
+small-report : (e : Engine) (c : Carried) (l : LookedUp) → length (changes_of (route_in e) e.progress l.report) ≤ 65 → Small (position_effect e c l)
 unfolding position_effect
 small-report e c l h = small_row 13 (offset_beyond l.segment (train_with e c).position) (reported_in e c l.report) (omega arith)
 
@@ -138,11 +161,11 @@ small e journey book event = go (role_of event) refl
     go (skip t on) q = small-skip e c on (look_up e event).stop
 
 -- a traction request changes no point and loads nothing
-request-small : (e : Engine) (journey book : List ℕ) (x : TractionRequest) (f : Effect) → effect e journey book (Event.Traction x) ≡ accept f → load_bytes f.loaded + 25 * length f.changes ≡ 0
+request-small : (e : Engine) (journey book : List ℕ) (x : TractionRequest) (f : Effect) → effect e journey book (Event.Traction x) ≡ accept f → effect_bytes f ≡ 0
 unfolding effect
 request-small e journey book x f q =
     let z : values_only e (carried (Event.Traction x)) ≡ f = cc in
-    ap (λ (f : Effect). load_bytes f.loaded + 25 * length f.changes) (sym z)
+    ap effect_bytes (sym z)
 
 -- ---- the packets
 
@@ -167,6 +190,10 @@ module _ (j : Route) (x : Position) where
   size_61 None = omega arith
   size_61 (Some r) = omega (arith, length-one (traction_brake j x r) 22 refl)
 
+length-changes : (m : Engine) (o : Option Point) (changes : List Change) → length (changes_in m o changes) ≡ ended o + length changes
+length-changes m None changes = omega (arith, length-map changes (change_in (route_in m)))
+length-changes m (Some p) changes = omega (arith, length-map changes (change_in (route_in m)))
+
 -- only a request writes a packet of its own
 own_none : (e : Engine) (event : Event) (m : Engine) → (carried event).traction ≡ None → length (joined (own_packets e event m)) ≡ 0
 own_none e event m q =
@@ -175,19 +202,19 @@ own_none e event m q =
 
 -- all but packet 68
 with_own : (e : Engine) (journey book : List ℕ) (event : Event) (f : Effect) (m : Engine) → effect e journey book event ≡ accept f
-    → load_bytes f.loaded + 25 * length f.changes + length (joined (own_packets e event m)) ≤ 1600
+    → effect_bytes f + length (joined (own_packets e event m)) ≤ 1625
 with_own e journey book event f m q = go (carried event).traction refl (traction-of event)
   where
-    go : (o : Option TractionRequest) → (carried event).traction ≡ o → OfTraction o event → load_bytes f.loaded + 25 * length f.changes + length (joined (own_packets e event m)) ≤ 1600
+    go : (o : Option TractionRequest) → (carried event).traction ≡ o → OfTraction o event → effect_bytes f + length (joined (own_packets e event m)) ≤ 1625
     go None p k =
-        let h : load_bytes f.loaded + 25 * length f.changes ≤ 1600 = subst Small q (small e journey book event) in
+        let h : effect_bytes f ≤ 1625 = subst Small q (small e journey book event) in
         omega (arith, h, own_none e event m p)
     go (Some x) p k =
         let z = request-small e journey book x f (subst (λ (v : Event). effect e journey book v ≡ accept f) k q) in
         omega (arith, z, size_61 (route_in m) m.train.position (written_content (state_at e.control.state) event (remembered_in e.traction) (remembered_in m.traction)))
 
 -- "16 shorter than this event's packets"
-pub bytes_most : (e : Engine) (journey book : List ℕ) (event : Event) (f : Effect) → effect e journey book event ≡ accept f → length (joined (step_by e event f).packets) ≤ 1619
+pub bytes_most : (e : Engine) (journey book : List ℕ) (event : Event) (f : Effect) → effect e journey book event ≡ accept f → length (joined (step_by e event f).packets) ≤ 1644
 unfolding packets_of
 bytes_most e journey book event f q =
     let m = (step_by e event f).engine in
@@ -196,8 +223,8 @@ bytes_most e journey book event f q =
     let h = with_own e journey book event f m q in
     let own = own_packets e event m in
     let due = status_due (status_in e) (status_in m) in
-    let changes = map (change_in m.load) f.changes in
-    let n : length changes ≡ length f.changes = length-map f.changes (change_in m.load) in
+    let changes = changes_in m f.hold_ended f.changes in
+    let n = length-changes m f.hold_ended f.changes in
     let last = when due (ato_status j x (status_in m).state (status_in m).conditions) in
     let a = length-joined (received j x f.loaded) (map (timing_point j x) changes ++ (own ++ last)) in
     let b = length-joined (map (timing_point j x) changes) (own ++ last) in
@@ -205,16 +232,16 @@ bytes_most e journey book event f q =
     omega (arith, h, a, b, d, size_65 j x f.loaded, size_62s j x changes, n, size_68 j x due (status_in m).state (status_in m).conditions)
 
 -- with so much memory that row does not refuse
-pub row_16 : (e : Engine) (journey book memory : List ℕ) (event : Event) (f : Effect) → effect e journey book event ≡ accept f → 1619 ≤ length memory
+pub row_16 : (e : Engine) (journey book memory : List ℕ) (event : Event) (f : Effect) → effect e journey book event ≡ accept f → 1644 ≤ length memory
     → row 16 (ltb (length memory) (length (joined (step_by e event f).packets))) ≡ accept tt
 row_16 e journey book memory event f q h = rw (le-ltb (length memory) (length (joined (step_by e event f).packets)) (omega (arith, bytes_most e journey book event f q)))
 
 -- every call, accepted or refused, writes no more
-pub call_bytes_most : (e : Engine) (c : Call) → bytes_written (step_of e c).answer ≤ 1619
+pub call_bytes_most : (e : Engine) (c : Call) → bytes_written (step_of e c).answer ≤ 1644
 unfolding step_of outcome_of
 call_bytes_most e c = go (judged e c) refl
   where
-    go : (j : Judged Step) → judged e c ≡ j → bytes_written (outcome_of e c.memory j).answer ≤ 1619
+    go : (j : Judged Step) → judged e c ≡ j → bytes_written (outcome_of e c.memory j).answer ≤ 1644
     go (refuse n) q = omega (arith, (refused_fits (route_in e) e.train.position n (length c.memory)).1)
     go (accept s) q =
         let t = taken e c s q in

@@ -1,5 +1,5 @@
 -- Values from documents 01 and 02 that the definitions must give. What Trials and Further show from the bytes of calls is not shown again.
-use Rattle.std.specs.Prelude.{ℕ, ◌≡◌, List, [], ◌∷◌, map, Bool, true, false, replicate, Some, None}
+use Rattle.std.specs.Prelude.{ℕ, ◌≡◌, List, [], ◌∷◌, map, Bool, true, false, replicate, drop, Some, None}
 use Rattle.wire.specs.Numbers.{bytes_of}
 use Rattle.wire.specs.Judged.{Judged, ◌>>=◌}
 use Rattle.wire.specs.Judged.Judged.{refuse, accept}
@@ -23,6 +23,7 @@ use Rattle.packets.specs.declared.Header.{Header}
 use Rattle.packets.specs.declared.Packet.{Packet}
 use Rattle.journey.specs.declared.Head.{Head}
 use Rattle.route.specs.Route.{LoadValue}
+use Rattle.position.specs.Position.{point}
 use Rattle.timing.specs.Changes.{change}
 use Rattle.timing.specs.declared.Reported.{Reported}
 use Rattle.call_values.specs.Call.{Call}
@@ -38,7 +39,7 @@ use Rattle.call.specs.View.{shown_view}
 
 abbrev pub point_at : ℕ → ℕ → ℕ → Bool → Bool → Point
 point_at t place alignment stop trackside =
-    record { nidtp = t; place = place; reach = 150; nidc = 17; alignment = alignment; stopping = 0; stop = stop; trackside = trackside; placed = true; spare = 0 }
+    record { nidtp = t; place = place; reach = 150; nidc = 17; alignment = alignment; stopping = 0; stop = stop; trackside = trackside; held = false; placed = true }
 
 abbrev pub segment : Segment
 segment = record { nidsp = 500; start = 0; length = 100000; zone_count = 0; zones = blank_segment.zones; nidc = 17; booked = true; placed = true }
@@ -82,8 +83,8 @@ abbrev pub in_state : ℕ → Progress → Engine
 in_state s p = engine journey skips (train 15000 7 400) p (inputs 1 2 20) (control s false true)
 
 -- 7001 passed, 7002 targeted; in AV
-abbrev pub held : Engine
-held = in_state 3 (progress 1 false)
+abbrev pub under_way : Engine
+under_way = in_state 3 (progress 1 false)
 
 -- in segment 18/600, which is not the journey's; without a journey; engaged, one cm before the End of Journey
 abbrev pub elsewhere : Engine
@@ -128,8 +129,31 @@ another = record {
 abbrev pub head : Head
 head = record { operational = 0x9ABCDEF0; seconds = 2; date = 1; atots = 5; counter = 3 }
 
+abbrev pub loading_of : Route → LoadValue
+loading_of j = record { route = j; head = head }
+
 abbrev pub loading : LoadValue
-loading = record { route = another; head = head }
+loading = loading_of another
+
+-- ---- the first journey with 7001 held, and the train standing there; a journey of a point at 1 m, the End of Journey, which the train has passed
+
+abbrev pub holding : Route
+holding = record {
+  load = journey.load;
+  points = record { nidtp = 7001; place = 10000; reach = 150; nidc = 17; alignment = 0; stopping = 0; stop = true; trackside = false; held = true; placed = true }
+      ∷ drop 1 journey.points;
+  segments = segment ∷ [];
+}
+
+abbrev pub at_hold : ℕ → Progress → Engine
+at_hold s p = engine holding skips (train 10000 0 400) p (inputs 0 0 31) (control s false true)
+
+abbrev pub passed_by : Route
+passed_by = record {
+  load = record { operational = 0x12345678; valid = true; ending = 0; point_count = 1; segment_count = 1 };
+  points = point_at 9001 100 0 false false ∷ [];
+  segments = segment ∷ [];
+}
 
 -- ---- packets
 
@@ -188,7 +212,7 @@ skip t = 12 ∷ bytes_of 4 t
 -- what an event does that only brings values: the points are not judged
 abbrev pub values : Train → Inputs → Effect
 values x i =
-    record { journey = kept; train = x; progress = progress 1 false; inputs = i; control = control 3 false true; loaded = None; changes = []; reached = false }
+    record { journey = kept; train = x; progress = progress 1 false; inputs = i; control = control 3 false true; loaded = None; hold_ended = None; changes = []; reached = false }
 
 abbrev pub skipping : ℕ → Bool → ℕ → Effect
 skipping k on status = record {
@@ -198,16 +222,17 @@ skipping k on status = record {
   inputs = inputs 1 2 20;
   control = control 3 false true;
   loaded = None;
+  hold_ended = None;
   changes = change k status (progress 1 false) ∷ [];
   reached = false;
 }
 
 pub record Anchors : Type 0 where
   -- "Mode, lever, reports, position and train length come from the latest accepted event since power off that carries them"
-  pub brought : map (does held) (Mode 0 ∷ Lever 1 ∷ Reports 31 ∷ Length 9 ∷ [])
+  pub brought : map (does under_way) (Mode 0 ∷ Lever 1 ∷ Reports 31 ∷ Length 9 ∷ [])
       ≡ accept (values (train 15000 7 400) (inputs 0 2 20)) ∷ accept (values (train 15000 7 400) (inputs 1 1 20))
       ∷ accept (values (train 15000 7 400) (inputs 1 2 31)) ∷ accept (values (train 15000 7 9) (inputs 1 2 20)) ∷ []
-  pub nothing_brought : map (does held) (PowerOn ∷ Configured ∷ Fault ∷ Press ∷ Request (request 5 6) ∷ []) ≡ replicate 5 (accept (values (train 15000 7 400) (inputs 1 2 20)))
+  pub nothing_brought : map (does under_way) (PowerOn ∷ Configured ∷ Fault ∷ Press ∷ Request (request 5 6) ∷ []) ≡ replicate 5 (accept (values (train 15000 7 400) (inputs 1 2 20)))
   -- no event but a position report, a load and power off moves the points; no event but the rows of the states uses the press up
   pub points_kept : map (λ (v : Event). does waiting v >>= (λ (f : Effect). accept f.progress))
       (Fault ∷ Reports 0 ∷ Mode 1 ∷ Lever 1 ∷ Press ∷ Length 9 ∷ Skip 7005 ∷ Revoke 7004 ∷ Request (request 5 6) ∷ []) ≡ replicate 9 (accept (progress 0 true))
@@ -215,14 +240,14 @@ pub record Anchors : Type 0 where
       (Mode 1 ∷ PositionReport (at 5 6) ∷ Length 9 ∷ Skip 7005 ∷ Revoke 7004 ∷ []) ≡ replicate 5 (accept (control 4 true true))
   pub press_loaded : (loaded_in waiting (carried Load) loading).control ≡ control 4 true true
   -- "Other kinds ignore the lent profiles."
-  pub ignored : map (λ (v : Event). refusal (does held v))
+  pub ignored : map (λ (v : Event). refusal (does under_way v))
       (PowerOn ∷ Configured ∷ PowerOff ∷ Fault ∷ Reports 0 ∷ Mode 0 ∷ Lever 0 ∷ Press ∷ PositionReport (at 5 6) ∷ Length 9 ∷ Load ∷ Skip 7005 ∷ Revoke 7004 ∷ Request (request 5 6) ∷ [])
       ≡ 0 ∷ 0 ∷ 0 ∷ 0 ∷ 0 ∷ 0 ∷ 0 ∷ 0 ∷ 0 ∷ 0 ∷ 7 ∷ 0 ∷ 0 ∷ 0 ∷ []
   -- "Power off returns to fresh.", and writes the packet 68 of it alone
-  pub power_off_lem : does held PowerOff >>= judge held PowerOff (replicate 19 0)
+  pub power_off_lem : does under_way PowerOff >>= judge under_way PowerOff (replicate 19 0)
       ≡ accept (record { engine = fresh; packets = packet68 (record { nidc = 0; nidsp = 0; offset = 16777215; speed = 0; operational = 0xFFFFFFFF }) 0 128 ∷ [] })
   -- "the 62s as they arise": 7002 departs, 7003 is passed, 7004 is reached
-  pub report : reported_in held (carried (PositionReport (at 5 6))) (reporting (progress 3 true) 2 true true)
+  pub report : reported_in under_way (carried (PositionReport (at 5 6))) (reporting (progress 3 true) 2 true true)
       ≡ record {
         journey = kept;
         train = train 5 6 400;
@@ -230,13 +255,14 @@ pub record Anchors : Type 0 where
         inputs = inputs 1 2 20;
         control = control 3 false true;
         loaded = None;
+        hold_ended = None;
         changes = change 1 2 (progress 2 false) ∷ change 2 0 (progress 3 false) ∷ change 3 1 (progress 3 true) ∷ [];
         reached = true;
       }
   -- at a stop that was reached before, no point became reached
-  pub standing_still : (reported_in held (carried (PositionReport (at 5 6))) (reporting (progress 1 true) 1 false false)).reached ≡ false
-  -- "13 journey segment that is in the book, offset defined and beyond its length": of the new position, not of the one held
-  pub row_13 : map (λ (x : Position). refusal (does held (PositionReport x))) (at 100000 6 ∷ at 100001 6 ∷ at 16777214 6 ∷ at 16777215 6 ∷ outside ∷ [])
+  pub standing_still : (reported_in under_way (carried (PositionReport (at 5 6))) (reporting (progress 1 true) 1 false false)).reached ≡ false
+  -- "13 journey segment that is in the book, offset defined and beyond its length": of the new position, not of the one before
+  pub row_13 : map (λ (x : Position). refusal (does under_way (PositionReport x))) (at 100000 6 ∷ at 100001 6 ∷ at 16777214 6 ∷ at 16777215 6 ∷ outside ∷ [])
       ≡ 0 ∷ 13 ∷ 13 ∷ 0 ∷ 0 ∷ []
   pub row_13_elsewhere : map (λ (x : Position). refusal (does elsewhere (PositionReport x))) (at 100000 6 ∷ at 100001 6 ∷ outside ∷ []) ≡ 0 ∷ 13 ∷ 0 ∷ []
   -- "Load, judged on the new journey and book with no driver skip": 8003 has d > R, 8004 not; "Driver skips are cleared."
@@ -248,6 +274,7 @@ pub record Anchors : Type 0 where
         inputs = inputs 1 2 20;
         control = control 3 false true;
         loaded = Some head;
+        hold_ended = None;
         changes = [];
         reached = false;
       }
@@ -256,28 +283,29 @@ pub record Anchors : Type 0 where
       ≡ packet65 (header 15000 7 0x9ABCDEF0) ∷ packet68 (header 15000 7 0x9ABCDEF0) 2 252 ∷ []
   -- "14 no stop of that name; 15 point reached or passed, driver skip already given, or no driver skip to revoke (a trackside skip counts for neither)":
   -- 7001 is passed, 7002 skipped by trackside, 7003 no stop, 7004 skipped by the driver, 7005 a stop ahead
-  pub skips_given : map (λ (t : ℕ). refusal (does held (Skip t))) (7001 ∷ 7002 ∷ 7003 ∷ 7004 ∷ 7005 ∷ 7006 ∷ []) ≡ 15 ∷ 0 ∷ 14 ∷ 15 ∷ 0 ∷ 14 ∷ []
-  pub skips_revoked : map (λ (t : ℕ). refusal (does held (Revoke t))) (7001 ∷ 7002 ∷ 7003 ∷ 7004 ∷ 7005 ∷ 7006 ∷ []) ≡ 15 ∷ 15 ∷ 14 ∷ 0 ∷ 15 ∷ 14 ∷ []
+  pub skips_given : map (λ (t : ℕ). refusal (does under_way (Skip t))) (7001 ∷ 7002 ∷ 7003 ∷ 7004 ∷ 7005 ∷ 7006 ∷ []) ≡ 15 ∷ 0 ∷ 14 ∷ 15 ∷ 0 ∷ 14 ∷ []
+  pub skips_revoked : map (λ (t : ℕ). refusal (does under_way (Revoke t))) (7001 ∷ 7002 ∷ 7003 ∷ 7004 ∷ 7005 ∷ 7006 ∷ []) ≡ 15 ∷ 15 ∷ 14 ∷ 0 ∷ 15 ∷ 14 ∷ []
   -- 7005 ahead, targeted, reached, passed; 7004 likewise
   pub skip_ahead : map (λ (p : Progress). refusal (does (in_state 3 p) (Skip 7005))) (progress 3 true ∷ progress 4 false ∷ progress 4 true ∷ progress 5 false ∷ [])
       ≡ 0 ∷ 0 ∷ 15 ∷ 15 ∷ []
   pub revoke_ahead : map (λ (p : Progress). refusal (does (in_state 3 p) (Revoke 7004))) (progress 2 true ∷ progress 3 false ∷ progress 3 true ∷ progress 4 false ∷ [])
       ≡ 0 ∷ 0 ∷ 15 ∷ 15 ∷ []
   -- "5 driver skip, 6 skip revoked"
-  pub given : does held (Skip 7005) ≡ accept (skipping 4 true 5)
-  pub revoked : does held (Revoke 7004) ≡ accept (skipping 3 false 6)
+  pub given : does under_way (Skip 7005) ≡ accept (skipping 4 true 5)
+  pub revoked : does under_way (Revoke 7004) ≡ accept (skipping 3 false 6)
   -- "A driver skip lasts until revoked, a load or power off."
-  pub skips_after : map (skips_after held) (kept ∷ cleared ∷ replaced another ∷ skip_set 4 true ∷ skip_set 3 false ∷ [])
+  pub skips_after : map (skips_after under_way) (kept ∷ cleared ∷ replaced another ∷ skip_set 4 true ∷ skip_set 3 false ∷ [])
       ≡ skips ∷ replicate 64 false ∷ replicate 64 false ∷ (false ∷ false ∷ false ∷ true ∷ true ∷ []) ∷ replicate 5 false ∷ []
-  pub route_after_lem : map (route_after held) (kept ∷ cleared ∷ replaced another ∷ skip_set 4 true ∷ []) ≡ journey ∷ no_route ∷ another ∷ journey ∷ []
+  pub route_after_lem : map (route_after under_way) (kept ∷ cleared ∷ replaced another ∷ skip_set 4 true ∷ []) ≡ journey ∷ no_route ∷ another ∷ journey ∷ []
   -- the engine with an effect's values
-  pub stores : stored held (record {
+  pub stores : stored under_way (record {
     journey = replaced another;
     train = train 5 6 9;
     progress = progress 4 true;
     inputs = inputs 0 1 31;
     control = control 4 true false;
     loaded = Some head;
+    hold_ended = None;
     changes = [];
     reached = false;
   })
@@ -285,11 +313,29 @@ pub record Anchors : Type 0 where
   -- conditions 2 to 8 with reports 20, the End of Journey being the third point of five: none passed, it is targeted, reached, passed; all passed
   pub nine : map (λ (p : Progress). conditions_number (conditions_in (in_state 3 p))) (progress 0 false ∷ progress 2 false ∷ progress 2 true ∷ progress 3 false ∷ progress 5 false ∷ [])
       ≡ 252 ∷ 252 ∷ 248 ∷ 248 ∷ 240 ∷ []
-  pub status : status_in held ≡ record { state = 3; conditions = numbered 252; speed = 7 }
+  pub status : status_in under_way ≡ record { state = 3; conditions = numbered 252; speed = 7 }
   -- "Q_EOJ_REACHED (after that change; 0 once the End of Journey is reached or passed, else 1)": the standing of the third point, whichever changed
-  pub told : map (change_in held.load)
+  pub told : map (change_in journey)
       (change 1 0 (progress 2 false) ∷ change 2 0 (progress 3 false) ∷ change 2 1 (progress 2 true) ∷ change 4 5 (progress 1 true) ∷ [])
-      ≡ point_change 1 0 true ∷ point_change 2 0 false ∷ point_change 2 1 false ∷ point_change 4 5 true ∷ []
+      ≡ point_change (point journey 1) 0 true ∷ point_change (point journey 2) 0 false ∷ point_change (point journey 2) 1 false
+      ∷ point_change (point journey 4) 5 true ∷ []
+  -- 02, Q-5: "When a held stop becomes reached, packet 62 with status 3 follows the one with status 1."
+  pub reaches_held : writes (at_hold 4 (progress 0 false)) (PositionReport (at 10000 0))
+      ≡ accept (packet62 (header 10000 0 0x12345678) 7001 1 1 ∷ packet62 (header 10000 0 0x12345678) 7001 1 3 ∷ [])
+  -- it stays reached: nothing more; and "20, a press at a held stop, checked right after 6": in AV 6; targeted, or reached and not held, no row refuses
+  pub stays_held : writes (at_hold 4 (progress 0 true)) (PositionReport (at 10000 0)) ≡ accept []
+  pub row_20 : map (λ (e : Engine). refusal (judged e (call (8 ∷ []) 0)))
+      (at_hold 4 (progress 0 true) ∷ at_hold 3 (progress 0 true) ∷ at_hold 4 (progress 0 false) ∷ waiting ∷ []) ≡ 20 ∷ 6 ∷ 0 ∷ 0 ∷ []
+  -- "If an accepted load comes while a held stop is reached, and the new journey has its NID_TP unheld or lacks it": unheld, lacking it, held
+  pub load_ends : map (λ (j : Route). (loaded_in (at_hold 4 (progress 0 true)) (carried Load) (loading_of j)).hold_ended) (journey ∷ another ∷ holding ∷ [])
+      ≡ Some (point holding 0) ∷ Some (point holding 0) ∷ None ∷ []
+  pub load_targeted : (loaded_in (at_hold 4 (progress 0 false)) (carried Load) (loading_of another)).hold_ended ≡ None
+  -- "status 4 is written after packet 65, using the old point's fields but the new journey's Q_EOJ_REACHED": its header, too; 8001 to 8003 are behind
+  -- the train's front
+  pub load_writes : (step_by (at_hold 4 (progress 0 true)) Load (loaded_in (at_hold 4 (progress 0 true)) (carried Load) loading)).packets
+      ≡ packet65 (header 10000 0 0x9ABCDEF0) ∷ packet62 (header 10000 0 0x9ABCDEF0) 7001 1 4 ∷ []
+  pub load_ends_all : (step_by (at_hold 4 (progress 0 true)) Load (loaded_in (at_hold 4 (progress 0 true)) (carried Load) (loading_of passed_by))).packets
+      ≡ packet65 (header 10000 0 0x12345678) ∷ packet62 (header 10000 0 0x12345678) 7001 0 4 ∷ packet68 (header 10000 0 0x12345678) 2 499 ∷ []
   -- "EG: .. else not O or not T: DE", by the conditions after the points moved: the End of Journey is passed
   pub end_in_EG : does engaged (PositionReport (at 30001 9)) >>= judge engaged (PositionReport (at 30001 9)) (replicate 44 0)
       ≡ accept (record {
@@ -317,8 +363,8 @@ pub record Anchors : Type 0 where
   -- a packet 61 has 22 bytes
   pub row_16_request : map (λ (n : ℕ). refusal (judged (engaged_in 5 0 no_traction) (call (14 ∷ 22 ∷ 1 ∷ 2 ∷ 7 ∷ 0 ∷ 4 ∷ []) n))) (0 ∷ 21 ∷ 22 ∷ []) ≡ 16 ∷ 16 ∷ 0 ∷ []
   -- "16 shorter than this event's packets": a 68 has 19 bytes, a 62 and a 68 have 44
-  pub row_16 : map (λ (n : ℕ). refusal (judged held (call (4 ∷ []) n))) (0 ∷ 18 ∷ 19 ∷ 20 ∷ []) ≡ 16 ∷ 16 ∷ 0 ∷ 0 ∷ []
-  pub row_16_two : map (λ (n : ℕ). refusal (judged held (call (skip 7005) n))) (25 ∷ 43 ∷ 44 ∷ []) ≡ 16 ∷ 16 ∷ 0 ∷ []
+  pub row_16 : map (λ (n : ℕ). refusal (judged under_way (call (4 ∷ []) n))) (0 ∷ 18 ∷ 19 ∷ 20 ∷ []) ≡ 16 ∷ 16 ∷ 0 ∷ 0 ∷ []
+  pub row_16_two : map (λ (n : ℕ). refusal (judged under_way (call (skip 7005) n))) (25 ∷ 43 ∷ 44 ∷ []) ≡ 16 ∷ 16 ∷ 0 ∷ []
   -- "1 empty ..; 2 field out of range", "3 NP and kind not 1", before what follows; power on, accepted, would write a 68
   pub in_NP : refusals 0 ([] ∷ (5 ∷ 32 ∷ []) ∷ (2 ∷ []) ∷ (3 ∷ []) ∷ (8 ∷ []) ∷ (11 ∷ []) ∷ beyond_end ∷ skip 7006 ∷ (1 ∷ []) ∷ [])
       ≡ 1 ∷ 2 ∷ 3 ∷ 3 ∷ 3 ∷ 3 ∷ 3 ∷ 3 ∷ 16 ∷ []
@@ -333,5 +379,5 @@ pub record Anchors : Type 0 where
   -- where a point stands: 3 passed, 2 reached, 1 targeted, 0 not used and where there is no such point
   pub stands : map (standing_in (in_state 3 (progress 2 true))) (0 ∷ 1 ∷ 2 ∷ 3 ∷ 4 ∷ 5 ∷ []) ≡ 3 ∷ 3 ∷ 2 ∷ 0 ∷ 0 ∷ 0 ∷ []
   pub stands_past : map (standing_in (in_state 3 (progress 5 false))) (3 ∷ 4 ∷ 5 ∷ 6 ∷ []) ≡ 3 ∷ 3 ∷ 0 ∷ 0 ∷ []
-  pub shows : shown_view held ≡ record { state = 3; request = true; conditions = 252; point_count = 5; standings = 3 ∷ 1 ∷ replicate 62 0 }
+  pub shows : shown_view under_way ≡ record { state = 3; request = true; conditions = 252; point_count = 5; standings = 3 ∷ 1 ∷ replicate 62 0 }
   pub shows_fresh : shown_view fresh ≡ record { state = 0; request = false; conditions = 128; point_count = 0; standings = replicate 64 0 }

@@ -1,5 +1,5 @@
 -- The meaning of a call: the table of numbers from top to bottom, else the new engine, its answer and the output memory.
-use Rattle.std.specs.Prelude.{ℕ, List, ◌++◌, map, length, drop, ltb}
+use Rattle.std.specs.Prelude.{ℕ, List, ◌++◌, length, drop, ltb}
 use Rattle.wire.specs.Judged.{Judged, row, ◌>>=◌, ◌>>◌}
 use Rattle.wire.specs.Judged.Judged.{refuse, accept}
 use Rattle.engine_value.specs.Engine.{route_in, with_control}
@@ -15,13 +15,14 @@ use Rattle.position.specs.Standing.{standing}
 use Rattle.state_codes.specs.Codes.{state_at}
 use Rattle.conditions.specs.Conditions.{conditions}
 use Rattle.state_codes.specs.Numbers.{power_rows, state_row}
+use Rattle.hold.specs.Hold.{held_stop_in, hold_row}
 use Rattle.states.specs.ControlGroup.{control_after}
 use Rattle.traction.specs.Requests.{remembered_after}
 use Rattle.traction.specs.View.{remembered_in, traction_of}
 use Rattle.call_values.specs.Call.{Call, Answer, refused, accepted}
 use Rattle.call_values.specs.declared.Accepted.{Accepted}
 use Rattle.call_values.specs.Packets.{Status, packets_of, packets_refused}
-use Rattle.call.specs.Packets.{change_in, own_packets}
+use Rattle.call.specs.Packets.{changes_in, own_packets}
 use Rattle.call.specs.Effect.{Effect, effect, stored}
 
 -- what a call answers and leaves
@@ -45,7 +46,7 @@ pub record Step : Type 0 where
 abbrev pub step_to : Engine → Event → Effect → Engine → Step
 step_to e event f m = record {
   engine = m;
-  packets = packets_of (route_in m) m.train.position f.loaded (map (change_in m.load) f.changes) (own_packets e event m) (status_in e) (status_in m);
+  packets = packets_of (route_in m) m.train.position f.loaded (changes_in m f.hold_ended f.changes) (own_packets e event m) (status_in e) (status_in m);
 }
 
 -- engine m with the control group after the event, and with what is then remembered of the traction requests
@@ -73,6 +74,7 @@ judged e c = do
   event ← event_of c.event
   power_rows (state_at e.control.state) (kind_of event)
   state_row (state_at e.control.state) (kind_of event)
+  hold_row (held_stop_in e) (kind_of event)
   f ← effect e c.journey c.book event
   judge e event c.memory f
 

@@ -3,6 +3,7 @@ use Rattle.std.specs.Prelude.{ℕ, List, [], ◌∷◌, Bool, false, ◌||◌, s
 use Rattle.wire.specs.Judged.{Judged, row, ◌>>=◌, ◌>>◌}
 use Rattle.wire.specs.Judged.Judged.{refuse, accept}
 use Rattle.engine_value.specs.Engine.{Route, Value, route_in, no_route, no_skips, number_in, train_of, inputs_of, progress, fresh_train, fresh_inputs, fresh_control}
+use Rattle.engine_value.specs.declared.Point.{Point}
 use Rattle.engine_value.specs.declared.Progress.{Progress}
 use Rattle.engine_value.specs.declared.Train.{Train}
 use Rattle.engine_value.specs.declared.Inputs.{Inputs}
@@ -18,6 +19,7 @@ use Rattle.timing.specs.Load.{target}
 use Rattle.timing.specs.Changes.{Change, change, changes_of, status_skipped, status_revoked}
 use Rattle.timing.specs.declared.Reported.{Reported}
 use Rattle.call_values.specs.Rows.{offset_beyond, same_bool}
+use Rattle.hold.specs.Hold.{held_stop_in, hold_ended}
 use Rattle.look_up.specs.LookUp.{look_up}
 use Rattle.look_up.specs.declared.LookedUp.{LookedUp}
 
@@ -27,8 +29,8 @@ pub data JourneyAfter : Type 0 where
   replaced : Route → JourneyAfter
   skip_set : ℕ → Bool → JourneyAfter
 
--- what an event does to the engine, group by group; stamp and NID_ATOTS of the journey that it loaded, the points that changed, and whether
--- one became reached
+-- what an event does to the engine, group by group; stamp and NID_ATOTS of the journey that it loaded, the stop whose hold that load ended, the points
+-- that changed, and whether one became reached
 pub record Effect : Type 0 where
   pub journey : JourneyAfter
   pub train : Train
@@ -36,6 +38,7 @@ pub record Effect : Type 0 where
   pub inputs : Inputs
   pub control : Control
   pub loaded : Option Head
+  pub hold_ended : Option Point
   pub changes : List Change
   pub reached : Bool
 
@@ -56,12 +59,12 @@ inputs_with e c = inputs_of (numbers_with e c)
 -- an event that only brings values, or nothing
 abbrev pub values_only : Engine → Carried → Effect
 values_only e c =
-    record { journey = kept; train = train_with e c; progress = e.progress; inputs = inputs_with e c; control = e.control; loaded = None; changes = []; reached = false }
+    record { journey = kept; train = train_with e c; progress = e.progress; inputs = inputs_with e c; control = e.control; loaded = None; hold_ended = None; changes = []; reached = false }
 
 -- "Power off returns to fresh."
 abbrev pub power_off : Effect
 power_off =
-    record { journey = cleared; train = fresh_train; progress = progress 0 false; inputs = fresh_inputs; control = fresh_control; loaded = None; changes = []; reached = false }
+    record { journey = cleared; train = fresh_train; progress = progress 0 false; inputs = fresh_inputs; control = fresh_control; loaded = None; hold_ended = None; changes = []; reached = false }
 
 -- what a position report tells of the points
 abbrev pub reported_in : Engine → Carried → Reported → Effect
@@ -73,7 +76,8 @@ reported_in e c r =
       inputs = inputs_with e c;
       control = e.control;
       loaded = None;
-      changes = changes_of e.progress r;
+      hold_ended = None;
+      changes = changes_of (route_in e) e.progress r;
       reached = r.reached;
     }
 
@@ -93,6 +97,7 @@ loaded_in e c l =
       inputs = inputs_with e c;
       control = e.control;
       loaded = Some l.head;
+      hold_ended = hold_ended (held_stop_in e) l.route;
       changes = [];
       reached = false;
     }
@@ -113,6 +118,7 @@ skipped_in e c k on =
       inputs = inputs_with e c;
       control = e.control;
       loaded = None;
+      hold_ended = None;
       changes = change k (if on then status_skipped else status_revoked) e.progress ∷ [];
       reached = false;
     }

@@ -1,8 +1,8 @@
 -- By computation.
 use mathlib.Core.Path.{refl}
 use Rattle.call.proofs.Computed.{computed}
-use Rattle.call_trials.specs.Engines.{on, failed, started, ready, pressed, driving, degraded, stopped, near_b, ended}
-use Rattle.call_trials.specs.Examples.{Refused, RefusedLoads, TurnedDown, RefusedLater, States, Conditions, Points, Loads, Requests}
+use Rattle.call_trials.specs.Engines.{on, failed, started, ready, pressed, driving, degraded, stopped, near_b, ended, before_hold, at_hold}
+use Rattle.call_trials.specs.Examples.{Refused, RefusedLoads, TurnedDown, Held, RefusedLater, States, Conditions, Points, Loads, Requests}
 
 pub refused : Refused
 unfolding computed on failed started ready driving
@@ -67,7 +67,7 @@ refused_loads = record {
   nidtp_beyond = refl;
   alignment_3 = refl;
   stopping_beyond = refl;
-  map_of_a_point = refl;
+  held_passing_point = refl;
   skipped_passing_point = refl;
   journey_cut = refl;
   journey_longer = refl;
@@ -105,6 +105,36 @@ turned_down = record {
   bad_in_NP = refl;
   bad_in_FA = refl;
   event_longer = refl;
+}
+
+pub held : Held
+unfolding computed on ready before_hold at_hold
+held = record {
+  reached = record { answer = refl; memory = refl };
+  reached_in_EG = record { answer = refl; memory = refl };
+  departed = record { answer = refl; memory = refl };
+  held_and_skipped = record { answer = refl; memory = refl };
+  press_there = refl;
+  press_creeping = refl;
+  press_unknown = refl;
+  press_in_AV = refl;
+  press_unheld = record { answer = refl; memory = refl };
+  press_before = record { answer = refl; memory = refl };
+  press_pending = record { answer = refl; memory = refl };
+  unheld = record { answer = refl; memory = refl };
+  passing = record { answer = refl; memory = refl };
+  skipped = record { answer = refl; memory = refl };
+  lacking = record { answer = refl; memory = refl };
+  targeted = record { answer = refl; memory = refl };
+  kept = record { answer = refl; memory = refl };
+  kept_press = record { answer = refl; memory = refl };
+  kept_again = record { answer = refl; memory = refl };
+  kept_skipped = record { answer = refl; memory = refl };
+  turned_down_there = refl;
+  off_there = record { answer = refl; memory = refl };
+  fault_there = record { answer = refl; memory = refl };
+  bytes_49 = refl;
+  bytes_53 = refl;
 }
 
 pub refused_later : RefusedLater

@@ -1,5 +1,5 @@
 -- The engine that the load leaves, and those a few calls later, each as a whole value: the examples start from them.
-use Rattle.std.specs.Prelude.{ℕ, ◌≡◌, List, [], ◌∷◌, Bool, true, false, replicate}
+use Rattle.std.specs.Prelude.{ℕ, ◌≡◌, List, [], ◌∷◌, Bool, true, false, replicate, drop}
 use Rattle.engine_value.specs.Engine.{Route, blank_zone, blank_segment, blank_point, no_skips, no_route, no_traction, fresh_position, fresh, progress}
 use Rattle.engine_value.specs.declared.Segment.{Segment}
 use Rattle.engine_value.specs.declared.Point.{Point}
@@ -9,7 +9,8 @@ use Rattle.engine_value.specs.declared.Inputs.{Inputs}
 use Rattle.engine_value.specs.declared.Control.{Control}
 use Rattle.engine_value.specs.declared.Engine.{Engine}
 use Rattle.call.specs.Call.{step_of}
-use Rattle.call.specs.Trials.{after_each, power_on, configured, reports, press, mode, train_length}
+use Rattle.call.specs.Trials.{loads, after_each, power_on, configured, reports, press, mode, train_length}
+use Rattle.call_trials.specs.Journey.{journey_held, book}
 use Rattle.call_trials.specs.Calls.{in_a, in_b, report, fault, power_off, load}
 
 -- ---- the journey placed by the book
@@ -42,8 +43,8 @@ placed_point nidtp place reach nidc alignment stopping stop trackside = record {
   stopping = stopping;
   stop = stop;
   trackside = trackside;
+  held = false;
   placed = true;
-  spare = 0;
 }
 
 abbrev pub points : List Point
@@ -53,16 +54,20 @@ points =
     ∷ placed_point 7003 60000 200 17 2 0 true true
     ∷ placed_point 7004 110000 100 34 2 0x11 true false
     ∷ placed_point 7005 175000 300 34 0 0 true false
-    ∷ record { nidtp = 7006; place = 0; reach = 0; nidc = 34; alignment = 0; stopping = 0; stop = true; trackside = false; placed = false; spare = 0 }
+    ∷ record { nidtp = 7006; place = 0; reach = 0; nidc = 34; alignment = 0; stopping = 0; stop = true; trackside = false; held = false; placed = false }
     ∷ replicate 58 blank_point
 
 -- the End of Journey is 7004, the fourth
+abbrev route_of : List Point → Route
+route_of ps = record { load = record { operational = 0x12345678; valid = true; ending = 3; point_count = 6; segment_count = 3 }; points = ps; segments = segments }
+
 abbrev pub route : Route
-route = record {
-  load = record { operational = 0x12345678; valid = true; ending = 3; point_count = 6; segment_count = 3 };
-  points = points;
-  segments = segments;
-}
+route = route_of points
+
+-- with 7001 held
+abbrev pub route_held : Route
+route_held =
+    route_of (record { nidtp = 7001; place = 20000; reach = 150; nidc = 17; alignment = 0; stopping = 0x55; stop = true; trackside = false; held = true; placed = true } ∷ drop 1 points)
 
 -- ---- engines
 
@@ -129,6 +134,13 @@ near_b = engine_of route (position_in 17 500 90000 1) (progress 3 false) (inputs
 unfoldable pub ended : Engine
 ended = engine_of route (position_in 34 500 11000 0) (progress 3 true) (inputs 0 0 0) (control 1 false false)
 
+-- RE, before 7001, which is held; at it
+unfoldable pub before_hold : Engine
+before_hold = engine_of route_held (position_in 17 500 10000 0) (progress 0 false) (inputs 0 0 31) (control 4 false true)
+
+unfoldable pub at_hold : Engine
+at_hold = engine_of route_held (position_in 17 500 19900 0) (progress 0 true) (inputs 0 0 31) (control 4 false true)
+
 pub record Engines : Type 0 where
   pub to_on : after_each fresh (power_on ∷ train_length 1001 ∷ []) ≡ on
   pub to_failed : (step_of on fault).engine ≡ failed
@@ -140,5 +152,7 @@ pub record Engines : Type 0 where
   pub to_stopped : (step_of started (report (in_a 19900 0))).engine ≡ stopped
   pub to_near_b : (step_of started (report (in_a 90000 1))).engine ≡ near_b
   pub to_ended : (step_of near_b (report (in_b 11000 0))).engine ≡ ended
+  pub to_before_hold : after_each on (loads journey_held book ∷ report (in_a 10000 0) ∷ reports 31 ∷ configured ∷ []) ≡ before_hold
+  pub to_at_hold : (step_of before_hold (report (in_a 19900 0))).engine ≡ at_hold
   -- "Power off returns to fresh."
   pub to_fresh : (step_of driving power_off).engine ≡ fresh

@@ -6,9 +6,9 @@ use Rattle.position.specs.declared.Standing.TheVariants.{Unused, Targeted, Passe
 use Rattle.call_values.specs.Call.{Call, refused}
 use Rattle.call.specs.Call.{Outcome, step_of}
 use Rattle.call.specs.Trials.{plain, loads, after_each, answered, Gives, power_on, configured, reports, press, mode, lever, train_length, skip, revoke}
-use Rattle.call_trials.specs.Journey.{journey, book, book_with_c, short_records}
+use Rattle.call_trials.specs.Journey.{journey, first_as, without_first, journey_held, book, book_with_c, short_records}
 use Rattle.call_trials.specs.Calls.{power_off, fault, in_a, in_b, in_c, in_d, undefined, nowhere, report, load, requested, traction, others, lending, Refuses, TurnsDown, answers_to, standings, packet, plain_packet, point, received, not_received}
-use Rattle.call_trials.specs.Engines.{on, failed, started, ready, pressed, driving, degraded, stopped, near_b, ended}
+use Rattle.call_trials.specs.Engines.{on, failed, started, ready, pressed, driving, degraded, stopped, near_b, ended, before_hold, at_hold}
 
 -- ---- Numbers 1 to 6: event, power, state
 
@@ -80,7 +80,7 @@ pub record RefusedLoads : Type 0 where
   pub book_whole : TurnsDown on (loads journey (set (set book 25 0x5C) 83 0x37)) 7 told_nothing
   pub book_first : TurnsDown on (loads (set journey 0 0x3F) (set book 25 0x5C)) 8 told_nothing
   -- "9 bad map, range or length": bit 5 of the map, bit 1 missing; date, NID_ATOTS; NID_C 1,041; NID_TP FFFFFFFF; alignment 3, stopping data 128;
-  -- bit 7 of a point's map; 7002, which is no stop, skipped by trackside; a byte less, a byte more
+  -- 7006, no stop, held; 7002, which is no stop, skipped by trackside; a byte less, a byte more
   pub map_of_the_journey : TurnsDown on (loads (set journey 0 0x3F) book) 9 told_nothing
   pub no_stamp : TurnsDown on (loads (set journey 0 0x1D) book) 9 told_nothing
   pub date_beyond : TurnsDown on (loads (set journey 5 0x80) book) 9 told_nothing
@@ -89,7 +89,7 @@ pub record RefusedLoads : Type 0 where
   pub nidtp_beyond : TurnsDown on (loads (set (set (set (set journey 70 0xFF) 71 0xFF) 72 0xFF) 73 0xFF) book) 9 told_nothing
   pub alignment_3 : TurnsDown on (loads (set journey 47 0x03) book) 9 told_nothing
   pub stopping_beyond : TurnsDown on (loads (set journey 40 0x80) book) 9 told_nothing
-  pub map_of_a_point : TurnsDown on (loads (set journey 69 0x93) book) 9 told_nothing
+  pub held_passing_point : TurnsDown on (loads (set journey 69 0x83) book) 9 told_nothing
   pub skipped_passing_point : TurnsDown on (loads (set journey 41 0x27) book) 9 told_nothing
   pub journey_cut : TurnsDown on (loads (take 74 journey) book) 9 told_nothing
   pub journey_longer : TurnsDown on (loads (journey ++ (0x00 ∷ [])) book) 9 told_nothing
@@ -139,6 +139,61 @@ pub record TurnedDown : Type 0 where
   pub bad_in_NP : Refuses fresh (loads [] book) 3
   pub bad_in_FA : Refuses failed (loads [] book) 5
   pub event_longer : Refuses on (record { event = 0x0B ∷ 0x00 ∷ []; journey = []; book = book; memory = load.memory }) 1
+
+-- ---- 02, Q-5: held at a stop
+
+pub record Held : Type 0 where
+  -- "When a held stop becomes reached, packet 62 with status 3 follows the one with status 1": stopping data 0
+  pub reached : Gives (step_of before_hold (report (in_a 19850 0))) 4 true
+      (packet 62 (in_a 19850 0) (point 17 7001 0x09 0x55)
+      ++ packet 62 (in_a 19850 0) (point 17 7001 0x19 0x00))
+  pub reached_in_EG : Gives (step_of (after_each before_hold (press ∷ mode 1 ∷ [])) (report (in_a 19850 0))) 3 true
+      (packet 62 (in_a 19850 0) (point 17 7001 0x09 0x55)
+      ++ (packet 62 (in_a 19850 0) (point 17 7001 0x19 0x00)
+      ++ packet 68 (in_a 19850 0) (0x1F ∷ 0xF3 ∷ [])))
+  pub departed : Gives (step_of at_hold (report (in_a 20151 1))) 4 true
+      (packet 62 (in_a 20151 1) (point 17 7001 0x11 0x00)
+      ++ packet 68 (in_a 20151 1) (0x1F ∷ 0xF4 ∷ []))
+  -- skipped by trackside, too, it is never reached
+  pub held_and_skipped : Gives (step_of (after_each on (loads (first_as 0xBB) book ∷ [])) (report (in_a 19900 0))) 1 false (packet 68 (in_a 19900 0) (0x0D ∷ 0xC1 ∷ []))
+  -- "20, a press at a held stop, checked right after 6": in RE; while it creeps; with the position unknown, in C; in AV. At a stop that is not held; targeted
+  pub press_there : Refuses at_hold press 20
+  pub press_creeping : Refuses (after_each at_hold (report (in_a 19800 1) ∷ [])) press 20
+  pub press_unknown : Refuses (after_each at_hold (report (in_c 5 0) ∷ [])) press 20
+  pub press_in_AV : Refuses (after_each at_hold (lever 1 ∷ [])) press 6
+  pub press_unheld : Gives (step_of (after_each ready (report (in_a 19900 0) ∷ [])) press) 4 true []
+  pub press_before : Gives (step_of before_hold press) 4 true []
+  -- a press that is pending when the held stop becomes reached engages
+  pub press_pending : Gives (step_of (after_each before_hold (press ∷ report (in_a 19900 0) ∷ [])) (mode 1)) 5 true (packet 68 (in_a 19900 0) (0x1F ∷ 0xF5 ∷ []))
+  -- "If an accepted load comes while a held stop is reached, and the new journey has its NID_TP unheld or lacks it, status 4 is written after packet 65": a
+  -- stop, a passing point, a stop that trackside skips, none; targeted before
+  pub unheld : Gives (step_of at_hold load) 4 true
+      (packet 65 (in_a 19900 0) (received 17)
+      ++ packet 62 (in_a 19900 0) (point 17 7001 0x21 0x00))
+  pub passing : Gives (step_of at_hold (loads (first_as 0x0B) book)) 4 true
+      (packet 65 (in_a 19900 0) (received 17)
+      ++ packet 62 (in_a 19900 0) (point 17 7001 0x21 0x00))
+  pub skipped : Gives (step_of at_hold (loads (first_as 0x3B) book)) 4 true
+      (packet 65 (in_a 19900 0) (received 17)
+      ++ packet 62 (in_a 19900 0) (point 17 7001 0x21 0x00))
+  pub lacking : Gives (step_of at_hold (loads without_first book)) 4 true
+      (packet 65 (in_a 19900 0) (received 17)
+      ++ packet 62 (in_a 19900 0) (point 17 7001 0x21 0x00))
+  pub targeted : Gives (step_of before_hold load) 4 true (packet 65 (in_a 10000 0) (received 17))
+  -- the hold is kept: no 4, a press is taken until the stop is reached again, and both are written again
+  pub kept : Gives (step_of at_hold (loads journey_held book)) 4 true (packet 65 (in_a 19900 0) (received 17))
+  pub kept_press : Gives (step_of (after_each at_hold (loads journey_held book ∷ [])) press) 4 true []
+  pub kept_again : Gives (step_of (after_each at_hold (loads journey_held book ∷ press ∷ [])) (report (in_a 19900 0))) 4 true
+      (packet 62 (in_a 19900 0) (point 17 7001 0x09 0x55)
+      ++ packet 62 (in_a 19900 0) (point 17 7001 0x19 0x00))
+  pub kept_skipped : Gives (step_of at_hold (loads (first_as 0xBB) book)) 4 true (packet 65 (in_a 19900 0) (received 17))
+  -- profiles turned down, power off and a fault end no hold
+  pub turned_down_there : TurnsDown at_hold (loads [] book) 9 (packet 65 (in_a 19900 0) (not_received 17))
+  pub off_there : Gives (step_of at_hold power_off) 0 false (plain_packet 68 nowhere (0x08 ∷ 0x00 ∷ []))
+  pub fault_there : Gives (step_of at_hold fault) 7 false (packet 68 (in_a 19900 0) (0x1F ∷ 0xF7 ∷ []))
+  -- "16 shorter than this event's packets": two packets 62 have 50 bytes; 65 and 62 have 54
+  pub bytes_49 : Refuses before_hold (lending 49 (report (in_a 19850 0))) 16
+  pub bytes_53 : Refuses at_hold (lending 53 load) 16
 
 -- ---- Numbers 13 to 16: position, skip, output
 

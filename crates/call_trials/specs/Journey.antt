@@ -1,6 +1,6 @@
 -- The book and the journey of the examples, byte for byte. Two countries, 17 and 34; segments A and B are placed, C is not in the book, D
 -- stands in the book only. The End of Journey is neither the last point nor the last placed one.
-use Rattle.std.specs.Prelude.{ℕ, zero, suc, List, [], ◌∷◌, ◌++◌}
+use Rattle.std.specs.Prelude.{ℕ, zero, suc, List, [], ◌∷◌, ◌++◌, set, take, drop}
 
 -- ---- the book
 
@@ -79,3 +79,14 @@ journey =
     -- 7006 in C: a stop
     ∷ 0x13 ∷ 0x00 ∷ 0x00 ∷ 0x1B ∷ 0x5E ∷ 0x02
     ∷ []
+
+-- with the map of 7001 as given; without 7001
+abbrev pub first_as : ℕ → List ℕ
+first_as m = set journey 34 m
+
+abbrev pub without_first : List ℕ
+without_first = take 33 journey ++ (0x05 ∷ drop 41 journey)
+
+-- 02, Q-5: 7001 is held
+abbrev pub journey_held : List ℕ
+journey_held = first_as 0x9B

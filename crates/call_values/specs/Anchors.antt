@@ -1,5 +1,5 @@
 -- Values from documents 01 and 02 that the definitions must give.
-use Rattle.std.specs.Prelude.{ℕ, ◌≡◌, [], ◌∷◌, map, Bool, true, false, Some, None, Ok, Err}
+use Rattle.std.specs.Prelude.{ℕ, ◌≡◌, [], ◌∷◌, ◌++◌, map, Bool, true, false, Some, None, Ok, Err}
 use Rattle.wire.specs.declared.Refusal.{Refusal}
 use Rattle.engine_value.specs.Engine.{Route, no_route, blank_point, blank_segment, fresh_position}
 use Rattle.engine_value.specs.declared.Segment.{Segment}
@@ -12,7 +12,7 @@ use Rattle.packets.specs.declared.Packet.{Packet}
 use Rattle.journey.specs.declared.Head.{Head}
 use Rattle.position.specs.Position.{segment_named}
 use Rattle.call_values.specs.Rows.{offset_beyond, same_bool}
-use Rattle.call_values.specs.Packets.{header, point_change, timing_point, jp_received, Status, status_due, received, traction_brakes, packets_of, jp_turned_down, packets_refused}
+use Rattle.call_values.specs.Packets.{header, point_change, hold_revoked, timing_point, jp_received, Status, status_due, received, traction_brakes, packets_of, jp_turned_down, packets_refused}
 use Rattle.call_values.specs.Call.{refused, accepted, bytes_written}
 use Rattle.call_values.specs.View.{answer_view as view}
 
@@ -25,12 +25,18 @@ segment c sp booked placed =
 
 abbrev pub stop_point : ℕ → ℕ → ℕ → ℕ → Point
 stop_point t c alignment stopping =
-    record { nidtp = t; place = 40000; reach = 150; nidc = c; alignment = alignment; stopping = stopping; stop = true; trackside = false; placed = true; spare = 0 }
+    record { nidtp = t; place = 40000; reach = 150; nidc = c; alignment = alignment; stopping = stopping; stop = true; trackside = false; held = false; placed = true }
+
+abbrev pub stop_7001 : Point
+stop_7001 = stop_point 7001 21 2 55
+
+abbrev pub stop_7002 : Point
+stop_7002 = stop_point 7002 22 1 66
 
 abbrev pub route : Route
 route = record {
   load = record { operational = 0x12345678; valid = true; ending = 1; point_count = 2; segment_count = 3 };
-  points = stop_point 7001 21 2 55 ∷ stop_point 7002 22 1 66 ∷ blank_point ∷ [];
+  points = stop_7001 ∷ stop_7002 ∷ blank_point ∷ [];
   segments = segment 17 500 true true ∷ segment 19 700 false false ∷ segment 18 600 true false ∷ segment 20 800 true true ∷ [];
 }
 
@@ -73,8 +79,13 @@ pub record Anchors : Type 0 where
   pub header_without : header no_route fresh_position ≡ record { nidc = 0; nidsp = 0; offset = 16777215; speed = 0; operational = 0xFFFFFFFF }
   -- "62: point's NID_C (2), NID_TP (4), info: Q_EOJ_REACHED (.. 0 once the End of Journey is reached or passed, else 1) + 2 × alignment + 8 × status,
   -- stopping data (1; 0 unless status 1)"
-  pub points : map (timing_point route (at 17 500 39900)) (point_change 0 1 true ∷ point_change 1 1 false ∷ point_change 0 2 true ∷ point_change 1 0 false ∷ point_change 0 5 true ∷ point_change 0 6 true ∷ [])
+  pub points : map (timing_point route (at 17 500 39900)) (point_change stop_7001 1 true ∷ point_change stop_7002 1 false ∷ point_change stop_7001 2 true ∷ point_change stop_7002 0 false ∷ point_change stop_7001 5 true ∷ point_change stop_7001 6 true ∷ [])
       ≡ packet62 21 7001 1 2 1 55 ∷ packet62 22 7002 0 1 1 66 ∷ packet62 21 7001 1 2 2 0 ∷ packet62 22 7002 0 1 0 0 ∷ packet62 21 7001 1 2 5 0 ∷ packet62 21 7001 1 2 6 0 ∷ []
+  -- 02, Q-5: status 3 has the fields of status 1, but "stopping data 0 unless status 1"; status 4 those of the old point, which the journey need not have
+  pub held : map (timing_point route (at 17 500 39900)) (point_change stop_7002 1 true ∷ point_change stop_7002 3 true ∷ [])
+      ≡ packet62 22 7002 1 1 1 66 ∷ packet62 22 7002 1 1 3 0 ∷ []
+  pub hold_revoked_lem : map (timing_point route (at 17 500 39900)) (hold_revoked (Some (stop_point 7009 99 2 77)) true ++ hold_revoked (Some stop_7001) false ++ hold_revoked None true)
+      ≡ packet62 99 7009 1 2 4 0 ∷ packet62 21 7001 0 2 4 0 ∷ []
   -- "65 on an accepted load: NID_C (1,024 unless the position is known), NID_ATOTS, date, seconds, counter, status 0": within the length and beyond it;
   -- undefined; a segment that is not placed; one that is not the journey's
   pub received_at : map (λ (x : Position). jp_received route x head) (at 17 500 100000 ∷ at 17 500 100001 ∷ at 17 500 16777215 ∷ at 18 600 10 ∷ at 20 800 10 ∷ [])
@@ -90,12 +101,14 @@ pub record Anchors : Type 0 where
   pub speed_rose : map (λ (n : ℕ). status_due (shown 3 511 n) (shown 3 511 2)) (0 ∷ 1 ∷ 2 ∷ 3 ∷ []) ≡ true ∷ false ∷ false ∷ false ∷ []
   pub speed_fell : status_due (shown 3 511 2) (shown 3 511 0) ≡ false
   -- "Order: 65, the 62s as they arise, 68." "68: state + 16 × conditions", those after the event
-  pub order : packets_of route (at 17 500 39900) (Some head) (point_change 0 2 true ∷ point_change 1 0 false ∷ []) [] (shown 3 511 7) (shown 5 507 7)
+  pub order : packets_of route (at 17 500 39900) (Some head) (point_change stop_7001 2 true ∷ point_change stop_7002 0 false ∷ []) [] (shown 3 511 7) (shown 5 507 7)
       ≡ packet65 (header_at 17 500 39900) 17 ∷ packet62 21 7001 1 2 2 0 ∷ packet62 22 7002 0 1 0 0 ∷ packet68 5 507 ∷ []
-  pub nothing_due : packets_of route (at 17 500 39900) None (point_change 0 1 true ∷ []) [] (shown 3 511 7) (shown 3 511 0) ≡ packet62 21 7001 1 2 1 55 ∷ []
+  pub revoked_order : packets_of route (at 17 500 39900) (Some head) (hold_revoked (Some stop_7001) true) [] (shown 3 511 7) (shown 5 507 7)
+      ≡ packet65 (header_at 17 500 39900) 17 ∷ packet62 21 7001 1 2 4 0 ∷ packet68 5 507 ∷ []
+  pub nothing_due : packets_of route (at 17 500 39900) None (point_change stop_7001 1 true ∷ []) [] (shown 3 511 7) (shown 3 511 0) ≡ packet62 21 7001 1 2 1 55 ∷ []
   -- 61 with the header's values after the event and the event's content; "Order: 65, the 62s as they arise, 68", 61 before the 68
   pub traction : map (traction_brakes route (at 17 500 39900)) (None ∷ Some requested ∷ []) ≡ [] ∷ (packet61 ∷ []) ∷ []
-  pub traction_order : packets_of route (at 17 500 39900) None (point_change 0 2 true ∷ []) (traction_brakes route (at 17 500 39900) (Some requested)) (shown 3 511 7) (shown 5 507 7)
+  pub traction_order : packets_of route (at 17 500 39900) None (point_change stop_7001 2 true ∷ []) (traction_brakes route (at 17 500 39900) (Some requested)) (shown 3 511 7) (shown 5 507 7)
       ≡ packet62 21 7001 1 2 2 0 ∷ packet61 ∷ packet68 5 507 ∷ []
   -- 02, Q-4: "status 1, the header of the engine as it stands, the content's NID_C by 01's rule against the journey in force, stamp fields 0 and NID_ATOTS
   -- 16,384": at the same positions, and with no journey

@@ -1,4 +1,4 @@
--- Documents 01, "Packets", and 02, Q-1 and Q-4: which packets a call writes, and with what values. Header values are those after the event.
+-- Documents 01, "Packets", and 02, Q-1, Q-4 and Q-5: which packets a call writes, and with what values. Header values are those after the event.
 use Rattle.std.specs.Prelude.{ℕ, List, [], ◌∷◌, ◌++◌, map, Bool, not, ◌&&◌, ◌||◌, eqb, leb, if◌then◌else◌, Option, Some, None}
 use Rattle.wire.specs.Numbers.{flag}
 use Rattle.wire.specs.Refusals.{turns_down}
@@ -14,8 +14,8 @@ use Rattle.packets.specs.declared.Requested.{Requested}
 use Rattle.packets.specs.declared.Packet.{Packet}
 use Rattle.journey.specs.Journey.{no_atots}
 use Rattle.journey.specs.declared.Head.{Head}
-use Rattle.position.specs.Position.{point, known}
-use Rattle.timing.specs.Changes.{status_stopped, when}
+use Rattle.position.specs.Position.{known}
+use Rattle.timing.specs.Changes.{status_stopped, status_hold_revoked, when}
 use Rattle.state_codes.specs.Codes.{code}
 use Rattle.state_codes.specs.declared.State.TheVariants.{EG}
 
@@ -26,14 +26,19 @@ header_of l x = record { nidc = x.nidc; nidsp = x.nidsp; offset = x.offset; spee
 abbrev pub header : Route → Position → Header
 header j x = header_of j.load x
 
--- a point that an event changed: which one, its status, and whether after that change the End of Journey is ahead, neither reached nor passed
+-- a point that an event changed, its status, and whether after that change the End of Journey is ahead, neither reached nor passed
 pub record PointChange : Type 0 where
-  pub index : ℕ
+  pub point : Point
   pub status : ℕ
   pub end_ahead : Bool
 
-abbrev pub point_change : ℕ → ℕ → Bool → PointChange
-point_change k s b = record { index = k; status = s; end_ahead = b }
+abbrev pub point_change : Point → ℕ → Bool → PointChange
+point_change p s b = record { point = p; status = s; end_ahead = b }
+
+-- 02, Q-5: "status 4 is written after packet 65, using the old point's fields but the new journey's Q_EOJ_REACHED": of the stop whose hold a load ended
+abbrev pub hold_revoked : Option Point → Bool → List PointChange
+hold_revoked None ahead = []
+hold_revoked (Some p) ahead = point_change p status_hold_revoked ahead ∷ []
 
 -- "62: point's NID_C, NID_TP, info: Q_EOJ_REACHED (after that change; 0 once the End of Journey is reached or passed, else 1) + 2 × alignment
 -- + 8 × status (..), stopping data (1; 0 unless status 1)"
@@ -50,7 +55,7 @@ timing_point_of h p status end_ahead =
     })
 
 unfoldable pub timing_point : Route → Position → PointChange → Packet
-timing_point j x c = timing_point_of (header j x) (point j c.index) c.status c.end_ahead
+timing_point j x c = timing_point_of (header j x) c.point c.status c.end_ahead
 
 -- "65 on an accepted load: NID_C (1,024 unless the position is known), NID_ATOTS, date, seconds, counter, status 0."
 abbrev pub country : Route → Position → ℕ

@@ -1,7 +1,9 @@
 -- Laws of the effects.
 use Rattle.std.proofs.Common.{ℕ, ◌≡◌, refl, ap, subst, Bool, true, false, Some, None}
 use Rattle.std.specs.Prelude.{is_some, if◌then◌else◌}
+use Rattle.engine_value.specs.Engine.{Route}
 use Rattle.engine_value.specs.declared.Progress.{Progress}
+use Rattle.position.specs.Position.{point}
 use Rattle.timing.specs.declared.Reported.{Reported}
 use Rattle.timing.specs.Changes.{changes_of}
 use Rattle.event.specs.declared.Event.{Event}
@@ -15,14 +17,17 @@ then_some true a = refl
 then_some false a = refl
 
 -- the changes of a report
-pub report_changes : (p : Progress) (t : Reported) → changes_view (reported_changes p.next t) ≡ changes_of p t
-report_changes p t = go t.departed refl t.reached refl
+pub report_changes : (j : Route) (p : Progress) (t : Reported) → changes_view (reported_changes p.next t (point j t.progress.next).held) ≡ changes_of j p t
+report_changes j p t = go t.departed refl t.reached refl (point j t.progress.next).held refl
   where
-    go : (a : Bool) → t.departed ≡ a → (b : Bool) → t.reached ≡ b → changes_view (reported_changes p.next t) ≡ changes_of p t
-    go true q true r = rw (q, r)
-    go true q false r = rw (q, r)
-    go false q true r = rw (q, r)
-    go false q false r = rw (q, r)
+    go : (a : Bool) → t.departed ≡ a → (b : Bool) → t.reached ≡ b → (c : Bool) → (point j t.progress.next).held ≡ c
+        → changes_view (reported_changes p.next t (point j t.progress.next).held) ≡ changes_of j p t
+    go true q true r true h = rw (q, r, h)
+    go true q true r false h = rw (q, r, h)
+    go true q false r c h = rw (q, r)
+    go false q true r true h = rw (q, r, h)
+    go false q true r false h = rw (q, r, h)
+    go false q false r c h = rw (q, r)
 
 -- a load and a driver skip bring no value
 pub carries_load : (v : Event) → role_of v ≡ load → carried v ≡ bringing nothing

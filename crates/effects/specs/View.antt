@@ -1,5 +1,5 @@
 -- What the code's answers stand for.
-use Rattle.std.specs.Prelude.{ℕ, ◌≡◌, false, if◌then◌else◌}
+use Rattle.std.specs.Prelude.{ℕ, ◌≡◌, Bool, false, ◌&&◌, if◌then◌else◌}
 use Rattle.std.specs.Prelude.{Some, None, is_some, option_map}
 use Rattle.engine_value.specs.Engine.{progress}
 use Rattle.engine_value.specs.View.{route_view}
@@ -34,6 +34,7 @@ effect_view f =
       inputs = f.inputs;
       control = f.control;
       loaded = option_map (λ (r : Received). r.head) f.received;
+      hold_ended = f.hold_ended;
       changes = changes_view f.changes;
       reached = is_some f.changes.last;
     }
@@ -44,16 +45,17 @@ pub record Beside (e : Engine) (f : Effect) : Type 0 where
   pub nidc : (r : Received) → f.received ≡ Some r → r.nidc ≡ country (route_after e (journey_view f.journey)) f.train.position
 
 abbrev pub no_changes : Changes
-no_changes = record { first = None; from = 0; to = 0; last = None }
+no_changes = record { first = None; from = 0; to = 0; last = None; held = None }
 
--- the changes of a report; `k` is the first point not passed before it
-abbrev pub reported_changes : ℕ → Reported → Changes
-reported_changes k t =
+-- the changes of a report; `k` is the first point not passed before it; `held`: that after it is held
+abbrev pub reported_changes : ℕ → Reported → Bool → Changes
+reported_changes k t held =
     record {
       first = if t.departed then Some (record { index = k; status = PointStatus.Departed; after = progress t.from false }) else None;
       from = t.from;
       to = t.progress.next;
       last = if t.reached then Some (record { index = t.progress.next; status = PointStatus.Stopped; after = t.progress }) else None;
+      held = if t.reached && held then Some (record { index = t.progress.next; status = PointStatus.Held; after = t.progress }) else None;
     }
 
 -- the groups of an engine as they are
@@ -66,6 +68,7 @@ unchanged e after =
       inputs = e.inputs;
       control = e.control;
       received = None;
+      hold_ended = None;
       changes = no_changes;
       after = after;
     }

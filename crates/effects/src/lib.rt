@@ -11,7 +11,9 @@ ghost use Rattle.route.specs.View.{loaded_view};
 ghost use Rattle.effects.specs.View.{reported_changes, unchanged, journey_view, effect_view, Beside};
 
 use conditions::RouteConditions;
-use engine_value::{Control, Engine, Inputs, Load, Position, Progress, Route, Train, UNDEFINED};
+use engine_value::{
+    Control, Engine, Inputs, Load, Point, Position, Progress, Route, Train, UNDEFINED,
+};
 use event::Event;
 use event_packets::{Change, Changes, Received};
 use look_up::Occurrence;
@@ -43,7 +45,8 @@ impl<'a> JourneyAfter<'a> {
     }
 }
 
-// The groups with the event's values, the packet 65 of a journey that was loaded, the points that changed, and conditions 4, 6 and 7 after it.
+// The groups with the event's values, the packet 65 of a journey that was loaded, the stop whose hold that ended, the points that changed, and
+// conditions 4, 6 and 7 after it.
 // `Beside` is said of it in the contracts: as its ghost field it would need the engine here, lent, and nothing could be stored there meanwhile.
 #[derive(Clone, Copy)]
 pub struct Effect<'a> {
@@ -53,6 +56,7 @@ pub struct Effect<'a> {
     pub inputs: Inputs,
     pub control: Control,
     pub received: Option<Received>,
+    pub hold_ended: Option<Point>,
     pub changes: Changes,
     pub after: RouteConditions,
 }
@@ -63,6 +67,7 @@ const NO_CHANGES: Changes = Changes {
     from: 0,
     to: 0,
     last: None,
+    held: None,
 };
 
 // The groups of an engine as they are.
@@ -76,6 +81,7 @@ fn unchanged<'a>(e: &Engine, after: RouteConditions) -> Effect<'a>
         inputs: e.inputs,
         control: e.control,
         received: None,
+        hold_ended: None,
         changes: NO_CHANGES,
         after,
     }
@@ -135,9 +141,9 @@ fn offset_beyond(s: Option<Named>, x: Position) -> bool
     x.offset != UNDEFINED && s.is_some_and(|s| conditions::too_far(x, s))
 }
 
-// What a report changes; `index` is the first point not passed before it.
-fn changes_of(index: u8, t: Reported) -> Changes
-    ensures { result ≡ reported_changes index t }
+// What a report changes; `index` is the first point not passed before it; `held`: that after it is held.
+fn changes_of(index: u8, t: Reported, held: bool) -> Changes
+    ensures { result ≡ reported_changes index t held }
 {
     let after = Progress {
         next: t.from,
@@ -153,11 +159,16 @@ fn changes_of(index: u8, t: Reported) -> Changes
         status: PointStatus::Stopped,
         after: t.progress,
     };
+    let hold = Change {
+        status: PointStatus::Held,
+        ..stop
+    };
     Changes {
         first: t.departed.then_some(departure),
         from: t.from,
         to: t.progress.next,
         last: t.reached.then_some(stop),
+        held: (t.reached && held).then_some(hold),
     }
 }
 
@@ -175,11 +186,12 @@ pub fn report<'a>(o: &Occurrence) -> Result<Effect<'a>, Refusal>
     let t = o.looked.report;
     let place = Place::new(e.route(), train.position);
     let after = conditions::route_conditions(place, t.progress);
+    let held = position::point(e.route(), t.progress.next).held;
     Ok(Effect {
         train,
         inputs: inputs_with(o),
         progress: t.progress,
-        changes: changes_of(e.progress.next, t),
+        changes: changes_of(e.progress.next, t, held),
         ..unchanged(e, after)
     })
 }
@@ -239,6 +251,7 @@ pub fn power_off<'a>() -> Effect<'a>
         inputs: Inputs::default(),
         control: Control::default(),
         received: None,
+        hold_ended: None,
         changes: NO_CHANGES,
         after,
     }
@@ -268,6 +281,7 @@ pub fn load<'a>(o: &Occurrence, l: &'a Loaded) -> Effect<'a>
         journey: JourneyAfter::Replaced(j),
         progress,
         received: Some(received),
+        hold_ended: hold::hold_ended(e, j),
         ..unchanged(e, after)
     }
 }

@@ -13,7 +13,7 @@ use Rattle.state_codes.specs.Codes.{is_neutral, is_brake}
 use Rattle.state_codes.specs.declared.EtcsMode.TheVariants.{AD}
 use Rattle.states.specs.Anchors.{waiting}
 use Rattle.engagement.specs.Engagement.{Waiting, Driving}
-use Rattle.engagement.specs.Anchors.{Anchors, events, moments, traction, drive, held}
+use Rattle.engagement.specs.Anchors.{Anchors, events, moments, traction, drive, steady}
 
 -- ---- where an event lies
 
@@ -75,10 +75,11 @@ anchors = record {
     since = omega arith;
     before_i = omega arith;
     is_configured = refl;
-    waiting = two (λ v. Waiting (held v)) 5 (record { O = refl; T = refl; N = refl; other = refl })
+    not_held = λ n. n refl;
+    waiting = two (λ v. Waiting (steady v)) 5 (record { O = refl; T = refl; N = refl; other = refl })
         (record { O = refl; T = refl; N = refl; other = refl });
     right_after = record { O = refl; T = refl; N = refl };
-    from_j = two (λ v. Driving (held v)) 7
+    from_j = two (λ v. Driving (steady v)) 7
         (record { O = refl; T = refl; AD = refl; unbraked = λ q. false≢true (ap is_brake q) })
         (record { O = refl; T = refl; AD = refl; unbraked = λ q. false≢true (ap is_brake q) });
     unreached = λ k l h r. omega arith;
@@ -106,4 +107,8 @@ anchors = record {
   braked = λ e. (e.from_j 8 e.within (omega arith)).unbraked refl;
   stopped = λ e. e.unreached 7 (before drive (Mode 1) 7 1 refl e.j e.within e.is_AD) (omega arith) refl;
   failed = λ e. e.no_fault 7 (omega arith) (omega arith) refl;
+  pressed_held = λ e.
+      let i : e.i < 6 = before drive Press 6 2 refl e.i (omega arith) e.is_press in
+      let l : 5 ≤ e.i = behind drive Press 5 refl e.i e.is_press in
+      e.not_held (omega arith);
 }

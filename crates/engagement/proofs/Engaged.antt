@@ -58,7 +58,7 @@ conf_in s e = go _ refl
     go true q = same_state s CO q
     go false q = cc
 
-press-in : (s : State) → state_row s 8 ≡ accept tt → s ≡ RE
+pub press-in : (s : State) → state_row s 8 ≡ accept tt → s ≡ RE
 unfolding state_row
 press-in s e = go _ refl
   where
@@ -101,7 +101,7 @@ values o t l d = record { O = o; T = t; lever = l; mode = d }
 
 -- ---- what each state tells of the run behind it
 
-module _ (event : ℕ → Event) (value : ℕ → Values) (reached : ℕ → Bool) (Reached : ℕ → Type 0) where
+module _ (event : ℕ → Event) (value : ℕ → Values) (reached : ℕ → Bool) (Reached AtHeldStop : ℕ → Type 0) where
   record PoweredBy (m : ℕ) : Type 0 where
     powered : ℕ
     below : powered < m
@@ -121,6 +121,7 @@ module _ (event : ℕ → Event) (value : ℕ → Values) (reached : ℕ → Boo
     i : ℕ
     is_press : event i ≡ Press
     before_i : conf.c < i
+    not_held : ¬ AtHeldStop i
     within : i < m
     waiting : (v : ℕ) → i ≤ v → v < suc m → Waiting (value v)
 
@@ -131,7 +132,7 @@ module _ (event : ℕ → Event) (value : ℕ → Values) (reached : ℕ → Boo
   Inv AV p m = ConfiguredBy m
   Inv RE false m = ConfiguredBy m × Waiting (value m)
   Inv RE true m = PressedBy m
-  Inv EG p m = Engagement event value Reached m
+  Inv EG p m = Engagement event value Reached AtHeldStop m
   Inv DE p m = ConfiguredBy m
   Inv FA p m = Unit
 
@@ -158,17 +159,19 @@ module _ (event : ℕ → Event) (value : ℕ → Values) (reached : ℕ → Boo
     i = w.i;
     is_press = w.is_press;
     before_i = w.before_i;
+    not_held = w.not_held;
     within = omega arith;
     waiting = upto (λ k. Waiting (value k)) w.i (suc m) w.waiting v;
   }
 
   -- a press, at event m
-  press_new : {m : ℕ} → ConfiguredBy m → Harmless m → event m ≡ Press → Waiting (value m) → Waiting (value (suc m)) → PressedBy (suc m)
-  press_new {m} w a e u v = record {
+  press_new : {m : ℕ} → ConfiguredBy m → Harmless m → event m ≡ Press → ¬ AtHeldStop m → Waiting (value m) → Waiting (value (suc m)) → PressedBy (suc m)
+  press_new {m} w a e f u v = record {
     conf = conf_more w a;
     i = m;
     is_press = e;
     before_i = w.within;
+    not_held = f;
     within = omega arith;
     waiting = λ k l h. two k (omega arith) (eq-or-lt_of_le l);
   }
@@ -178,7 +181,7 @@ module _ (event : ℕ → Event) (value : ℕ → Values) (reached : ℕ → Boo
       two k h (inr q) = let z : k ≡ suc m = omega arith in rw z v
 
   -- the AD report that engages, at event m
-  engage : {m : ℕ} → PressedBy m → event m ≡ Mode 1 → Ready (value (suc m)) → (value (suc m)).mode ≡ AD → Engagement event value Reached (suc m)
+  engage : {m : ℕ} → PressedBy m → event m ≡ Mode 1 → Ready (value (suc m)) → (value (suc m)).mode ≡ AD → Engagement event value Reached AtHeldStop (suc m)
   engage {m} w e r a =
       let cf : ConfiguredBy (suc m) = conf_more w.conf (record { not_on = λ q. cc; not_fault = λ q. cc }) in
       record {
@@ -195,6 +198,7 @@ module _ (event : ℕ → Event) (value : ℕ → Values) (reached : ℕ → Boo
         since = cf.since;
         before_i = w.before_i;
         is_configured = cf.is_configured;
+        not_held = w.not_held;
         waiting = λ v l h. w.waiting v l (omega arith);
         right_after = r;
         from_j = λ v l h. now v (omega arith);
@@ -205,7 +209,7 @@ module _ (event : ℕ → Event) (value : ℕ → Values) (reached : ℕ → Boo
       now : (v : ℕ) → v ≡ suc m → Driving (value v)
       now v q = rw q (record { O = r.O; T = r.T; AD = a; unbraked = λ b. cc (r.N, b) })
 
-  engaged_more : {m : ℕ} → Engagement event value Reached m → Harmless m → Driving (value (suc m)) → ¬ Reached m → Engagement event value Reached (suc m)
+  engaged_more : {m : ℕ} → Engagement event value Reached AtHeldStop m → Harmless m → Driving (value (suc m)) → ¬ Reached m → Engagement event value Reached AtHeldStop (suc m)
   engaged_more {m} w a v r = record {
     powered = w.powered;
     is_on = w.is_on;
@@ -220,6 +224,7 @@ module _ (event : ℕ → Event) (value : ℕ → Values) (reached : ℕ → Boo
     since = w.since;
     before_i = w.before_i;
     is_configured = w.is_configured;
+    not_held = w.not_held;
     waiting = w.waiting;
     right_after = w.right_after;
     from_j = λ k l h. upto (λ k. Driving (value k)) (suc w.j) (suc m) (λ q l h. w.from_j q l (omega arith)) v k l (omega arith);
@@ -228,7 +233,7 @@ module _ (event : ℕ → Event) (value : ℕ → Values) (reached : ℕ → Boo
   }
 
   -- an engaged moment is a configured one
-  conf_of : {m : ℕ} → Engagement event value Reached m → ConfiguredBy m
+  conf_of : {m : ℕ} → Engagement event value Reached AtHeldStop m → ConfiguredBy m
   conf_of w = record {
     on = record { powered = w.powered; below = omega arith; is_on = w.is_on; last_on = w.last_on; no_fault = w.no_fault };
     c = w.c;
@@ -257,7 +262,7 @@ module _ (event : ℕ → Event) (value : ℕ → Values) (reached : ℕ → Boo
 
   re_inv : (m : ℕ) (p o t : Bool) (l : DriverLever) (d : EtcsMode) → At m o t l d → ConfiguredBy (suc m)
       → (p ≡ true → Waiting (value (suc m)) → PressedBy (suc m))
-      → (p ≡ true → Ready (value (suc m)) → (value (suc m)).mode ≡ AD → Engagement event value Reached (suc m))
+      → (p ≡ true → Ready (value (suc m)) → (value (suc m)).mode ≡ AD → Engagement event value Reached AtHeldStop (suc m))
       → let z = from_re p (values o t l d) in Inv z.state z.press (suc m)
   re_inv m false o t l d a c f g = u_inv m o t l d a c
   re_inv m true false t l d a c f g = c
@@ -268,7 +273,7 @@ module _ (event : ℕ → Event) (value : ℕ → Values) (reached : ℕ → Boo
   re_inv m true true true Brake d a c f g = c
 
   eg_inv : (m : ℕ) (r o t : Bool) (l : DriverLever) (d : EtcsMode) → At m o t l d → ConfiguredBy (suc m)
-      → (r ≡ false → Driving (value (suc m)) → Engagement event value Reached (suc m))
+      → (r ≡ false → Driving (value (suc m)) → Engagement event value Reached AtHeldStop (suc m))
       → Inv (from_eg r (values o t l d)) false (suc m)
   eg_inv m r o t Brake d a c f = u_inv m o t Brake d a c
   eg_inv m r o t Neutral Other a c f = u_inv m o t Neutral Other a c
@@ -289,7 +294,8 @@ module _ (event : ℕ → Event) (value : ℕ → Values) (reached : ℕ → Boo
   de_inv m o t Neutral AD a c = c
   de_inv m o t Traction AD a c = c
 
-  module _ (m : ℕ) (saw : reached m ≡ false → ¬ Reached m) (report : (value m).mode ≡ Other → (value (suc m)).mode ≡ AD → event m ≡ Mode 1) where
+  module _ (m : ℕ) (saw : reached m ≡ false → ¬ Reached m) (report : (value m).mode ≡ Other → (value (suc m)).mode ≡ AD → event m ≡ Mode 1)
+      (free : event m ≡ Press → ¬ AtHeldStop m) where
     -- an event with no row of its own
     plain_inv : (s : State) (p : Bool) → Harmless m → Inv s p m → let z = by_state s p (reached m) (value (suc m)) in Inv z.state z.press (suc m)
     plain_inv NP p a i = tt
@@ -304,7 +310,7 @@ module _ (event : ℕ → Event) (value : ℕ → Values) (reached : ℕ → Boo
     plain_inv FA p a i = tt
 
     press_inv : (p : Bool) → event m ≡ Press → Inv RE p m → let z = from_re true (value (suc m)) in Inv z.state z.press (suc m)
-    press_inv p k i = re_inv m true _ _ _ _ (now m) (conf_more (c p i) a) (λ e v. press_new (c p i) a k (w p i) v)
+    press_inv p k i = re_inv m true _ _ _ _ (now m) (conf_more (c p i) a) (λ e v. press_new (c p i) a k (free k) (w p i) v)
         (λ e r d. cc (report (w p i).other d, k))
       where
         a : Harmless m
@@ -372,9 +378,9 @@ is_flt w e s q k = rw q at k
 is_off_lem : (w : Row) (e : Event) (s : State) → w ≡ SwitchOff → Is w e s → e ≡ PowerOff
 is_off_lem w e s q k = rw q at k
 
-eg_of : (event : ℕ → Event) (value : ℕ → Values) (reached : ℕ → Bool) (Reached : ℕ → Type 0) (s : State) (p : Bool) (m : ℕ)
-    → s ≡ EG → Inv event value reached Reached s p m → Engagement event value Reached m
-eg_of event value reached Reached s p m e i = rw e at i
+eg_of : (event : ℕ → Event) (value : ℕ → Values) (reached : ℕ → Bool) (Reached AtHeldStop : ℕ → Type 0) (s : State) (p : Bool) (m : ℕ)
+    → s ≡ EG → Inv event value reached Reached AtHeldStop s p m → Engagement event value Reached AtHeldStop m
+eg_of event value reached Reached AtHeldStop s p m e i = rw e at i
 
 true-or-false : (b : Bool) (A : Type 0) → (b ≡ true) ↔ A → b ≡ false → ¬ A
 true-or-false b A l f a = false≢true (sym f ∙ l.1 a)
@@ -383,21 +389,21 @@ not-true : (b : Bool) → ¬ (b ≡ true) → b ≡ false
 not-true true f = absurd (f refl)
 not-true false f = refl
 
-module _ (event : ℕ → Event) (value : ℕ → Values) (reached : ℕ → Bool) (Reached : ℕ → Type 0) (after : ℕ → Machine) (request : ℕ → Bool) (n : ℕ)
-    (R : Run event value reached Reached after request n) where
+module _ (event : ℕ → Event) (value : ℕ → Values) (reached : ℕ → Bool) (Reached AtHeldStop : ℕ → Type 0) (after : ℕ → Machine) (request : ℕ → Bool) (n : ℕ)
+    (R : Run event value reached Reached AtHeldStop after request n) where
   at_row : (k : ℕ) → k < n → Is (row_of (event k)) (event k) (after k).state
   at_row k h = accepted (event k) (after k).state (R.power k h) (R.state k h)
 
   next : (k : ℕ) → k < n → after (suc k) ≡ by_row (after k) (row_of (event k)) (reached k) (value (suc k))
   next k h = R.next k h ∙ after-row (after k) (event k) (reached k) (value (suc k))
 
-  holds : (m : ℕ) → m ≤ n → Inv event value reached Reached (after m).state (after m).press m
+  holds : (m : ℕ) → m ≤ n → Inv event value reached Reached AtHeldStop (after m).state (after m).press m
   holds zero h = rw R.start tt
   holds (suc m) h = rw (next m h)
-      (step_inv event value reached Reached m (true-or-false (reached m) (Reached m) (R.saw m h)) (R.AD_report m h) _ _ _ refl (at_row m h) (holds m (omega arith)))
+      (step_inv event value reached Reached AtHeldStop m (true-or-false (reached m) (Reached m) (R.saw m h)) (R.AD_report m h) (R.not_held m h) _ _ _ refl (at_row m h) (holds m (omega arith)))
 
-  forward : (after n).state ≡ EG → Engagement event value Reached n
-  forward e = eg_of event value reached Reached _ _ n e (holds n (omega arith))
+  forward : (after n).state ≡ EG → Engagement event value Reached AtHeldStop n
+  forward e = eg_of event value reached Reached AtHeldStop _ _ n e (holds n (omega arith))
 
   not_flt : (k : ℕ) → k < n → event k ≢ Fault → row_of (event k) ≢ Fail
   not_flt k h f e = f (is_flt _ (event k) (after k).state e (at_row k h))
@@ -405,18 +411,18 @@ module _ (event : ℕ → Event) (value : ℕ → Values) (reached : ℕ → Boo
   not_off : (k : ℕ) → k < n → (value (suc k)).O ≡ true → row_of (event k) ≢ SwitchOff
   not_off k h t e = false≢true (sym (R.off k h (is_off_lem _ (event k) (after k).state e (at_row k h))) ∙ t)
 
-  module _ (w : Engagement event value Reached n) where
-    abbrev Held : ℕ → Type 0
-    Held v = after v ≡ pressed
+  module _ (w : Engagement event value Reached AtHeldStop n) where
+    abbrev Pending : ℕ → Type 0
+    Pending v = after v ≡ pressed
 
-    first_press : Held (suc w.i)
+    first_press : Pending (suc w.i)
     first_press =
         let h : w.i < n = omega arith in
         let x : Waiting (value (suc w.i)) = w.waiting _ (omega arith) (omega arith) in
         next w.i h ∙ rw w.is_press (first_RE (after w.i).state (after w.i).press _ _ (presses _ _ w.is_press (at_row w.i h)) x)
 
-    held : (v : ℕ) → suc w.i ≤ v → v ≤ w.j → Held v
-    held = climb Held (suc w.i) w.j first_press (λ k l h e.
+    pending : (v : ℕ) → suc w.i ≤ v → v ≤ w.j → Pending v
+    pending = climb Pending (suc w.i) w.j first_press (λ k l h e.
         let b : k < n = omega arith in
         let x : Waiting (value (suc k)) = w.waiting _ (omega arith) (omega arith) in
         next k b ∙ rw e (stays_RE _ (event k) _ _ (rw e at (at_row k b)) (not_flt k b (w.no_fault k (omega arith) b)) (not_off k b x.O) x))
@@ -426,7 +432,7 @@ module _ (event : ℕ → Event) (value : ℕ → Values) (reached : ℕ → Boo
 
     engages : Engaged (suc w.j)
     engages =
-        let h : after w.j ≡ pressed = held w.j (omega arith) (omega arith) in
+        let h : after w.j ≡ pressed = pending w.j (omega arith) (omega arith) in
         let x : Driving (value (suc w.j)) = w.from_j _ (omega arith) (omega arith) in
         ap (λ m. m.state) (next w.j w.within) ∙ rw (h, w.is_AD) (engages_RE (reached w.j) _ w.right_after x.AD)
 
@@ -440,9 +446,9 @@ module _ (event : ℕ → Event) (value : ℕ → Values) (reached : ℕ → Boo
             → (by_row (machine s p) (row_of (event k)) (reached k) (value (suc k))).state ≡ EG
         go s p k b e a x r f = rw e (stays_EG p _ (event k) _ _ (rw e at a) f (not_off k b x.O) r x)
 
-  backward : Engagement event value Reached n → (after n).state ≡ EG
+  backward : Engagement event value Reached AtHeldStop n → (after n).state ≡ EG
   backward w = engaged w n w.within (omega arith)
 
   -- the rows are in EG exactly when the engagement rule says so
-  pub engaged_exactly : ((after n).state ≡ EG) ↔ Engagement event value Reached n
+  pub engaged_exactly : ((after n).state ≡ EG) ↔ Engagement event value Reached AtHeldStop n
   engaged_exactly = (forward, backward)

@@ -138,8 +138,8 @@ press-tells FA p v q h e = absurd (false≢true (sym h ∙ e))
 told_in_lem : (s t : State) (p : Bool) (v : Values) (q : Bool) → s ≡ t → Tells s p v q → Tells t p v q
 told_in_lem s t p v q e h = rw e at h
 
-module _ (event : ℕ → Event) (value : ℕ → Values) (reached : ℕ → Bool) (Reached : ℕ → Type 0) (after : ℕ → Machine) (request : ℕ → Bool) (n : ℕ)
-    (R : Run event value reached Reached after request n) where
+module _ (event : ℕ → Event) (value : ℕ → Values) (reached : ℕ → Bool) (Reached AtHeldStop : ℕ → Type 0) (after : ℕ → Machine) (request : ℕ → Bool) (n : ℕ)
+    (R : Run event value reached Reached AtHeldStop after request n) where
   abbrev Asked : ℕ → Type 0
   Asked m = Requested value after m
 
@@ -194,9 +194,9 @@ module _ (event : ℕ → Event) (value : ℕ → Values) (reached : ℕ → Boo
   told_at s e = told_in_lem (after n).state s (after n).press (value n) (request n) e (tells n (omega arith))
 
   -- what is claimed of every run
-  pub run_holds : Holds event value reached Reached after request n
+  pub run_holds : Holds event value reached Reached AtHeldStop after request n
   run_holds = record {
-    engaged = engaged_exactly event value reached Reached after request n R;
+    engaged = engaged_exactly event value reached Reached AtHeldStop after request n R;
     requested = requested_exactly;
     press = press-tells (after n).state (after n).press (value n) (request n) (tells n (omega arith));
     in_RE = λ e. told_at RE e;

@@ -6,7 +6,7 @@ use Prim.Native.Nat.{ℕ, suc, ◌≤◌, ◌<◌}
 use Rattle.wire.specs.Judged.Judged.{accept}
 use Rattle.event.specs.Kinds.{kind_of}
 use Rattle.event.specs.declared.Event.{Event}
-use Rattle.event.specs.declared.Event.TheVariants.{PowerOff, Mode}
+use Rattle.event.specs.declared.Event.TheVariants.{PowerOff, Press, Mode}
 use Rattle.states.specs.States.{machine, machine_after, wanted, given}
 use Rattle.states.specs.declared.Values.{Values}
 use Rattle.states.specs.declared.Machine.{Machine}
@@ -24,8 +24,8 @@ pub record Requested (value : ℕ → Values) (after : ℕ → Machine) (n : ℕ
 
 -- Event k (from 0) lies between moment k and moment k + 1. At moment k, thus after the first k events: `value k`, what the rows look at;
 -- `after k`, the state and the pending press; `request k`, whether AD is requested. `Reached k`: a point became reached in event k;
--- `reached k` is what the rows saw of it.
-module _ (event : ℕ → Event) (value : ℕ → Values) (reached : ℕ → Bool) (Reached : ℕ → Type 0) (after : ℕ → Machine) (request : ℕ → Bool) where
+-- `reached k` is what the rows saw of it. `AtHeldStop k`: at moment k a held stop is reached.
+module _ (event : ℕ → Event) (value : ℕ → Values) (reached : ℕ → Bool) (Reached AtHeldStop : ℕ → Type 0) (after : ℕ → Machine) (request : ℕ → Bool) where
   -- n events that no row of the places "power" and "state" refuses, each followed by its row of the states
   pub record Run (n : ℕ) : Type 0 where
     -- "Fresh: NP, .. no press, no request."
@@ -36,6 +36,8 @@ module _ (event : ℕ → Event) (value : ℕ → Values) (reached : ℕ → Boo
     pub next : (k : ℕ) → k < n → after (suc k) ≡ machine_after (after k) (event k) (reached k) (value (suc k))
     pub next_request : (k : ℕ) → k < n → request (suc k) ≡ given (after (suc k)).state (value (suc k)) (request k)
     pub saw : (k : ℕ) → k < n → (reached k ≡ true) ↔ Reached k
+    -- 02, Q-5: "A press while a held stop is reached is refused"
+    pub not_held : (k : ℕ) → k < n → event k ≡ Press → ¬ AtHeldStop k
     -- "Power off returns to fresh", where not all nine conditions hold
     pub off : (k : ℕ) → k < n → event k ≡ PowerOff → (value (suc k)).O ≡ false
     -- "Mode .. come from the latest accepted event since power off that carries them, else are fresh": only its report turns other into AD
@@ -44,7 +46,7 @@ module _ (event : ℕ → Event) (value : ℕ → Values) (reached : ℕ → Boo
   -- what is claimed of every run
   pub record Holds (n : ℕ) : Type 0 where
     -- the rows are in EG exactly when the engagement rule holds
-    pub engaged : ((after n).state ≡ EG) ↔ Engagement event value Reached n
+    pub engaged : ((after n).state ≡ EG) ↔ Engagement event value Reached AtHeldStop n
     pub requested : (request n ≡ true) ↔ Requested value after n
     pub press : (after n).press ≡ true → (after n).state ≡ RE
     pub in_RE : (after n).state ≡ RE → Waiting (value n) × (request n ≡ true)

@@ -1,5 +1,5 @@
 -- A run for which the engagement rule holds, and near ones for which it does not, by hand from document 01.
-use Rattle.std.specs.Prelude.{ℕ, ◌≤◌, ◌≡◌, true, false, [], ◌∷◌, ◌++◌, get_or, replicate}
+use Rattle.std.specs.Prelude.{ℕ, ◌≤◌, ◌≡◌, ◌≢◌, true, false, [], ◌∷◌, ◌++◌, get_or, replicate}
 use Rattle.event.specs.declared.Event.{Event}
 use Rattle.event.specs.declared.Event.TheVariants.{PowerOn, Configured, PowerOff, Fault, Press, Mode, Lever}
 use Rattle.state_codes.specs.declared.EtcsMode.{EtcsMode}
@@ -24,8 +24,8 @@ traction m = values true true Traction m
 abbrev pub drive : ℕ → Event
 drive = events Configured Press (Mode 1) (Lever 1)
 
-abbrev pub held : ℕ → Values
-held = moments waiting waiting driving (traction AD)
+abbrev pub steady : ℕ → Values
+steady = moments waiting waiting driving (traction AD)
 
 abbrev pub nowhere : ℕ → Type 0
 nowhere k = ⊥
@@ -33,17 +33,19 @@ nowhere k = ⊥
 -- "Since the last power on there is an accepted press i and a later AD report j; configured before i; O, T, N and mode other from just before i until
 -- j; O, T, N right after j; from j on O, T, AD and lever not at brake; after j no point became reached; no fault."
 pub record Anchors : Type 0 where
-  -- a fault before the last power on and points reached up to j do not matter
-  pub engaged : Engagement drive held (λ k. k ≤ 6) 8
+  -- a fault before the last power on and points reached up to j do not matter; nor a held stop that is reached at another moment than just before i
+  pub engaged : Engagement drive steady (λ k. k ≤ 6) (λ v. v ≢ 5) 8
   -- another power on; AD before the press; not configured
-  pub powered_again : ¬ Engagement (events Configured Press (Mode 1) PowerOn) held nowhere 8
-  pub AD_first : ¬ Engagement (events Configured (Mode 1) Press (Lever 1)) held nowhere 8
-  pub unconfigured : ¬ Engagement (events (Lever 0) Press (Mode 1) (Lever 1)) held nowhere 8
+  pub powered_again : ¬ Engagement (events Configured Press (Mode 1) PowerOn) steady nowhere nowhere 8
+  pub AD_first : ¬ Engagement (events Configured (Mode 1) Press (Lever 1)) steady nowhere nowhere 8
+  pub unconfigured : ¬ Engagement (events (Lever 0) Press (Mode 1) (Lever 1)) steady nowhere nowhere 8
   -- the lever away from neutral just before the press, just before the AD report, right after it
-  pub moved_first : ¬ Engagement drive (moments (traction Other) waiting driving (traction AD)) nowhere 8
-  pub moved_before : ¬ Engagement drive (moments waiting (traction Other) driving (traction AD)) nowhere 8
-  pub moved_after : ¬ Engagement drive (moments waiting waiting (traction AD) (traction AD)) nowhere 8
+  pub moved_first : ¬ Engagement drive (moments (traction Other) waiting driving (traction AD)) nowhere nowhere 8
+  pub moved_before : ¬ Engagement drive (moments waiting (traction Other) driving (traction AD)) nowhere nowhere 8
+  pub moved_after : ¬ Engagement drive (moments waiting waiting (traction AD) (traction AD)) nowhere nowhere 8
   -- then the brake; a point reached; a fault
-  pub braked : ¬ Engagement drive (moments waiting waiting driving (values true true Brake AD)) nowhere 8
-  pub stopped : ¬ Engagement drive held (λ k. k ≡ 7) 8
-  pub failed : ¬ Engagement (events Configured Press (Mode 1) Fault) held nowhere 8
+  pub braked : ¬ Engagement drive (moments waiting waiting driving (values true true Brake AD)) nowhere nowhere 8
+  pub stopped : ¬ Engagement drive steady (λ k. k ≡ 7) nowhere 8
+  pub failed : ¬ Engagement (events Configured Press (Mode 1) Fault) steady nowhere nowhere 8
+  -- 02, Q-5: a press made while a held stop is reached
+  pub pressed_held : ¬ Engagement drive steady nowhere (λ v. v ≡ 5) 8

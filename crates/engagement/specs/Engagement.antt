@@ -24,10 +24,11 @@ pub record Driving (v : Values) : Type 0 where
   pub unbraked : v.lever ≢ Brake
 
 -- A run of n accepted events. Event k (from 0) lies between moment k and moment k + 1; moment 0 is fresh, moment n is now.
--- `value v` is what holds after the first v events; `Reached k`: a point became reached in event k.
+-- `value v` is what holds after the first v events, `AtHeldStop v` that a held stop is reached then; `Reached k`: a point became reached in event k.
 -- "Since the last power on there is an accepted press i and a later AD report j; configured before i; O, T, N and mode other from
 -- just before i until j; O, T, N right after j; from j on O, T, AD and lever not at brake; after j no point became reached; no fault."
-pub record Engagement (event : ℕ → Event) (value : ℕ → Values) (Reached : ℕ → Type 0) (n : ℕ) : Type 0 where
+-- 02, Q-5: "the engagement rule's press is then one made while no held stop is reached": just before i
+pub record Engagement (event : ℕ → Event) (value : ℕ → Values) (Reached AtHeldStop : ℕ → Type 0) (n : ℕ) : Type 0 where
   pub powered : ℕ
   pub is_on : event powered ≡ PowerOn
   pub last_on : (k : ℕ) → powered < k → k < n → event k ≢ PowerOn
@@ -41,6 +42,7 @@ pub record Engagement (event : ℕ → Event) (value : ℕ → Values) (Reached 
   pub since : powered < c
   pub before_i : c < i
   pub is_configured : event c ≡ Configured
+  pub not_held : ¬ AtHeldStop i
   pub waiting : (v : ℕ) → i ≤ v → v ≤ j → Waiting (value v)
   pub right_after : Ready (value (suc j))
   pub from_j : (v : ℕ) → j < v → v ≤ n → Driving (value v)

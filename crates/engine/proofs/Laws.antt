@@ -8,12 +8,13 @@ use Rattle.wire.specs.View as answers
 use Rattle.wire.specs.declared.Refusal.{Refusal}
 use Rattle.engine_value.specs.declared.Engine.{Engine}
 use Rattle.event.specs.Events.{event_of}
-use Rattle.event.specs.Kinds.{Role, Carried, kind_of, role_of, carried}
+use Rattle.event.specs.Kinds.{Role, load, Carried, kind_of, role_of, carried}
 use Rattle.route.specs.Route.{LoadValue, load_of}
 use Rattle.event.specs.declared.Event.{Event}
 use Rattle.packets.specs.Packets.{joined}
 use Rattle.state_codes.specs.Codes.{state_at}
 use Rattle.state_codes.specs.Numbers.{power_rows, state_row, state_rows}
+use Rattle.hold.specs.Hold.{held_stop_in, hold_row, rows_of_state}
 use Rattle.look_up.specs.declared.Occurrence.{Occurrence}
 use Rattle.call_values.specs.Call.{Call, Answer, refused, accepted}
 use Rattle.call_values.specs.declared.Accepted.{Accepted}
@@ -37,7 +38,7 @@ stored-front bytes memory h =
 pub record Occurs (e : Engine) (c : Call) (o : Occurrence) : Type 0 where
   pub engine : o.engine.now ≡ e
   pub read : accept o.event ≡ event_of c.event
-  pub allowed : accept tt ≡ state_rows (state_at e.control.state) (kind_of o.event)
+  pub allowed : accept tt ≡ rows_of_state e (kind_of o.event)
 
 module _ (e : Engine) (c : Call) where
   pub refused_by : (r : Result Accepted Refusal) (x : Refusal) → r ≡ Err x → refuse (number_of x) ≡ judged e c → Takes (take_of e c) e (answers.judged r) c.memory
@@ -65,11 +66,16 @@ assoc (refuse n) q x = refl
 assoc (accept a) q x = refl
 
 module _ (e : Engine) (c : Call) (v : Event) (read : accept v ≡ event_of c.event) where
-  rows_together : judged e c ≡ then_judge (state_rows (state_at e.control.state) (kind_of v)) (λ a. then_judge (effect e c.journey c.book v) (judge e v c.memory))
-  unfolding judged state_rows
-  rows_together = rw (← read) (assoc (power_rows (state_at e.control.state) (kind_of v)) (state_row (state_at e.control.state) (kind_of v)) (then_judge (effect e c.journey c.book v) (judge e v c.memory)))
+  rows_together : judged e c ≡ then_judge (rows_of_state e (kind_of v)) (λ a. then_judge (effect e c.journey c.book v) (judge e v c.memory))
+  unfolding judged state_rows rows_of_state
+  rows_together =
+      let power = power_rows (state_at e.control.state) (kind_of v) in
+      let state = state_row (state_at e.control.state) (kind_of v) in
+      let held = hold_row (held_stop_in e) (kind_of v) in
+      let rest = then_judge (effect e c.journey c.book v) (judge e v c.memory) in
+      rw (← read) (assoc power state (then_judge held (λ a. rest)) ∙ assoc (then_judge power (λ a. state)) held rest)
 
-  pub not_allowed : (n : ℕ) → refuse n ≡ state_rows (state_at e.control.state) (kind_of v) → refuse n ≡ judged e c
+  pub not_allowed : (n : ℕ) → refuse n ≡ rows_of_state e (kind_of v) → refuse n ≡ judged e c
   not_allowed n q = sym (rows_together ∙ rw (← q) refl)
 
 module _ (e : Engine) (c : Call) (o : Occurrence) (occurs : Occurs e c o) (r : Role) (role : r ≡ role_of o.event) where
@@ -89,13 +95,15 @@ module _ (e : Engine) (c : Call) (o : Occurrence) (occurs : Occurs e c o) (r : R
 -- ---- the load
 
 module _ (e : Engine) (c : Carried) (journey book : List ℕ) where
-  pub load_refused : (n : ℕ) → refuse n ≡ load_of journey book → ◌≡◌ {A = Judged model.Effect} (refuse n) (load_effect e c journey book)
-  unfolding load_effect
-  load_refused n q = rw (← q)
-
   pub load_taken : (l : LoadValue) → accept l ≡ load_of journey book → accept (loaded_in e c l) ≡ load_effect e c journey book
   unfolding load_effect
   load_taken l q = rw (← q)
+
+-- one whose profiles a row refuses
+pub not_loaded : (e : Engine) (c : Call) (v : Event) → accept v ≡ event_of c.event → accept tt ≡ rows_of_state e (kind_of v) → load ≡ role_of v
+    → (n : ℕ) → refuse n ≡ load_of c.journey c.book → refuse n ≡ judged e c
+unfolding effect load_effect
+not_loaded e c v read allowed role n q = sym (rows_together e c v read ∙ rw (← allowed, ← role, ← q) refl)
 
 -- ---- a call: its rows, and then what profiles turned down write
 

@@ -8,8 +8,9 @@ ghost use Rattle.wire.specs.Judged.Judged.{accept};
 ghost use Rattle.wire.specs.View.{judged};
 ghost use Rattle.event.specs.Events.{event_of};
 ghost use Rattle.event.specs.Kinds.{load, kind_of, role_of};
-ghost use Rattle.state_codes.specs.Codes.{state_at};
-ghost use Rattle.state_codes.specs.Numbers.{state_rows};
+ghost use Rattle.hold.specs.Hold.{rows_of_state};
+ghost use Rattle.route.specs.Route.{load_of};
+ghost use Rattle.route.specs.View.{loaded_view};
 ghost use Rattle.packets.specs.Packets.{joined};
 ghost use Rattle.event_packets.specs.View.{packets_view};
 ghost use Rattle.call.specs.Call.{step_of};
@@ -25,7 +26,7 @@ use engine_value::{Engine, Load, MAX_POINTS, Point, Route, Segment};
 use event::{Event, Role};
 use judge::Judgement;
 use look_up::Occurrence;
-use state_codes::State;
+use route::Loaded;
 use wire::Refusal;
 
 // No journey: blanks, filled in where they stand. As another journey they would first be made elsewhere, and then copied.
@@ -98,6 +99,16 @@ fn accept(e: &mut Engine, t: &Judgement, out: &mut [u8]) -> Accepted
     }
 }
 
+// A load whose profiles are read, in a function of its own: it takes the stack that reading them took, and no more beside it.
+#[inline(never)]
+fn loaded(e: &mut Engine, event: Event, l: &Loaded, out: &mut [u8]) -> Result<Accepted, Refusal>
+    ensures { (bytes journey book : List ℕ) → accept event ≡ event_of bytes → accept tt ≡ rows_of_state e.old (kind_of event) → load ≡ role_of event → accept (loaded_view l.now) ≡ load_of journey book → Takes (take_of e.old (call bytes journey book out.old)) e.new (judged result) out.new }
+{
+    let o = Occurrence::new(e, event);
+    let t = judge::judge(&o, &effects::load(&o, l), out.len())?;
+    Ok(accept(e, &t, out))
+}
+
 // A load that is read and allowed, in a function of its own: what its journey takes of the stack, no other event then takes.
 #[inline(never)]
 fn load(
@@ -107,12 +118,10 @@ fn load(
     book: &[u8],
     out: &mut [u8],
 ) -> Result<Accepted, Refusal>
-    ensures { (bytes : List ℕ) → accept event ≡ event_of bytes → accept tt ≡ state_rows (state_at e.old.control.state) (kind_of event) → load ≡ role_of event → Takes (take_of e.old (call bytes journey.now book.now out.old)) e.new (judged result) out.new }
+    ensures { (bytes : List ℕ) → accept event ≡ event_of bytes → accept tt ≡ rows_of_state e.old (kind_of event) → load ≡ role_of event → Takes (take_of e.old (call bytes journey.now book.now out.old)) e.new (judged result) out.new }
 {
-    let o = Occurrence::new(e, event);
     let l = route::load_route(journey, book)?;
-    let t = judge::judge(&o, &effects::load(&o, &l), out.len())?;
-    Ok(accept(e, &t, out))
+    loaded(e, event, &l, out)
 }
 
 // The rows of the table of numbers, one after the other; where none refuses, what comes of the event is stored and written.
@@ -126,7 +135,7 @@ fn take(
     ensures { Takes (take_of e.old (call event.now journey.now book.now out.old)) e.new (judged result) out.new }
 {
     let v = event::read_event(event)?;
-    state_codes::state_rows(State::from(e.control.state), v.kind())?;
+    hold::rows_of_state(e, v.kind())?;
     let o = Occurrence::new(e, v);
     let f = match o.event.role() {
         Role::Off => effects::power_off(),

@@ -71,8 +71,8 @@ pub record Blank : Type 0 where
     stopping = 0;
     stop = false;
     trackside = false;
+    held = false;
     placed = false;
-    spare = 0;
   }
   -- the first n of a list, then blank ones
   pub filling : map (filled {A = ℕ} 3 9) ([] ∷ (1 ∷ 2 ∷ []) ∷ (1 ∷ 2 ∷ 3 ∷ 4 ∷ []) ∷ []) ≡ (9 ∷ 9 ∷ 9 ∷ []) ∷ (1 ∷ 2 ∷ 9 ∷ []) ∷ (1 ∷ 2 ∷ 3 ∷ []) ∷ []

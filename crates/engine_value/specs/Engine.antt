@@ -62,7 +62,7 @@ abbrev pub blank_segment : Segment
 blank_segment = record { nidsp = 0; start = 0; length = 0; zone_count = 0; zones = replicate max_zones blank_zone; nidc = 0; booked = false; placed = false }
 
 abbrev pub blank_point : Point
-blank_point = record { nidtp = 0; place = 0; reach = 0; nidc = 0; alignment = 0; stopping = 0; stop = false; trackside = false; placed = false; spare = 0 }
+blank_point = record { nidtp = 0; place = 0; reach = 0; nidc = 0; alignment = 0; stopping = 0; stop = false; trackside = false; held = false; placed = false }
 
 -- ---- the values from events
 

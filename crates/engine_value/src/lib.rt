@@ -52,8 +52,7 @@ pub struct Segment {
 }
 
 // A timing point of the journey. Where it is placed, `place` is counted from the journey's start, and `reach` is the reached distance R.
-// `spare` is always 0: room for one mark. C layout: `placed` beside place and reach, the marks `stop` and `trackside` as flags, alignment and
-// stopping by their numbers.
+// C layout: `placed` beside place and reach, the marks `stop`, `trackside` and `held` as flags, alignment and stopping by their numbers.
 #[repr(C)]
 #[derive(Clone, Copy, Default)]
 pub struct Point {
@@ -65,8 +64,8 @@ pub struct Point {
     pub stopping: u8,
     pub stop: bool,
     pub trackside: bool,
+    pub held: bool,
     pub placed: bool,
-    pub spare: u8,
 }
 
 // What a load settles beside the points and the segments; `ending` is the index of the End of Journey. C layout: the counts of the engine's

@@ -1,12 +1,12 @@
 -- The table of the kinds read backwards: the event, from its row, its role or the value that it brings.
 use Prim.Native.Nat.{ℕ}
-use mathlib.Core.Path.{◌≡◌, refl}
-use mathlib.Core.Bool.{true, false}
+use mathlib.Core.Path.{◌≡◌, refl, sym, ◌∙◌}
+use mathlib.Core.Bool.{true, false, false≢true}
 use Rattle.std.specs.Prelude.{Option, Some, None}
 use lib.Dec.{eqb}
 use Rattle.engine_value.specs.Engine.{mode}
 use Rattle.engine_value.specs.declared.Position.{Position}
-use Rattle.event.specs.Kinds.{Row, SwitchOn, Configure, SwitchOff, Fail, EngagePress, ByState}
+use Rattle.event.specs.Kinds.{Row, SwitchOn, Configure, SwitchOff, Fail, EngagePress, ByState, kind_of, row_of}
 use Rattle.event.specs.Kinds.{Role, off, load, report, other, skip, Kind, kind, bringing, carried}
 use Rattle.event.specs.declared.TractionRequest.{TractionRequest}
 use Rattle.event.specs.declared.Event.{Event}
@@ -17,7 +17,7 @@ OfRow Configure n e = (e ≡ Event.Configured) × (n ≡ 2)
 OfRow SwitchOff n e = (e ≡ Event.PowerOff) × (n ≡ 3)
 OfRow Fail n e = (e ≡ Event.Fault) × (n ≡ 4)
 OfRow EngagePress n e = (e ≡ Event.Press) × (n ≡ 8)
-OfRow ByState n e = eqb n 1 ≡ false
+OfRow ByState n e = (eqb n 1 ≡ false) × (eqb n 8 ≡ false)
 
 abbrev pub OfRole : Role → Event → Type 0
 OfRole off e = e ≡ Event.PowerOff
@@ -52,16 +52,27 @@ known Event.PowerOn = record { row = (refl, refl); role = tt; mode = tt; positio
 known Event.Configured = record { row = (refl, refl); role = tt; mode = tt; position = tt; traction = tt }
 known Event.PowerOff = record { row = (refl, refl); role = refl; mode = tt; position = tt; traction = tt }
 known Event.Fault = record { row = (refl, refl); role = tt; mode = tt; position = tt; traction = tt }
-known (Event.Reports n) = record { row = refl; role = tt; mode = tt; position = tt; traction = tt }
-known (Event.Mode n) = record { row = refl; role = tt; mode = refl; position = tt; traction = tt }
-known (Event.Lever n) = record { row = refl; role = tt; mode = tt; position = tt; traction = tt }
+known (Event.Reports n) = record { row = (refl, refl); role = tt; mode = tt; position = tt; traction = tt }
+known (Event.Mode n) = record { row = (refl, refl); role = tt; mode = refl; position = tt; traction = tt }
+known (Event.Lever n) = record { row = (refl, refl); role = tt; mode = tt; position = tt; traction = tt }
 known Event.Press = record { row = (refl, refl); role = tt; mode = tt; position = tt; traction = tt }
-known (Event.PositionReport x) = record { row = refl; role = (x, refl); mode = tt; position = refl; traction = tt }
-known (Event.Length n) = record { row = refl; role = tt; mode = tt; position = tt; traction = tt }
-known Event.Load = record { row = refl; role = refl; mode = tt; position = tt; traction = tt }
-known (Event.Skip t) = record { row = refl; role = refl; mode = tt; position = tt; traction = tt }
-known (Event.Revoke t) = record { row = refl; role = refl; mode = tt; position = tt; traction = tt }
-known (Event.Traction x) = record { row = refl; role = tt; mode = tt; position = tt; traction = refl }
+known (Event.PositionReport x) = record { row = (refl, refl); role = (x, refl); mode = tt; position = refl; traction = tt }
+known (Event.Length n) = record { row = (refl, refl); role = tt; mode = tt; position = tt; traction = tt }
+known Event.Load = record { row = (refl, refl); role = refl; mode = tt; position = tt; traction = tt }
+known (Event.Skip t) = record { row = (refl, refl); role = refl; mode = tt; position = tt; traction = tt }
+known (Event.Revoke t) = record { row = (refl, refl); role = refl; mode = tt; position = tt; traction = tt }
+known (Event.Traction x) = record { row = (refl, refl); role = tt; mode = tt; position = tt; traction = refl }
+
+pub press_of : (e : Event) → eqb (kind_of e) 8 ≡ true → e ≡ Event.Press
+press_of e q = go (row_of e) (kind_of e) (known e).row q
+  where
+    go : (w : Row) (n : ℕ) → OfRow w n e → eqb n 8 ≡ true → e ≡ Event.Press
+    go SwitchOn n k q = absurd (false≢true (rw k.1 at q))
+    go Configure n k q = absurd (false≢true (rw k.1 at q))
+    go SwitchOff n k q = absurd (false≢true (rw k.1 at q))
+    go Fail n k q = absurd (false≢true (rw k.1 at q))
+    go EngagePress n k q = k.0
+    go ByState n k q = absurd (false≢true (sym k.1 ∙ q))
 
 pub mode_of : (e : Event) → OfMode ((carried e).number mode) e
 mode_of e = (known e).mode

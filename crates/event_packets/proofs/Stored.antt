@@ -12,6 +12,7 @@ use Rattle.std.proofs.lemmas.List.{take_min, drop_min}
 use Rattle.std.proofs.Math.Nat.{min-eq_left, min-eq_right}
 use Rattle.wire.proofs.NumberLaws.{sets_more, sets_past}
 use Rattle.engine_value.specs.Engine.{route_in, progress}
+use Rattle.engine_value.specs.declared.Point.{Point}
 use Rattle.engine_value.specs.declared.Engine.{Engine}
 use Rattle.packets.specs.Packets.{packet_bytes, joined, size_of}
 use Rattle.packets.proofs.PacketLaws.{length-packet_bytes, joined-append}
@@ -19,9 +20,11 @@ use Rattle.packets.specs.declared.Packet.{Packet}
 use Rattle.packets.specs.declared.Requested.{Requested}
 use Rattle.status_word.specs.declared.OperationalConditions.{OperationalConditions}
 use Rattle.timing.specs.Changes.{Change, change, passings, status_passed, when}
-use Rattle.call.specs.Packets.{change_in}
-use Rattle.call_values.specs.Packets.{Status, timing_point, traction_brake, traction_brakes, ato_status, status_due, country, received, in_order, packets_of, jp_received}
-use Rattle.event_packets.specs.View.{listed, change_view, changes_view, jp_received_view, packets62, packets_view, Put}
+use Rattle.position.specs.Standing.{standing}
+use Rattle.conditions.specs.Conditions.{end_ahead}
+use Rattle.call.specs.Packets.{change_in, changes_in}
+use Rattle.call_values.specs.Packets.{Status, hold_revoked, timing_point, traction_brake, traction_brakes, ato_status, status_due, country, received, in_order, packets_of, jp_received}
+use Rattle.event_packets.specs.View.{listed, change_view, changes_view, jp_received_view, revoked_packet, packets62, packets_view, Put}
 use Rattle.event_packets.specs.declared.Received.{Received}
 use Rattle.event_packets.specs.declared.Change as code
 use Rattle.event_packets.specs.declared.Writes.{Writes}
@@ -43,6 +46,11 @@ module _ (e : Engine) where
   size_62 [] = refl
   size_62 (c ∷ l) = simp (length-append, length-packet_bytes, size_62 l) (omega arith)
 
+  size_ended : (o : Option Point) → length (joined (map (timing_point (route_in e) e.train.position) (hold_revoked o (end_ahead e.load (standing e.progress))))) ≡ 25 * bool_byte (is_some o)
+  unfolding timing_point
+  size_ended None = refl
+  size_ended (Some p) = simp (length-append, length-packet_bytes) (omega arith)
+
   size_65 : (o : Option Received) → length (joined (map (jp_received_view e) (listed o))) ≡ 29 * bool_byte (is_some o)
   size_65 None = refl
   size_65 (Some r) = simp (length-append, length-packet_bytes) (omega arith)
@@ -59,9 +67,10 @@ module _ (e : Engine) where
 
   -- "16 shorter than this event's packets": their size, with nothing written yet
   pub size_in : (w : Writes)
-      → 29 * bool_byte (is_some w.received) + 25 * (bool_byte (is_some w.changes.first) + (w.changes.to - w.changes.from) + bool_byte (is_some w.changes.last)) + 22 * bool_byte (is_some w.requested) + 19 * bool_byte (is_some w.status)
+      → 29 * bool_byte (is_some w.received)
+      + 25 * (bool_byte (is_some w.hold_ended) + (bool_byte (is_some w.changes.first) + (w.changes.to - w.changes.from) + (bool_byte (is_some w.changes.last) + bool_byte (is_some w.changes.held)))) + 22 * bool_byte (is_some w.requested) + 19 * bool_byte (is_some w.status)
       ≡ length (joined (packets_view e w))
-  size_in w = sym (simp (joined-append, length-append, size_65, size_62, size_61, size_68, length-map, length-listed, length-passings) (omega arith))
+  size_in w = sym (simp (joined-append, length-append, map-append, size_65, size_ended, size_62, size_61, size_68, length-map, length-listed, length-passings) (omega arith))
 
 -- ---- packets put one behind the other
 
@@ -103,12 +112,14 @@ put_one o p l m at a n q t k z = λ more.
     let i : n ≡ length (packet_bytes p) = z ∙ sym (length-packet_bytes p) in
     rw (q, t, stored_within at a l (packet_bytes p) k, k, i, append-nil (packet_bytes p)) (behind (packet_bytes p) more l at)
 
-pub put_all : (a b c d f g : List Packet) (l m₁ m₂ m₃ m₄ m₅ m₆ : List ℕ) (i j k n r s : ℕ)
-    → Put 0 a l m₁ i → Put i b m₁ m₂ j → Put j c m₂ m₃ k → Put k d m₃ m₄ n → Put n f m₄ m₅ r → Put r g m₅ m₆ s
-    → m₆ ≡ sets l 0 (joined (a ++ ((b ++ (c ++ d)) ++ (f ++ g))))
-put_all a b c d f g l m₁ m₂ m₃ m₄ m₅ m₆ i j k n r s t₁ t₂ t₃ t₄ t₅ t₆ =
-    let e : joined a ++ (joined b ++ (joined c ++ (joined d ++ (joined f ++ (joined g ++ []))))) ≡ joined (a ++ ((b ++ (c ++ d)) ++ (f ++ g))) = simp (joined-append, append_assoc, append-nil) in
-    t₆ [] ∙ t₅ _ ∙ t₄ _ ∙ t₃ _ ∙ t₂ _ ∙ t₁ _ ∙ ap (sets l 0) e
+-- one more behind what is put already
+pub put_then : (a b : List Packet) (l m n : List ℕ) (i j k : ℕ) → Put i a l m j → Put j b m n k → Put i (a ++ b) l n k
+put_then a b l m n i j k s t = λ more.
+    let e : joined a ++ (joined b ++ more) ≡ joined (a ++ b) ++ more = simp (joined-append, append_assoc) in
+    t more ∙ s (joined b ++ more) ∙ ap (sets l i) e
+
+pub put_all : (a : List Packet) (l m : List ℕ) (i : ℕ) → Put 0 a l m i → m ≡ sets l 0 (joined a)
+put_all a l m i t = t [] ∙ ap (sets l 0) (append-nil (joined a))
 
 -- the packets of an event, kind by kind
 module _ (e : Engine) where
@@ -117,22 +128,30 @@ module _ (e : Engine) where
   listed_map f (Some a) = refl
 
   abbrev pub changed : code.Change → Packet
-  changed c = timing_point (route_in e) e.train.position (change_in e.load (change_view c))
+  changed c = timing_point (route_in e) e.train.position (change_in (route_in e) (change_view c))
 
   listed_change : (o : Option code.Change) → listed (option_map changed o) ≡ packets62 e (map change_view (listed o))
   listed_change None = refl
   listed_change (Some c) = refl
 
+  listed_ended : (o : Option Point) → listed (option_map (revoked_packet e) o) ≡ map (timing_point (route_in e) e.train.position) (hold_revoked o (end_ahead e.load (standing e.progress)))
+  listed_ended None = refl
+  listed_ended (Some p) = refl
+
   listed_brake : (o : Option Requested) → listed (option_map (traction_brake (route_in e) e.train.position) o) ≡ traction_brakes (route_in e) e.train.position o
   listed_brake None = refl
   listed_brake (Some r) = refl
 
-  pub in_kinds : (w : Writes) →
-      listed (option_map (jp_received_view e) w.received)
-      ++ ((listed (option_map changed w.changes.first) ++ (packets62 e (passings (w.changes.to - w.changes.from) w.changes.from) ++ listed (option_map changed w.changes.last)))
-      ++ (listed (option_map (traction_brake (route_in e) e.train.position) w.requested) ++ listed (option_map (ato_status (route_in e) e.train.position e.control.state) w.status)))
+  pub in_kinds : (w : Writes)
+      → ((((((listed (option_map (jp_received_view e) w.received) ++ listed (option_map (revoked_packet e) w.hold_ended))
+      ++ listed (option_map changed w.changes.first)) ++ packets62 e (passings (w.changes.to - w.changes.from) w.changes.from))
+      ++ listed (option_map changed w.changes.last)) ++ listed (option_map changed w.changes.held))
+      ++ listed (option_map (traction_brake (route_in e) e.train.position) w.requested))
+      ++ listed (option_map (ato_status (route_in e) e.train.position e.control.state) w.status)
       ≡ packets_view e w
-  in_kinds w = rw (listed_map (jp_received_view e) w.received, listed_map (ato_status (route_in e) e.train.position e.control.state) w.status, listed_change w.changes.first, listed_change w.changes.last, listed_brake w.requested) (simp map-append)
+  in_kinds w =
+      rw (listed_map (jp_received_view e) w.received, listed_map (ato_status (route_in e) e.train.position e.control.state) w.status, listed_ended w.hold_ended, listed_change w.changes.first, listed_change w.changes.last, listed_change w.changes.held, listed_brake w.requested)
+      (simp (map-append, append_assoc))
 
 -- ---- the passings: what is left to put, behind what is there, is the whole
 module _ (e : Engine) (to k : ℕ) where
@@ -140,7 +159,7 @@ module _ (e : Engine) (to k : ℕ) where
   unfolding passings
   passed_end h l more i = let z : to - k ≡ 0 = omega arith in rw z
 
-  pub passed_next : k < to → (p : Packet) → p ≡ timing_point (route_in e) e.train.position (change_in e.load (change k status_passed (progress (k + 1) false)))
+  pub passed_next : k < to → (p : Packet) → p ≡ timing_point (route_in e) e.train.position (change_in (route_in e) (change k status_passed (progress (k + 1) false)))
       → (l m : List ℕ) (i j : ℕ) → Put i (p ∷ []) l m j
       → (more : List ℕ) → sets m j (joined (packets62 e (passings (to - (k + 1)) (k + 1))) ++ more) ≡ sets l i (joined (packets62 e (passings (to - k) k)) ++ more)
   unfolding passings
@@ -164,7 +183,7 @@ status_is g false a = refl
 pub packets_in : (m : Engine) (w : Writes) (own : Option Requested) (before after : Status)
     → ((r : Received) → w.received ≡ Some r → r.nidc ≡ country (route_in m) m.train.position)
     → w.status ≡ then_some (status_due before after) after.conditions → m.control.state ≡ after.state → w.requested ≡ own
-    → packets_view m w ≡ packets_of (route_in m) m.train.position (option_map (λ (r : Received). r.head) w.received) (map (change_in m.load) (changes_view w.changes)) (traction_brakes (route_in m) m.train.position own) before after
+    → packets_view m w ≡ packets_of (route_in m) m.train.position (option_map (λ (r : Received). r.head) w.received) (changes_in m w.hold_ended (changes_view w.changes)) (traction_brakes (route_in m) m.train.position own) before after
 unfolding packets_of
 packets_in m w own before after n d s o =
     let five = received_is m w.received n in
@@ -173,4 +192,4 @@ packets_in m w own before after n d s o =
     = ap (λ x. map (ato_status (route_in m) m.train.position m.control.state) (listed x)) d
     ∙ status_is (ato_status (route_in m) m.train.position m.control.state) (status_due before after) after.conditions
     ∙ ap (λ k. when (status_due before after) (ato_status (route_in m) m.train.position k after.conditions)) s in
-    λ i. in_order (five i) (packets62 m (changes_view w.changes)) (traction_brakes (route_in m) m.train.position (o i)) (eight i)
+    λ i. in_order (five i) (map (timing_point (route_in m) m.train.position) (changes_in m w.hold_ended (changes_view w.changes))) (traction_brakes (route_in m) m.train.position (o i)) (eight i)

@@ -3,15 +3,18 @@ use Rattle.std.specs.Prelude.{ℕ, ◌≡◌, ◌-◌, List, [], ◌∷◌, ◌+
 use Rattle.std.specs.Prelude.{Option, Some, None}
 use Rattle.std.proofs.lemmas.List.Edits.{sets}
 use Rattle.engine_value.specs.Engine.{route_in}
+use Rattle.engine_value.specs.declared.Point.{Point}
 use Rattle.engine_value.specs.declared.Engine.{Engine}
 use Rattle.packets.specs.Packets.{joined}
 use Rattle.packets.specs.View.{status_number}
 use Rattle.packets.specs.declared.Packet.{Packet}
 use Rattle.timing.specs.Changes as timing
-use Rattle.timing.specs.Changes.{change, passings}
-use Rattle.call.specs.Packets.{change_in}
+use Rattle.timing.specs.Changes.{change, passings, status_hold_revoked}
+use Rattle.position.specs.Standing.{standing}
+use Rattle.conditions.specs.Conditions.{end_ahead}
+use Rattle.call.specs.Packets.{change_in, changes_in}
 use Rattle.call_values.specs.Packets as packets
-use Rattle.call_values.specs.Packets.{header, in_order, timing_point, jp_received_of, traction_brakes, ato_status}
+use Rattle.call_values.specs.Packets.{header, in_order, point_change, timing_point, jp_received_of, traction_brakes, ato_status}
 use Rattle.event_packets.specs.declared.Change.{Change}
 use Rattle.event_packets.specs.declared.Changes.{Changes}
 use Rattle.event_packets.specs.declared.Received.{Received}
@@ -31,12 +34,18 @@ listed (Some a) = a ∷ []
 
 -- the changes of the points
 abbrev pub changes_view : Changes → List timing.Change
-changes_view c = map change_view (listed c.first) ++ (passings (c.to - c.from) c.from ++ map change_view (listed c.last))
+changes_view c =
+    map change_view (listed c.first)
+    ++ (passings (c.to - c.from) c.from ++ (map change_view (listed c.last) ++ map change_view (listed c.held)))
 
 -- ---- the packets, with the header of an engine
 
 abbrev pub packets62 : Engine → List timing.Change → List Packet
-packets62 e l = map (timing_point (route_in e) e.train.position) (map (change_in e.load) l)
+packets62 e l = map (timing_point (route_in e) e.train.position) (map (change_in (route_in e)) l)
+
+-- of the stop whose hold a load ended
+abbrev pub revoked_packet : Engine → Point → Packet
+revoked_packet e p = timing_point (route_in e) e.train.position (point_change p status_hold_revoked (end_ahead e.load (standing e.progress)))
 
 abbrev pub jp_received_view : Engine → Received → Packet
 jp_received_view e r = jp_received_of (header (route_in e) e.train.position) r.nidc r.head
@@ -45,7 +54,7 @@ abbrev pub packets_view : Engine → Writes → List Packet
 packets_view e w =
     in_order
     (map (jp_received_view e) (listed w.received))
-    (packets62 e (changes_view w.changes))
+    (map (timing_point (route_in e) e.train.position) (changes_in e w.hold_ended (changes_view w.changes)))
     (traction_brakes (route_in e) e.train.position w.requested)
     (map (ato_status (route_in e) e.train.position e.control.state) (listed w.status))
 

@@ -9,10 +9,13 @@ ghost use Rattle.engine_value.specs.View.{route_view};
 ghost use Rattle.packets.specs.Packets.{joined};
 ghost use Rattle.timing.specs.Changes.{passings};
 ghost use Rattle.call.specs.Packets.{change_in};
-ghost use Rattle.call_values.specs.Packets.{header, country, status_due, timing_point, traction_brake, ato_status};
-ghost use Rattle.event_packets.specs.View.{change_view, status_view, jp_received_view, listed, packets62, packets_view, Put};
+ghost use Rattle.packets.specs.View.{status_number};
+ghost use Rattle.position.specs.Standing.{standing};
+ghost use Rattle.conditions.specs.Conditions.{end_ahead};
+ghost use Rattle.call_values.specs.Packets.{header, country, status_due, timing_point_of, timing_point, traction_brake, ato_status};
+ghost use Rattle.event_packets.specs.View.{change_view, status_view, jp_received_view, revoked_packet, listed, packets62, packets_view, Put};
 
-use engine_value::{Engine, Progress};
+use engine_value::{Engine, Point, Progress};
 use journey::Head;
 use packets::{
     AtoStatus, Header, JpReceived, JpStatus, Packet, PacketKind, PointStatus, Requested,
@@ -31,13 +34,14 @@ pub struct Change {
 }
 
 // What an event changes of the points: first, perhaps, a departure, a skip or its revocation; then the points from `from` to `to`, without that one,
-// pass; last, perhaps, a stop is reached. `from` and `to` are two numbers, since `Range` is not `Copy`.
+// pass; last, perhaps, a stop is reached, and is held. `from` and `to` are two numbers, since `Range` is not `Copy`.
 #[derive(Clone, Copy)]
 pub struct Changes {
     pub first: Option<Change>,
     pub from: u8,
     pub to: u8,
     pub last: Option<Change>,
+    pub held: Option<Change>,
 }
 
 // The head of a journey that was loaded, and the NID_C that its packet 65 tells: a number, for the paper has 1,024 where none is known.
@@ -56,11 +60,12 @@ pub struct Status {
     pub speed: u16,
 }
 
-// What an event writes, beside the values of the engine after it: a packet 65, the changes of the points, a packet 61, and the conditions of a
-// packet 68.
+// What an event writes, beside the values of the engine after it: a packet 65, the stop whose hold a load ended, the changes of the points, a packet 61,
+// and the conditions of a packet 68. The stop as the old journey has it: the engine after the event has the new one.
 #[derive(Clone, Copy)]
 pub struct Writes {
     pub received: Option<Received>,
+    pub hold_ended: Option<Point>,
     pub changes: Changes,
     pub requested: Option<Requested>,
     pub status: Option<OperationalConditions>,
@@ -81,25 +86,40 @@ pub fn header(e: &Engine) -> Header
     }
 }
 
-// Packet 62 for a change of a point.
-#[tactic(auto, unfolding(call_values::specs::Packets::timing_point))]
-fn timing_point(e: &Engine, c: Change) -> Packet
-    ensures { result ≡ timing_point (route_in e.now) e.now.train.position (change_in e.now.load (change_view c)) }
+// Packet 62 of a point, with the progress after its change.
+fn point_packet(e: &Engine, p: Point, status: PointStatus, after: Progress) -> Packet
+    ensures { result ≡ timing_point_of (header (route_in e.now) e.now.train.position) p (status_number status) (end_ahead e.now.load (standing after)) }
 {
-    let p = position::point(e.route(), c.index);
     Packet::TimingPoint(TimingPoint {
         header: header(e),
         nidc: p.nidc,
         nidtp: p.nidtp,
-        q_eoj_reached: u8::from(conditions::end_ahead(e.load, c.after)),
+        q_eoj_reached: u8::from(conditions::end_ahead(e.load, after)),
         alignment: p.alignment,
-        status: u8::from(c.status),
-        stopping: if c.status == PointStatus::Stopped {
+        status: u8::from(status),
+        stopping: if status == PointStatus::Stopped {
             p.stopping
         } else {
             0
         },
     })
+}
+
+// Packet 62 for a change of a point.
+#[tactic(auto, unfolding(call_values::specs::Packets::timing_point))]
+fn timing_point(e: &Engine, c: Change) -> Packet
+    ensures { result ≡ timing_point (route_in e.now) e.now.train.position (change_in (route_in e.now) (change_view c)) }
+{
+    let p = position::point(e.route(), c.index);
+    point_packet(e, p, c.status, c.after)
+}
+
+// Packet 62 for the hold at a point, revoked by a load.
+#[tactic(auto, unfolding(call_values::specs::Packets::timing_point))]
+fn hold_revoked(e: &Engine, p: Point) -> Packet
+    ensures { result ≡ revoked_packet e.now p }
+{
+    point_packet(e, p, PointStatus::HoldRevoked, e.progress)
 }
 
 // NID_C of the position, 1,024 unless it is known.
@@ -164,9 +184,11 @@ pub fn size(w: &Writes) -> usize
 {
     let c = w.changes;
     let passed = usize::from(c.to.saturating_sub(c.from));
-    let changed = usize::from(c.first.is_some()) + passed + usize::from(c.last.is_some());
+    let stopped = usize::from(c.last.is_some()) + usize::from(c.held.is_some());
+    let changed = usize::from(c.first.is_some()) + passed + stopped;
+    let points = usize::from(w.hold_ended.is_some()) + changed;
     PacketKind::JpReceived.size() * usize::from(w.received.is_some())
-        + PacketKind::TimingPoint.size() * changed
+        + PacketKind::TimingPoint.size() * points
         + PacketKind::TractionBrake.size() * usize::from(w.requested.is_some())
         + PacketKind::AtoStatus.size() * usize::from(w.status.is_some())
 }
@@ -222,15 +244,19 @@ pub fn write(e: &Engine, w: &Writes, out: &mut [u8])
 {
     let c = w.changes;
     let received = w.received.map(|r| jp_received(e, r));
+    let revoked = w.hold_ended.map(|p| hold_revoked(e, p));
     let first = c.first.map(|c| timing_point(e, c));
     let last = c.last.map(|c| timing_point(e, c));
+    let held = c.held.map(|c| timing_point(e, c));
     let requested = w.requested.map(|r| traction_brake(e, r));
     let status = w.status.map(|c| ato_status(e, c));
     let mut output = Output { memory: out, at: 0 };
     output.put(received);
+    output.put(revoked);
     output.put(first);
     output.put_passed(e, c.from, c.to);
     output.put(last);
+    output.put(held);
     output.put(requested);
     output.put(status);
 }

@@ -57,8 +57,8 @@ name-fits l =
 point_fits : (l : List ℕ) → Sure JourneyPointFits (point_record l)
 unfolding point_record
 point_fits l =
-    sure-on JourneyPointFits (bit_map (0 ∷ 1 ∷ []) (7 ∷ []) l) _ (λ m r₁ e₁.
-    sure-on JourneyPointFits (must (not (bit 5 m) || bit 4 m) r₁) _ (λ u r₂ e₂.
+    sure-on JourneyPointFits (bit_map (0 ∷ 1 ∷ []) [] l) _ (λ m r₁ e₁.
+    sure-on JourneyPointFits (must (not (bit 5 m || bit 7 m) || bit 4 m) r₁) _ (λ u r₂ e₂.
     sure-on JourneyPointFits (field 4 0 max_nidtp r₂) _ (λ t r₃ e₃.
     sure-on JourneyPointFits (free 1 r₃) _ (λ i r₄ e₄.
     sure-on JourneyPointFits (optional (bit 2 m) 0 (field 1 0 max_alignment) r₄) _ (λ a r₅ e₅.

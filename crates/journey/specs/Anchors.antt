@@ -41,8 +41,9 @@ name500 = record { nidc = 17; nidsp = 500 }
 abbrev pub p7001 : ℕ → List ℕ → List ℕ
 p7001 m l = m ∷ 0x00 ∷ 0x00 ∷ 0x1B ∷ 0x59 ∷ 0x03 ∷ l
 
-abbrev pub point7001 : ℕ → ℕ → Bool → Bool → Bool → JourneyPoint
-point7001 a d stop trackside end = record { nidtp = 7001; index = 3; alignment = a; stopping = d; stop = stop; trackside = trackside; end = end }
+abbrev pub point7001 : ℕ → ℕ → Bool → Bool → Bool → Bool → JourneyPoint
+point7001 a d stop trackside end held =
+    record { nidtp = 7001; index = 3; alignment = a; stopping = d; stop = stop; trackside = trackside; end = end; held = held }
 
 -- a journey with no optional field of the head: how many names and points are read
 abbrev pub sizes : List ℕ → Judged (ℕ × ℕ)
@@ -75,15 +76,19 @@ pub record Anchors : Type 0 where
       ∷ bad ∷ bad ∷ []
   -- "A point's map: 0 NID_TP (4, ..); 1 segment index (1, from 0); 2 alignment (1: 0 front, 1 middle, 2 rear; absent means 0);
   -- 3 stopping data (1, 0-127; absent means 0); 4 it is a stop; 5 trackside skips it; 6 End of Journey. Bits 4-6 carry no field"
-  pub point_all : point_record (p7001 0x7F (0x02 ∷ 0x7F ∷ 0xAA ∷ [])) ≡ good (point7001 2 127 true true true) (0xAA ∷ [])
+  pub point_all : point_record (p7001 0x7F (0x02 ∷ 0x7F ∷ 0xAA ∷ [])) ≡ good (point7001 2 127 true true true false) (0xAA ∷ [])
   pub point_bits_lem : map point_record (
       p7001 0x03 (0x01 ∷ []) ∷ p7001 0x07 (0x01 ∷ []) ∷ p7001 0x0B (0x01 ∷ []) ∷ p7001 0x13 (0x01 ∷ [])
       ∷ p7001 0x33 (0x01 ∷ []) ∷ p7001 0x43 (0x01 ∷ []) ∷ []
-      ) ≡ good (point7001 0 0 false false false) (0x01 ∷ []) ∷ good (point7001 1 0 false false false) [] ∷ good (point7001 0 1 false false false) []
-      ∷ good (point7001 0 0 true false false) (0x01 ∷ []) ∷ good (point7001 0 0 true true false) (0x01 ∷ [])
-      ∷ good (point7001 0 0 false false true) (0x01 ∷ []) ∷ []
-  -- "0 and 1 must stand, 7 not; 5 needs 4."
-  pub point_maps : map (λ m. taken (point_record (p7001 m []))) (0x02 ∷ 0x01 ∷ 0x83 ∷ 0x23 ∷ 0x63 ∷ []) ≡ false ∷ false ∷ false ∷ false ∷ false ∷ []
+      ) ≡ good (point7001 0 0 false false false false) (0x01 ∷ []) ∷ good (point7001 1 0 false false false false) [] ∷ good (point7001 0 1 false false false false) []
+      ∷ good (point7001 0 0 true false false false) (0x01 ∷ []) ∷ good (point7001 0 0 true true false false) (0x01 ∷ [])
+      ∷ good (point7001 0 0 false false true false) (0x01 ∷ []) ∷ []
+  -- "0 and 1 must stand, ..; 5 needs 4."
+  pub point_maps : map (λ m. taken (point_record (p7001 m []))) (0x02 ∷ 0x01 ∷ 0x23 ∷ 0x63 ∷ []) ≡ false ∷ false ∷ false ∷ false ∷ []
+  -- 02, Q-5: "Bit 7 of a journey point now means held and needs bit 4": alone, with 5 or 6 and without 4 it is refused; it stands beside either of them
+  pub held_maps : map (λ m. taken (point_record (p7001 m []))) (0x83 ∷ 0xA3 ∷ 0xC3 ∷ 0x93 ∷ 0xB3 ∷ 0xD3 ∷ []) ≡ false ∷ false ∷ false ∷ true ∷ true ∷ true ∷ []
+  pub held_all : point_record (p7001 0xFF (0x02 ∷ 0x7F ∷ 0xAA ∷ [])) ≡ good (point7001 2 127 true true true true) (0xAA ∷ [])
+  pub held_alone : point_record (p7001 0x93 (0x01 ∷ [])) ≡ good (point7001 0 0 true false false true) (0x01 ∷ [])
   pub none_left_out : map point_record ((0x02 ∷ 0x03 ∷ []) ∷ (0x01 ∷ 0x00 ∷ 0x00 ∷ 0x1B ∷ 0x59 ∷ []) ∷ []) ≡ bad ∷ bad ∷ []
   -- "NID_TP (4, below 4,294,967,295)", "segment index (1, from 0)"
   pub point_names : map (λ l. taken (point_record (0x03 ∷ l))) (
@@ -98,8 +103,8 @@ pub record Anchors : Type 0 where
       ≡ accept (record {
         head = stamped 4294967295 16384;
         names = record { nidc = 1023; nidsp = 4294967295 } ∷ name500 ∷ [];
-        points = point7001 0 0 false false true
-            ∷ record { nidtp = 2; index = 0; alignment = 0; stopping = 0; stop = true; trackside = false; end = false } ∷ [];
+        points = point7001 0 0 false false true false
+            ∷ record { nidtp = 2; index = 0; alignment = 0; stopping = 0; stop = true; trackside = false; end = false; held = false } ∷ [];
       })
   -- "3 segments: count (1, 1-40), ..; 4 points: count (1, 1-64)"
   pub counts : map sizes (

@@ -35,7 +35,7 @@ abbrev pub blank_name : Name
 blank_name = record { nidc = 0; nidsp = 0 }
 
 abbrev pub blank_journey_point : JourneyPoint
-blank_journey_point = record { nidtp = 0; index = 0; alignment = 0; stopping = 0; stop = false; trackside = false; end = false }
+blank_journey_point = record { nidtp = 0; index = 0; alignment = 0; stopping = 0; stop = false; trackside = false; end = false; held = false }
 
 -- ---- layouts
 
@@ -54,16 +54,16 @@ name_record = do
 
 -- "A point's map: 0 NID_TP (4, below 4,294,967,295); 1 segment index (1, from 0); 2 alignment (1: 0 front, 1 middle, 2 rear; absent means 0);
 -- 3 stopping data (1, 0-127; absent means 0); 4 it is a stop; 5 trackside skips it; 6 End of Journey. Bits 4-6 carry no field;
--- 0 and 1 must stand, 7 not; 5 needs 4."
+-- 0 and 1 must stand, ..; 5 needs 4." 02, Q-5: "Bit 7 of a journey point now means held and needs bit 4."
 unfoldable pub point_record : Reader JourneyPoint
 point_record = do
-  m ← bit_map (0 ∷ 1 ∷ []) (7 ∷ [])
-  must (not (bit 5 m) || bit 4 m)
+  m ← bit_map (0 ∷ 1 ∷ []) []
+  must (not (bit 5 m || bit 7 m) || bit 4 m)
   t ← field 4 0 max_nidtp
   i ← free 1
   a ← optional (bit 2 m) 0 (field 1 0 max_alignment)
   d ← optional (bit 3 m) 0 (field 1 0 max_stopping)
-  give (record { nidtp = t; index = i; alignment = a; stopping = d; stop = bit 4 m; trackside = bit 5 m; end = bit 6 m })
+  give (record { nidtp = t; index = i; alignment = a; stopping = d; stop = bit 4 m; trackside = bit 5 m; end = bit 6 m; held = bit 7 m })
 
 -- "Journey. Map: 0 NID_OPERATIONAL (4; absent means FFFFFFFF hexadecimal); 1 stamp: date (2, 0-32,767), seconds (4), counter (1);
 -- 2 NID_ATOTS (2, 0-16,383; absent means 16,384); .. Bits 1, 3, 4 must stand, 5-7 not."

@@ -45,6 +45,7 @@ pub struct JourneyPoint {
     pub stop: bool,
     pub trackside: bool,
     pub end: bool,
+    pub held: bool,
 }
 
 // NID_OPERATIONAL, the stamp and NID_ATOTS.
@@ -107,8 +108,8 @@ impl Item for JourneyPoint {
 
     #[tactic(auto, unfolding(crate::specs::Journey::point_record))]
     fn read(s: &[u8]) -> Option<(JourneyPoint, &[u8])> {
-        let (map, s) = read_map(s, &[0, 1], &[7])?;
-        if bit(map, 5) && !bit(map, 4) {
+        let (map, s) = read_map(s, &[0, 1], &[])?;
+        if (bit(map, 5) || bit(map, 7)) && !bit(map, 4) {
             return None;
         }
         let (nidtp, s) = read_field(s, 0, MAX_NIDTP)?;
@@ -123,6 +124,7 @@ impl Item for JourneyPoint {
             stop: bit(map, 4),
             trackside: bit(map, 5),
             end: bit(map, 6),
+            held: bit(map, 7),
         };
         Some((point, s))
     }

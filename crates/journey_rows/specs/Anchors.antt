@@ -13,7 +13,7 @@ name c sp = record { nidc = c; nidsp = sp }
 
 -- a point of NID_TP t on the segment of index i, and whether it is the End of Journey
 abbrev pub point : ℕ → ℕ → Bool → JourneyPoint
-point t i end = record { nidtp = t; index = i; alignment = 1; stopping = 2; stop = true; trackside = true; end = end }
+point t i end = record { nidtp = t; index = i; alignment = 1; stopping = 2; stop = true; trackside = true; end = end; held = false }
 
 -- a journey over these segments with points of these indices
 abbrev pub over : List Name → List ℕ → JourneyValue
@@ -34,7 +34,7 @@ ending a b c = point 1 0 a ∷ point 2 0 b ∷ point 3 1 c ∷ []
 -- a point by its place, and whether it is placed
 abbrev pub put : ℕ → Bool → Point
 put p placed =
-    record { nidtp = 7001; place = p; reach = 150; nidc = 17; alignment = 0; stopping = 0; stop = true; trackside = false; placed = placed; spare = 0 }
+    record { nidtp = 7001; place = p; reach = 150; nidc = 17; alignment = 0; stopping = 0; stop = true; trackside = false; held = false; placed = placed }
 
 pub record Anchors : Type 0 where
   -- "10 segment twice": NID_C and NID_SP together

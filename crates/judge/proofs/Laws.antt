@@ -20,7 +20,7 @@ use Rattle.state_codes.specs.Codes.{state_at}
 use Rattle.traction.specs.Requests.{remembered_after, written_content}
 use Rattle.traction.specs.View.{remembered_in, traction_of}
 use Rattle.call_values.specs.Packets.{status_due, packets_of}
-use Rattle.call.specs.Packets.{change_in, own_packets}
+use Rattle.call.specs.Packets.{changes_in, own_packets}
 use Rattle.call.specs.Effect.{route_after}
 use Rattle.call.specs.Call.{Step, conditions_in, status_in, step_by, judge}
 use Rattle.event_packets.specs.View.{status_view, changes_view, packets_view}
@@ -42,6 +42,7 @@ module _ (e : Engine) (v : Event) (memory : List ℕ) (f : Effect) (t : Judgemen
     (rows : t.control ≡ control_after f.inputs f.control v (is_some f.changes.last) shows)
     (traction : t.traction ≡ traction_of (remembered_after (state_at e.control.state) v (state_at t.control.state) (remembered_in e.traction)))
     (loaded : t.writes.received ≡ f.received)
+    (ended : t.writes.hold_ended ≡ f.hold_ended)
     (changes : t.writes.changes ≡ f.changes)
     (requested : t.writes.requested ≡ written_content (state_at e.control.state) v (remembered_in e.traction) (remembered_in t.traction))
     (status : t.writes.status ≡ then_some (status_due (status_in e) (status_view (status_of t.control f.train shows))) shows) where
@@ -74,7 +75,7 @@ module _ (e : Engine) (v : Event) (memory : List ℕ) (f : Effect) (t : Judgemen
   packets_are =
       ap (λ (m : Engine). packets_view m t.writes) engine_is
       ∙ packets_in step.engine t.writes _ (status_in e) (status_in step.engine) (λ r h. beside.nidc r (sym loaded ∙ h)) due_is refl traction_is
-      ∙ (λ i. packets_of (route_in step.engine) f.train.position (option_map (λ (r : Received). r.head) (loaded i)) (map (change_in step.engine.load) (changes_view (changes i))) (own_packets e v step.engine) (status_in e) (status_in step.engine))
+      ∙ (λ i. packets_of (route_in step.engine) f.train.position (option_map (λ (r : Received). r.head) (loaded i)) (changes_in step.engine (ended i) (changes_view (changes i))) (own_packets e v step.engine) (status_in e) (status_in step.engine))
 
   step_is : step_view e t ≡ step
   step_is = λ i. record { engine = engine_is i; packets = packets_are i }

@@ -8,7 +8,7 @@ use Rattle.packets.specs.declared.PacketKind as code
 use Rattle.packets.specs.declared.Header.{Header}
 use Rattle.packets.specs.declared.TimingPoint.{TimingPoint}
 use Rattle.packets.specs.declared.PointStatus.{PointStatus}
-use Rattle.packets.specs.declared.PointStatus.TheVariants.{Passed, Stopped, Departed, Skipped, Revoked}
+use Rattle.packets.specs.declared.PointStatus.TheVariants.{Passed, Stopped, Departed, Held, HoldRevoked, Skipped, Revoked}
 use Rattle.packets.specs.declared.JpStatus.{JpStatus}
 use Rattle.packets.specs.declared.JpStatus.TheVariants.{Accepted, TurnedDown}
 use Rattle.packets.specs.declared.JpReceived.{JpReceived}
@@ -22,11 +22,13 @@ header_view h = (h.nidc, (h.nidsp, (h.offset, (h.speed, (h.operational, tt)))))
 abbrev pub timing_point_view : TimingPoint → Values content62
 timing_point_view p = (p.nidc, (p.nidtp, ((p.q_eoj_reached, (p.alignment, (p.status, tt))), (p.stopping, tt))))
 
--- "status (0 passed, 1 stopped, 2 departed, 5 driver skip, 6 skip revoked)"
+-- "status (0 passed, 1 stopped, 2 departed, 5 driver skip, 6 skip revoked)"; 02, Q-5: 3 held, 4 the hold is revoked
 abbrev pub status_number : PointStatus → ℕ
 status_number Passed = 0
 status_number Stopped = 1
 status_number Departed = 2
+status_number Held = 3
+status_number HoldRevoked = 4
 status_number Skipped = 5
 status_number Revoked = 6
 

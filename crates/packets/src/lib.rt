@@ -40,6 +40,8 @@ pub enum PointStatus {
     Passed = 0,
     Stopped = 1,
     Departed = 2,
+    Held = 3,
+    HoldRevoked = 4,
     Skipped = 5,
     Revoked = 6,
 }

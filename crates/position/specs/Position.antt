@@ -1,7 +1,7 @@
 -- The journey's segments and points, and the known position.
 use Rattle.std.specs.Prelude.{ℕ, ◌+◌, min, Option, Some, None, is_some, option_map, List, Bool, not, ◌&&◌, get_or, take, eqb, leb, if◌then◌else◌}
 use Rattle.std.specs.List.{find}
-use Rattle.wire.specs.Lists.{any}
+use Rattle.wire.specs.Lists.{any, tabulate}
 use Rattle.engine_value.specs.Engine.{Route, blank_point, undefined, max_points}
 use Rattle.engine_value.specs.declared.Zone.{Zone}
 use Rattle.engine_value.specs.declared.Load.{Load}
@@ -16,6 +16,10 @@ points_loaded l = min l.point_count max_points
 
 abbrev pub point_count : Route → ℕ
 point_count j = points_loaded j.load
+
+-- the points of a journey by their index, in its order
+abbrev pub indices : Route → List ℕ
+indices j = tabulate (point_count j) (λ k. k)
 
 abbrev pub point : Route → ℕ → Point
 point j k = get_or j.points k blank_point

@@ -47,9 +47,9 @@ fourth = record { nidsp = 502; start = 0; length = 30000; zone_count = 1; zones 
 abbrev fifth : Segment
 fifth = record { nidsp = 503; start = 150000; length = 30000; zone_count = 0; zones = []; nidc = 33; booked = true; placed = true }
 
--- a point: name, place, R, NID_C, alignment, and whether it is a stop, skipped by trackside, placed
-abbrev timing_point : ℕ → ℕ → ℕ → ℕ → ℕ → Bool → Bool → Bool → Point
-timing_point t place reach c alignment stop trackside placed = record {
+-- a point: name, place, R, NID_C, alignment, and whether it is a stop, skipped by trackside, held, placed
+abbrev timing_point : ℕ → ℕ → ℕ → ℕ → ℕ → Bool → Bool → Bool → Bool → Point
+timing_point t place reach c alignment stop trackside held placed = record {
   nidtp = t;
   place = place;
   reach = reach;
@@ -58,20 +58,20 @@ timing_point t place reach c alignment stop trackside placed = record {
   stopping = 5;
   stop = stop;
   trackside = trackside;
+  held = held;
   placed = placed;
-  spare = 0;
 }
 
--- a stop, front; a passing point, middle; a stop that trackside skips, rear; a stop, middle, the End of Journey; a stop in the third segment; behind
--- the count a stop that is none of the journey's
+-- a stop, front; a passing point, middle; a stop that trackside skips, rear, held; a stop, middle, held, the End of Journey; a stop in the third
+-- segment; behind the count a stop that is none of the journey's, held
 abbrev timing_points : List Point
 timing_points =
-    timing_point 7001 40000 150 17 0 true false true
-    ∷ timing_point 7002 90000 300 17 1 false false true
-    ∷ timing_point 7003 110000 200 33 2 true true true
-    ∷ timing_point 7004 140000 100 33 1 true false true
-    ∷ timing_point 7005 0 0 17 0 true false false
-    ∷ timing_point 7006 0 0 17 0 true false false
+    timing_point 7001 40000 150 17 0 true false false true
+    ∷ timing_point 7002 90000 300 17 1 false false false true
+    ∷ timing_point 7003 110000 200 33 2 true true true true
+    ∷ timing_point 7004 140000 100 33 1 true false true true
+    ∷ timing_point 7005 0 0 17 0 true false false false
+    ∷ timing_point 7006 0 0 17 0 true false true false
     ∷ []
 
 -- the journey of the first n points: of the first four each is placed

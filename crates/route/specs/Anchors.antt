@@ -65,10 +65,10 @@ head = record { operational = 1234; date = 258; seconds = 3; counter = 4; atots 
 
 -- a point of NID_TP t on the segment of index i, and the End of Journey
 abbrev pub point : ℕ → ℕ → JourneyPoint
-point t i = record { nidtp = t; index = i; alignment = 0; stopping = 0; stop = false; trackside = false; end = false }
+point t i = record { nidtp = t; index = i; alignment = 0; stopping = 0; stop = false; trackside = false; end = false; held = false }
 
 abbrev pub last : ℕ → ℕ → JourneyPoint
-last t i = record { nidtp = t; index = i; alignment = 0; stopping = 0; stop = false; trackside = false; end = true }
+last t i = record { nidtp = t; index = i; alignment = 0; stopping = 0; stop = false; trackside = false; end = true; held = false }
 
 -- the number that refuses a journey of these segments and points, 0 where none does
 abbrev pub number : {A : Type 0} → Judged A → ℕ
@@ -89,26 +89,26 @@ stretch g = (g.start, g.length)
 abbrev pub spot : Point → ℕ × ℕ × ℕ
 spot p = (p.place, p.reach, p.nidc)
 
--- all four segments: a middle stop with stopping data, a rear stop with trackside skip and End of Journey, a passing point,
--- a stop with trackside skip
+-- all four segments: a middle stop with stopping data, held; a rear stop with trackside skip and End of Journey; a passing point; a stop with
+-- trackside skip, held
 abbrev pub journey_bytes : List ℕ
 journey_bytes =
     0x1F ∷ 0x00 ∷ 0x00 ∷ 0x04 ∷ 0xD2 ∷ 0x01 ∷ 0x02 ∷ 0x00 ∷ 0x00 ∷ 0x00 ∷ 0x03 ∷ 0x04 ∷ 0x00 ∷ 0x05
     ∷ 0x04 ∷ 0x00 ∷ 0x11 ∷ 0x00 ∷ 0x00 ∷ 0x01 ∷ 0xF4 ∷ 0x00 ∷ 0x12 ∷ 0x00 ∷ 0x00 ∷ 0x01 ∷ 0xF4
     ∷ 0x00 ∷ 0x11 ∷ 0x00 ∷ 0x00 ∷ 0x01 ∷ 0xF5 ∷ 0x00 ∷ 0x11 ∷ 0x00 ∷ 0x00 ∷ 0x01 ∷ 0xF6
-    ∷ 0x04 ∷ 0x1F ∷ 0x00 ∷ 0x00 ∷ 0x00 ∷ 0x01 ∷ 0x00 ∷ 0x01 ∷ 0x05
+    ∷ 0x04 ∷ 0x9F ∷ 0x00 ∷ 0x00 ∷ 0x00 ∷ 0x01 ∷ 0x00 ∷ 0x01 ∷ 0x05
     ∷ 0x77 ∷ 0x00 ∷ 0x00 ∷ 0x00 ∷ 0x02 ∷ 0x01 ∷ 0x02
     ∷ 0x03 ∷ 0x00 ∷ 0x00 ∷ 0x00 ∷ 0x03 ∷ 0x02
-    ∷ 0x33 ∷ 0x00 ∷ 0x00 ∷ 0x00 ∷ 0x04 ∷ 0x03
+    ∷ 0xB3 ∷ 0x00 ∷ 0x00 ∷ 0x00 ∷ 0x04 ∷ 0x03
     ∷ []
 
 -- what it gives
 abbrev pub placed : List Point
 placed =
-    record { nidtp = 1; place = 400; reach = 150; nidc = 17; alignment = 1; stopping = 5; stop = true; trackside = false; placed = true; spare = 0 }
-    ∷ record { nidtp = 2; place = 1500; reach = 10; nidc = 18; alignment = 2; stopping = 0; stop = true; trackside = true; placed = true; spare = 0 }
-    ∷ record { nidtp = 3; place = 0; reach = 0; nidc = 17; alignment = 0; stopping = 0; stop = false; trackside = false; placed = false; spare = 0 }
-    ∷ record { nidtp = 4; place = 0; reach = 0; nidc = 17; alignment = 0; stopping = 0; stop = true; trackside = true; placed = false; spare = 0 }
+    record { nidtp = 1; place = 400; reach = 150; nidc = 17; alignment = 1; stopping = 5; stop = true; trackside = false; held = true; placed = true }
+    ∷ record { nidtp = 2; place = 1500; reach = 10; nidc = 18; alignment = 2; stopping = 0; stop = true; trackside = true; held = false; placed = true }
+    ∷ record { nidtp = 3; place = 0; reach = 0; nidc = 17; alignment = 0; stopping = 0; stop = false; trackside = false; held = false; placed = false }
+    ∷ record { nidtp = 4; place = 0; reach = 0; nidc = 17; alignment = 0; stopping = 0; stop = true; trackside = true; held = true; placed = false }
     ∷ []
 
 -- the array of a segment's zones
@@ -139,7 +139,8 @@ pub record Anchors : Type 0 where
   pub point_places : map spot (
       points_of book (record { head = head; names = b ∷ d ∷ a ∷ []; points = point 9 0 ∷ point 4 1 ∷ last 1 2 ∷ [] })
       ) ≡ (0, 1, 18) ∷ (2100, 20, 17) ∷ (6400, 150, 17) ∷ []
-  -- what a load takes, from the bytes of a journey and of a book; "nothing is drawn on past the last placed segment"
+  -- what a load takes, from the bytes of a journey and of a book; "nothing is drawn on past the last placed segment"; 02, Q-5: "The engine's point
+  -- record gains the mark"
   pub load : load_of journey_bytes book_bytes ≡ accept (record {
     route = record {
       load = record { operational = 1234; valid = true; ending = 1; point_count = 4; segment_count = 4 };

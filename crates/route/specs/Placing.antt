@@ -87,8 +87,8 @@ point_of p s b = record {
   stopping = p.stopping;
   stop = p.stop;
   trackside = p.trackside;
+  held = p.held;
   placed = s.placed;
-  spare = 0;
 }
 
 -- the record of a point's segment, and that record's point of its name

@@ -60,8 +60,8 @@ impl Placed<'_> {
             stopping: p.stopping,
             stop: p.stop,
             trackside: p.trackside,
+            held: p.held,
             placed,
-            spare: 0,
         })
     }
 }

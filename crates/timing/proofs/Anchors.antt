@@ -80,6 +80,7 @@ anchors = record {
   change_of = refl;
   changes_departing = refl;
   changes_reaching = refl;
+  changes_held = refl;
   changes_none = refl;
   numbered = refl;
   from_moment = refl;

@@ -1,5 +1,6 @@
--- What the changes of a report are: a departure first, then the points that pass, then the one that is reached. Each names a point of the journey, and only
--- a point that is placed and has d > margin at that very report, with the position known, is recorded as passed.
+-- What the changes of a report are: a departure first, then the points that pass, then the one that is reached, and once more where it is held. Each names a
+-- point of the journey, and only a point that is placed and has d > margin at that very report, with the position known, is recorded as passed.
+use Rattle.std.specs.Prelude.{if◌then◌else◌}
 use Prim.Native.Nat.{ℕ, zero, suc, ◌+◌, ◌-◌, ◌<◌, ◌≤◌}
 use mathlib.Core.Path.{◌≡◌, refl, sym, ap, ◌∙◌}
 use mathlib.Core.Logic.{◌⊎◌, inl, inr}
@@ -12,10 +13,10 @@ use borrow.Author.Tests.{eqb-false, not-true}
 use Rattle.wire.proofs.ListLaws.{and_left, and_right}
 use Rattle.engine_value.specs.Engine.{Route, progress}
 use Rattle.engine_value.specs.declared.Progress.{Progress}
-use Rattle.position.specs.Position.{point_count, placed, known}
+use Rattle.position.specs.Position.{point, point_count, placed, known}
 use Rattle.timing.specs.Distance.{Report, beyond, at_stop, leaves}
 use Rattle.timing.specs.Report.{following, looked, looked_from, departs, stays, first_looked, reported, became_reached}
-use Rattle.timing.specs.Changes.{Change, change, status_passed, status_stopped, status_departed, passings, when, report_changes}
+use Rattle.timing.specs.Changes.{Change, change, status_passed, status_stopped, status_departed, status_held, passings, when, stopped_at, report_changes}
 use Rattle.timing.proofs.Steps.{look_zero, look_stops, look_passes, look_judges, reported_stays, reported_first, following-is, InRange, looked_range, reported_up, reported_range}
 
 -- ---- what passes is behind
@@ -59,25 +60,6 @@ looked_rests j r (suc n) i h = go _ refl _ refl (looked_rests j r n (suc i))
         (record { position_known = and_left (known j r.position) _ e; point_placed = and_right (known j r.position) _ e; not_beyond = f; at_stop_lem = rw (look_judges j r n i e f) at h })
 
 -- ---- lists of changes
-
-not_empty : (a b : List Change) (c : Change) → [] ≡ a ++ (c ∷ b) → ⊥
-not_empty [] b c e = cc
-not_empty (x ∷ a) b c e = cc
-
-tail_same : {x y : Change} {l m : List Change} → x ∷ l ≡ y ∷ m → l ≡ m
-tail_same e = cc
-
-head_same : {x y : Change} {l m : List Change} → x ∷ l ≡ y ∷ m → x ≡ y
-head_same e = cc
-
--- a stop that can only be the last is the last
-last_only : (f : Bool) (x : Change) (l a b : List Change) (c : Change) → ((y : Change) → Memᴰ y l → y.status ≡ status_stopped → ⊥)
-    → l ++ when f x ≡ a ++ (c ∷ b) → c.status ≡ status_stopped → b ≡ []
-last_only false x [] a b c n e s = absurd (not_empty a b c e)
-last_only true x [] [] b c n e s = sym (tail_same e)
-last_only true x [] (z ∷ a) b c n e s = absurd (not_empty a b c (tail_same e))
-last_only f x (y ∷ l) [] b c n e s = absurd (n y (Memᴰ.head refl) (ap (λ q. q.status) (head_same e) ∙ s))
-last_only f x (y ∷ l) (z ∷ a) b c n e s = last_only f x l a b c (λ q m. n q (Memᴰ.tail m)) (tail_same e) s
 
 when-in : (b : Bool) (x c : Change) → Memᴰ c (when b x) → (b ≡ true) × (c ≡ x)
 when-in true x c m = (refl, Memᴰ.eq_of_singleton m)
@@ -153,70 +135,126 @@ module _ (j : Route) (r : Report) (p : Progress) where
     pub became : became_reached j r p ≡ true
     pub is : c ≡ change (reported j r p).next status_stopped (reported j r p)
 
-  pub changes_are : (c : Change) → Memᴰ c (report_changes j r p) → Departed c ⊎ (Passing c ⊎ Stopped c)
+  -- 02, Q-5: "When a held stop becomes reached"
+  pub record Held (c : Change) : Type 0 where
+    pub became : became_reached j r p ≡ true
+    pub marked : (point j (reported j r p).next).held ≡ true
+    pub is : c ≡ change (reported j r p).next status_held (reported j r p)
+
+  pub data Kind (c : Change) : Type 0 where
+    departed : Departed c → Kind c
+    passing : Passing c → Kind c
+    stopped : Stopped c → Kind c
+    held : Held c → Kind c
+
+  abbrev end : List Change
+  end = if became_reached j r p then stopped_at j (reported j r p) else []
+
+  end-in : (c : Change) → Memᴰ c end → Kind c
+  end-in c m = go (became_reached j r p) refl m
+    where
+      at_stop_in : became_reached j r p ≡ true → (c ≡ change (reported j r p).next status_stopped (reported j r p)) ⊎ Memᴰ c (when (point j (reported j r p).next).held (change (reported j r p).next status_held (reported j r p)))
+          → Kind c
+      at_stop_in e (inl q) = stopped (record { became = e; is = q })
+      at_stop_in e (inr m) = let z = when-in (point j (reported j r p).next).held _ c m in held (record { became = e; marked = z.0; is = z.1 })
+
+      go : (b : Bool) → became_reached j r p ≡ b → Memᴰ c (if b then stopped_at j (reported j r p) else []) → Kind c
+      go true e m = at_stop_in e (Memᴰ.cases_cons m)
+      go false e m = absurd (Memᴰ.not-nil m)
+
+  pub changes_are : (c : Change) → Memᴰ c (report_changes j r p) → Kind c
   unfolding report_changes
   changes_are c m = go (Memᴰ.append_cases (when (departs j r p) (change p.next status_departed (progress (first_looked j r p) false))) m)
     where
-      last : Memᴰ c (passings ((reported j r p).next - first_looked j r p) (first_looked j r p)) ⊎ Memᴰ c (when (became_reached j r p) (change (reported j r p).next status_stopped (reported j r p))) → Passing c ⊎ Stopped c
-      last (inl m) = let z = passings-in ((reported j r p).next - first_looked j r p) (first_looked j r p) c m in inl (record { from = z.0; below = omega (arith, z.0, z.1); is = z.2 })
-      last (inr m) = let z = when-in (became_reached j r p) _ c m in inr (record { became = z.0; is = z.1 })
+      last : Memᴰ c (passings ((reported j r p).next - first_looked j r p) (first_looked j r p)) ⊎ Memᴰ c end → Kind c
+      last (inl m) = let z = passings-in ((reported j r p).next - first_looked j r p) (first_looked j r p) c m in passing (record { from = z.0; below = omega (arith, z.0, z.1); is = z.2 })
+      last (inr m) = end-in c m
 
       go : Memᴰ c (when (departs j r p) (change p.next status_departed (progress (first_looked j r p) false)))
-          ⊎ Memᴰ c (passings ((reported j r p).next - first_looked j r p) (first_looked j r p) ++ when (became_reached j r p) (change (reported j r p).next status_stopped (reported j r p)))
-          → Departed c ⊎ (Passing c ⊎ Stopped c)
-      go (inl m) = let z = when-in (departs j r p) _ c m in inl (record { departing = z.0; is = z.1 })
-      go (inr m) = inr (last (Memᴰ.append_cases (passings ((reported j r p).next - first_looked j r p) (first_looked j r p)) m))
+          ⊎ Memᴰ c (passings ((reported j r p).next - first_looked j r p) (first_looked j r p) ++ end) → Kind c
+      go (inl m) = let z = when-in (departs j r p) _ c m in departed (record { departing = z.0; is = z.1 })
+      go (inr m) = last (Memᴰ.append_cases (passings ((reported j r p).next - first_looked j r p) (first_looked j r p)) m)
 
   module _ (c : Change) (m : Memᴰ c (report_changes j r p)) where
     -- what a packet 62 of status 0 stands for
     pub recorded_behind : c.status ≡ status_passed → Behind j r c.index
     recorded_behind s = go (changes_are c m)
       where
-        go : Departed c ⊎ (Passing c ⊎ Stopped c) → Behind j r c.index
-        go (inl d) = absurd (eqb-false status_passed status_departed refl (sym s ∙ ap (λ x. x.status) d.is))
-        go (inr (inl q)) = passed_behind c.index q.from q.below
-        go (inr (inr q)) = absurd (eqb-false status_passed status_stopped refl (sym s ∙ ap (λ x. x.status) q.is))
+        go : Kind c → Behind j r c.index
+        go (departed d) = absurd (eqb-false status_passed status_departed refl (sym s ∙ ap (λ x. x.status) d.is))
+        go (passing q) = passed_behind c.index q.from q.below
+        go (stopped q) = absurd (eqb-false status_passed status_stopped refl (sym s ∙ ap (λ x. x.status) q.is))
+        go (held q) = absurd (eqb-false status_passed status_held refl (sym s ∙ ap (λ x. x.status) q.is))
 
     -- what one of status 1 stands for
     pub recorded_at_rest : c.status ≡ status_stopped → AtRest j r c.index
     recorded_at_rest s = go (changes_are c m)
       where
-        go : Departed c ⊎ (Passing c ⊎ Stopped c) → AtRest j r c.index
-        go (inl d) = absurd (eqb-false status_stopped status_departed refl (sym s ∙ ap (λ x. x.status) d.is))
-        go (inr (inl q)) = absurd (eqb-false status_stopped status_passed refl (sym s ∙ ap (λ x. x.status) q.is))
-        go (inr (inr q)) = rw (ap (λ x. x.index) q.is) (became_rests q.became)
+        go : Kind c → AtRest j r c.index
+        go (departed d) = absurd (eqb-false status_stopped status_departed refl (sym s ∙ ap (λ x. x.status) d.is))
+        go (passing q) = absurd (eqb-false status_stopped status_passed refl (sym s ∙ ap (λ x. x.status) q.is))
+        go (stopped q) = rw (ap (λ x. x.index) q.is) (became_rests q.became)
+        go (held q) = absurd (eqb-false status_stopped status_held refl (sym s ∙ ap (λ x. x.status) q.is))
+
+    -- what one of status 3 is
+    pub recorded_held : c.status ≡ status_held → Held c
+    recorded_held s = go (changes_are c m)
+      where
+        go : Kind c → Held c
+        go (departed d) = absurd (eqb-false status_held status_departed refl (sym s ∙ ap (λ x. x.status) d.is))
+        go (passing q) = absurd (eqb-false status_held status_passed refl (sym s ∙ ap (λ x. x.status) q.is))
+        go (stopped q) = absurd (eqb-false status_held status_stopped refl (sym s ∙ ap (λ x. x.status) q.is))
+        go (held q) = q
+
+    -- none has another status than 0 to 3
+    pub status_most : c.status ≤ status_held
+    status_most = go (changes_are c m)
+      where
+        go : Kind c → c.status ≤ status_held
+        go (departed d) = let s : c.status ≡ 2 = ap (λ x. x.status) d.is in omega arith
+        go (passing q) = let s : c.status ≡ 0 = ap (λ x. x.status) q.is in omega arith
+        go (stopped q) = let s : c.status ≡ 1 = ap (λ x. x.status) q.is in omega arith
+        go (held q) = let s : c.status ≡ 3 = ap (λ x. x.status) q.is in omega arith
 
     -- what one of status 2 stands for
     pub recorded_left : c.status ≡ status_departed → (p.reached ≡ true) × (c.index ≡ p.next) × (leaves j r c.index ≡ true)
     recorded_left s = go (changes_are c m)
       where
-        go : Departed c ⊎ (Passing c ⊎ Stopped c) → (p.reached ≡ true) × (c.index ≡ p.next) × (leaves j r c.index ≡ true)
-        go (inl d) =
+        go : Kind c → (p.reached ≡ true) × (c.index ≡ p.next) × (leaves j r c.index ≡ true)
+        go (departed d) =
             let i : c.index ≡ p.next = ap (λ x. x.index) d.is in
             (and_left p.reached _ d.departing, i, rw i (and_right p.reached _ d.departing))
-        go (inr (inl q)) = absurd (eqb-false status_departed status_passed refl (sym s ∙ ap (λ x. x.status) q.is))
-        go (inr (inr q)) = absurd (eqb-false status_departed status_stopped refl (sym s ∙ ap (λ x. x.status) q.is))
+        go (passing q) = absurd (eqb-false status_departed status_passed refl (sym s ∙ ap (λ x. x.status) q.is))
+        go (stopped q) = absurd (eqb-false status_departed status_stopped refl (sym s ∙ ap (λ x. x.status) q.is))
+        go (held q) = absurd (eqb-false status_departed status_held refl (sym s ∙ ap (λ x. x.status) q.is))
 
     -- each names a point of the journey
     pub index_below : InRange j p → c.index < point_count j
     index_below h = go (changes_are c m)
       where
-        go : Departed c ⊎ (Passing c ⊎ Stopped c) → c.index < point_count j
-        go (inl d) = let i : c.index ≡ p.next = ap (λ x. x.index) d.is in let l : p.next < point_count j = h.reached_one (and_left p.reached _ d.departing) in omega arith
-        go (inr (inl q)) = omega (arith, q.below, (reported_range j r p h).most)
-        go (inr (inr q)) =
-            let i : c.index ≡ (reported j r p).next = ap (λ x. x.index) q.is in
-            let l : (reported j r p).next < point_count j = (reported_range j r p h).reached_one (and_right (not (stays j r p)) _ q.became) in
+        here : c.index ≡ (reported j r p).next → became_reached j r p ≡ true → c.index < point_count j
+        here i b =
+            let l : (reported j r p).next < point_count j = (reported_range j r p h).reached_one (and_right (not (stays j r p)) _ b) in
             omega arith
+
+        go : Kind c → c.index < point_count j
+        go (departed d) = let i : c.index ≡ p.next = ap (λ x. x.index) d.is in let l : p.next < point_count j = h.reached_one (and_left p.reached _ d.departing) in omega arith
+        go (passing q) = omega (arith, q.below, (reported_range j r p h).most)
+        go (stopped q) = here (ap (λ x. x.index) q.is) q.became
+        go (held q) = here (ap (λ x. x.index) q.is) q.became
 
     -- the progress after it lies between those before and after the report
     pub after_between : InRange j p → (p.next ≤ c.after.next) × (c.after.next ≤ (reported j r p).next)
     after_between h = go (changes_are c m)
       where
-        go : Departed c ⊎ (Passing c ⊎ Stopped c) → (p.next ≤ c.after.next) × (c.after.next ≤ (reported j r p).next)
-        go (inl d) = let a : c.after.next ≡ first_looked j r p = ap (λ x. x.after.next) d.is in (omega (arith, (first_range h).0), omega (arith, first_up h))
-        go (inr (inl q)) = let a : c.after.next ≡ c.index + 1 = ap (λ x. x.after.next) q.is in (omega (arith, (first_range h).0, q.from), omega (arith, q.below))
-        go (inr (inr q)) = let a : c.after.next ≡ (reported j r p).next = ap (λ x. x.after.next) q.is in (omega (arith, reported_up j r p h), omega arith)
+        here : c.after ≡ reported j r p → (p.next ≤ c.after.next) × (c.after.next ≤ (reported j r p).next)
+        here e = let a : c.after.next ≡ (reported j r p).next = ap (λ x. x.next) e in (omega (arith, reported_up j r p h), omega arith)
+
+        go : Kind c → (p.next ≤ c.after.next) × (c.after.next ≤ (reported j r p).next)
+        go (departed d) = let a : c.after.next ≡ first_looked j r p = ap (λ x. x.after.next) d.is in (omega (arith, (first_range h).0), omega (arith, first_up h))
+        go (passing q) = let a : c.after.next ≡ c.index + 1 = ap (λ x. x.after.next) q.is in (omega (arith, (first_range h).0, q.from), omega (arith, q.below))
+        go (stopped q) = here (ap (λ x. x.after) q.is)
+        go (held q) = here (ap (λ x. x.after) q.is)
 
   -- a reached point that is not departed: nothing changes
   pub changes_stay : p.reached ≡ true → leaves j r p.next ≡ false → report_changes j r p ≡ []
@@ -231,25 +269,16 @@ module _ (j : Route) (r : Report) (p : Progress) where
       → (l : List Change) × (report_changes j r p ≡ change p.next status_departed (progress (following p.next) false) ∷ l)
   unfolding report_changes
   changes_leave e l = (
-    passings ((reported j r p).next - following p.next) (following p.next) ++ when (became_reached j r p) (change (reported j r p).next status_stopped (reported j r p)),
+    passings ((reported j r p).next - following p.next) (following p.next) ++ end,
     rw (e, l),
   )
 
-  -- status 1 stands at the end only
-  pub stopped_last : (a b : List Change) (c : Change) → report_changes j r p ≡ a ++ (c ∷ b) → c.status ≡ status_stopped → b ≡ []
+  -- a held stop that becomes reached: its two changes come last
+  pub changes_held : became_reached j r p ≡ true → (point j (reported j r p).next).held ≡ true
+      → (l : List Change) × (report_changes j r p ≡ l ++ (change (reported j r p).next status_stopped (reported j r p) ∷ change (reported j r p).next status_held (reported j r p) ∷ []))
   unfolding report_changes
-  stopped_last a b c e s =
-      last_only (became_reached j r p) (change (reported j r p).next status_stopped (reported j r p)) (front ++ middle) a b c unstopped (append_assoc front middle _ ∙ e) s
-    where
-      front : List Change
-      front = when (departs j r p) (change p.next status_departed (progress (first_looked j r p) false))
-
-      middle : List Change
-      middle = passings ((reported j r p).next - first_looked j r p) (first_looked j r p)
-
-      unstopped : (y : Change) → Memᴰ y (front ++ middle) → y.status ≡ status_stopped → ⊥
-      unstopped y m s = go (Memᴰ.append_cases front m)
-        where
-          go : Memᴰ y front ⊎ Memᴰ y middle → ⊥
-          go (inl m) = eqb-false status_departed status_stopped refl (sym (ap (λ x. x.status) (when-in (departs j r p) _ y m).1) ∙ s)
-          go (inr m) = eqb-false status_passed status_stopped refl (sym (ap (λ x. x.status) (passings-in ((reported j r p).next - first_looked j r p) (first_looked j r p) y m).2) ∙ s)
+  changes_held e m =
+      let first = when (departs j r p) (change p.next status_departed (progress (first_looked j r p) false)) in
+      let among = passings ((reported j r p).next - first_looked j r p) (first_looked j r p) in
+      let both : end ≡ change (reported j r p).next status_stopped (reported j r p) ∷ change (reported j r p).next status_held (reported j r p) ∷ [] = rw (e, m) in
+      (first ++ among, ap (λ l. first ++ (among ++ l)) both ∙ sym (append_assoc first among _))

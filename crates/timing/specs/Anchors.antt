@@ -1,7 +1,6 @@
 -- Values that the definitions must give for the journey of position/Sample, worked out by hand from document 01, "Timing points", and from
--- document 02, Q-3: points at 40,000
--- (front, R 150), 90,000 (middle, passing), 110,000 (rear, skipped by trackside), 140,000 (middle, R 100), and one that is not placed; the train is
--- 301 long, and its half 150.
+-- document 02, Q-3 and Q-5: points at 40,000 (front, R 150), 90,000 (middle, passing), 110,000 (rear, skipped by trackside, held), 140,000 (middle,
+-- R 100, held), and one that is not placed; the train is 301 long, and its half 150.
 use Rattle.std.specs.Prelude.{ℕ, ◌≡◌, List, [], ◌∷◌, ◌++◌, map, replicate, Bool, true, false, pos, neg_ℤ, eqb}
 use Rattle.engine_value.specs.Engine.{Route, undefined, progress, blank_point}
 use Rattle.engine_value.specs.declared.Point.{Point}
@@ -14,7 +13,7 @@ use Rattle.position.specs.declared.Standing.TheVariants.{Unused, Targeted, Reach
 use Rattle.timing.specs.Distance.{Report, report_from, back, distance, unskipped, margin, exceeds, exceeds_reach, stops_at, beyond, at_stop, moving, leaves}
 use Rattle.timing.specs.Load.{put_behind, target}
 use Rattle.timing.specs.Report.{following, reported, became_reached, report_of, no_report, run}
-use Rattle.timing.specs.Changes.{change, status_passed, status_stopped, status_departed, status_skipped, status_revoked, report_changes}
+use Rattle.timing.specs.Changes.{change, status_passed, status_stopped, status_departed, status_held, status_hold_revoked, status_skipped, status_revoked, report_changes}
 use Rattle.timing.specs.History.{report_number, first_of, settles}
 use Rattle.timing.specs.Rule.{point_outcome, standing_by_reports}
 use Rattle.timing.specs.Rule.PointOutcome.{passes, reaches, not_looked_at}
@@ -55,8 +54,8 @@ near place reach = record {
   stopping = 0;
   stop = true;
   trackside = false;
+  held = false;
   placed = true;
-  spare = 0;
 }
 
 abbrev crowded : Route
@@ -180,14 +179,18 @@ pub record Anchors : Type 0 where
   pub report_reaches : report_of journey (two 40150 0) (targeted 1) ≡ brings (stopped 3) 1 false true
   pub no_report_lem : no_report (targeted 4) ∷ no_report (stopped 0) ∷ [] ≡ brings (targeted 4) 4 false false ∷ brings (stopped 0) 0 false false ∷ []
   pub reports_in_turn : run journey (targeted 0) (two 10302 1 ∷ two 40150 0 ∷ []) ≡ stopped 3
-  -- "status (0 passed, 1 stopped, 2 departed, 5 driver skip, 6 skip revoked)"
-  pub statuses : status_passed ∷ status_stopped ∷ status_departed ∷ status_skipped ∷ status_revoked ∷ [] ≡ 0 ∷ 1 ∷ 2 ∷ 5 ∷ 6 ∷ []
+  -- "status (0 passed, 1 stopped, 2 departed, 5 driver skip, 6 skip revoked)", and 02, Q-5, 3 and 4
+  pub statuses : status_passed ∷ status_stopped ∷ status_departed ∷ status_held ∷ status_hold_revoked ∷ status_skipped ∷ status_revoked ∷ []
+      ≡ 0 ∷ 1 ∷ 2 ∷ 3 ∷ 4 ∷ 5 ∷ 6 ∷ []
   pub change_of : change 3 1 (stopped 2) ≡ record { index = 3; status = 1; after = stopped 2 }
   -- "the 62s as they arise", with the progress "after that change". "A departure writes status 2 and no 0"
   pub changes_departing : report_changes journey (two 40150 1) (stopped 0)
       ≡ change 0 2 (targeted 1) ∷ change 1 0 (targeted 2) ∷ change 2 0 (targeted 3) ∷ []
-  pub changes_reaching : report_changes journey (two 40150 0) (targeted 1)
-      ≡ change 1 0 (targeted 2) ∷ change 2 0 (targeted 3) ∷ change 3 1 (stopped 3) ∷ []
+  pub changes_reaching : report_changes journey (one 39850 0) (targeted 0) ∷ report_changes crowded (one 40000 0) (targeted 0) ∷ []
+      ≡ (change 0 1 (stopped 0) ∷ []) ∷ (change 0 1 (stopped 0) ∷ []) ∷ []
+  -- 02, Q-5: "When a held stop becomes reached, packet 62 with status 3 follows the one with status 1."
+  pub changes_held : report_changes journey (two 40150 0) (targeted 1)
+      ≡ change 1 0 (targeted 2) ∷ change 2 0 (targeted 3) ∷ change 3 1 (stopped 3) ∷ change 3 3 (stopped 3) ∷ []
   pub changes_none : report_changes journey (two 40150 0) (stopped 3) ∷ report_changes journey (two 40250 1) (stopped 3)
       ∷ report_changes journey (two 40049 0) (targeted 3) ∷ [] ≡ [] ∷ [] ∷ [] ∷ []
   -- moments: report t of a list, from 1

@@ -2,11 +2,12 @@
 use Rattle.std.specs.Prelude.{ℕ, zero, suc, ◌+◌, ◌-◌, List, [], ◌∷◌, ◌++◌, Bool, false, if◌then◌else◌}
 use Rattle.engine_value.specs.Engine.{Route, progress}
 use Rattle.engine_value.specs.declared.Progress.{Progress}
+use Rattle.position.specs.Position.{point}
 use Rattle.timing.specs.Distance.{Report}
 use Rattle.timing.specs.declared.Reported.{Reported}
 use Rattle.timing.specs.Report.{report_of}
 
--- "status (0 passed, 1 stopped, 2 departed, 5 driver skip, 6 skip revoked)"
+-- "status (0 passed, 1 stopped, 2 departed, 5 driver skip, 6 skip revoked)"; 02, Q-5: 3 held, 4 the hold is revoked
 abbrev pub status_passed : ℕ
 status_passed = 0
 
@@ -15,6 +16,12 @@ status_stopped = 1
 
 abbrev pub status_departed : ℕ
 status_departed = 2
+
+abbrev pub status_held : ℕ
+status_held = 3
+
+abbrev pub status_hold_revoked : ℕ
+status_hold_revoked = 4
 
 abbrev pub status_skipped : ℕ
 status_skipped = 5
@@ -38,12 +45,16 @@ passings (suc n) k = change k status_passed (progress (k + 1) false) ∷ passing
 abbrev pub when : {A : Type 0} → Bool → A → List A
 when b a = if b then a ∷ [] else []
 
+-- a stop that becomes reached, with the progress p. 02, Q-5: "When a held stop becomes reached, packet 62 with status 3 follows the one with status 1."
+abbrev pub stopped_at : Route → Progress → List Change
+stopped_at j p = change p.next status_stopped p ∷ when (point j p.next).held (change p.next status_held p)
+
 -- "the 62s as they arise". "A departure writes status 2 and no 0." Of a report, from the progress before it
-abbrev pub changes_of : Progress → Reported → List Change
-changes_of p t =
+abbrev pub changes_of : Route → Progress → Reported → List Change
+changes_of j p t =
     when t.departed (change p.next status_departed (progress t.from false))
     ++ (passings (t.progress.next - t.from) t.from
-    ++ when t.reached (change t.progress.next status_stopped t.progress))
+    ++ (if t.reached then stopped_at j t.progress else []))
 
 unfoldable pub report_changes : Route → Report → Progress → List Change
-report_changes j r p = changes_of p (report_of j r p)
+report_changes j r p = changes_of j p (report_of j r p)

@@ -10,8 +10,8 @@ use Rattle.wire.specs.Refusals.{turns_down}
 use Rattle.wire.specs.Lists.{All, those}
 use Rattle.wire.specs.Judged.Judged.{accept}
 use Rattle.engine_value.specs.Engine.{Route}
+use Rattle.engine_value.specs.declared.Point.{Point}
 use Rattle.engine_value.specs.declared.Position.{Position}
-use Rattle.engine_value.specs.declared.Load.{Load}
 use Rattle.event.specs.declared.Event.TheVariants.{PositionReport}
 use Rattle.event.specs.Kinds.{Role, off, load, report, other, skip}
 use Rattle.journey.specs.declared.Head.{Head}
@@ -26,7 +26,7 @@ use Rattle.position.specs.Skips.{stop_named}
 use Rattle.conditions.specs.Conditions.{end_ahead}
 use Rattle.timing.specs.Changes.{Change, when, report_changes}
 use Rattle.call_values.specs.Call.{Call}
-use Rattle.call_values.specs.Packets.{PointChange, timing_point, jp_received, traction_brake, traction_brakes, ato_status, status_due, received, packets_of, jp_turned_down, packets_refused}
+use Rattle.call_values.specs.Packets.{PointChange, hold_revoked, timing_point, jp_received, traction_brake, traction_brakes, ato_status, status_due, received, packets_of, jp_turned_down, packets_refused}
 use Rattle.call.specs.Packets.{change_in}
 use Rattle.whole_list.specs.Values.{History, event_of_call, role_of_call, position_by, route_by, report_at}
 use Rattle.whole_list.specs.Rules.{standing_by, state_by}
@@ -35,10 +35,9 @@ use Rattle.whole_list.specs.Table.{skip_change, changes_by, head_of_call, own_by
 use Rattle.whole_list.specs.WholeList.{bytes_of_each}
 use Rattle.whole_list.proofs.Readable.{Fits, packets_fit, refused_fit}
 use Rattle.whole_list.proofs.Fields.{progress_run}
-use Rattle.whole_list.proofs.FieldsStep.{route_kept, changes_is}
+use Rattle.whole_list.proofs.FieldsStep.{changes_is}
 use Rattle.told_once.specs.Recording.{Told, told_by, told_in}
-use Rattle.told_once.proofs.Reports.{counts, marked, all_count}
-use Rattle.told_once.proofs.Story.{tell}
+use Rattle.told_once.proofs.Reports.{counts, told_changes, marked, all_count}
 
 pub told-append : (a b : List (List ℕ)) → told_in (a ++ b) ≡ told_in a ++ told_in b
 unfolding told_in
@@ -68,12 +67,12 @@ read_back (p ∷ l) f =
 -- ---- the packets of an event
 
 -- what a change of the rules tells in a packet 62
-abbrev changed : Route → PointChange → Told
-changed j c = tell j c.index c.status
+abbrev changed : PointChange → Told
+changed c = record { name = record { nidc = c.point.nidc; nidtp = c.point.nidtp }; status = c.status }
 
-changed-in : (j : Route) (l : Load) (changes : List Change) → map (changed j) (map (change_in l) changes) ≡ map (marked j) changes
-changed-in j l [] = refl
-changed-in j l (c ∷ changes) = ap (λ (m : List Told). marked j c ∷ m) (changed-in j l changes)
+changed-in : (j : Route) (changes : List Change) → map changed (map (change_in j) changes) ≡ map (marked j) changes
+changed-in j [] = refl
+changed-in j (c ∷ changes) = ap (λ (m : List Told). marked j c ∷ m) (changed-in j changes)
 
 module _ (j : Route) (x : Position) where
   of_65 : (o : Option Head) → told_of_each (received j x o) ≡ []
@@ -91,15 +90,15 @@ module _ (j : Route) (x : Position) where
   of_68 true s n = refl
   of_68 false s n = refl
 
-  of_62 : (l : List PointChange) → told_of_each (map (timing_point j x) l) ≡ those counts (map (changed j) l)
+  of_62 : (l : List PointChange) → told_of_each (map (timing_point j x) l) ≡ those counts (map changed l)
   unfolding told_of_each timing_point
   of_62 [] = refl
-  of_62 (c ∷ l) = go (counts (changed j c)) (of_62 l)
+  of_62 (c ∷ l) = go (counts (changed c)) (of_62 l)
     where
-      go : (b : Bool) → told_of_each (map (timing_point j x) l) ≡ those counts (map (changed j) l)
-          → when b (changed j c) ++ told_of_each (map (timing_point j x) l)
-          ≡ cond b (changed j c ∷ those counts (map (changed j) l)) (those counts (map (changed j) l))
-      go true e = ap (λ (m : List Told). changed j c ∷ m) e
+      go : (b : Bool) → told_of_each (map (timing_point j x) l) ≡ those counts (map changed l)
+          → when b (changed c) ++ told_of_each (map (timing_point j x) l)
+          ≡ cond b (changed c ∷ those counts (map changed l)) (those counts (map changed l))
+      go true e = ap (λ (m : List Told). changed c ∷ m) e
       go false e = e
 
 -- nor does what a refused call writes
@@ -112,7 +111,7 @@ refused-tells h c n = read_back (packets_refused_by h c n) (refused_fit h c n) �
     go false = refl
 
 -- the packets 62 that a call writes, by index and status of the points that it changes
-call-tells : (h : History) (c : Call) → told_in (bytes_of_each (packets_by h c)) ≡ those counts (map (changed (route_by (c ∷ h))) (changes_by h c))
+call-tells : (h : History) (c : Call) → told_in (bytes_of_each (packets_by h c)) ≡ those counts (map changed (changes_by h c))
 unfolding packets_by packets_of told_of_each
 call-tells h c =
     let j = route_by (c ∷ h) in
@@ -135,17 +134,16 @@ call-tells h c =
 
 -- a position report: what its steps change
 pub report-tells : (h : History) (c : Call) (x : Position) → event_of_call c ≡ PositionReport x
-    → told_in (bytes_of_each (packets_by h c)) ≡ map (marked (route_by h)) (report_changes (route_by h) (report_at (c ∷ h)) (progress_run h))
+    → told_in (bytes_of_each (packets_by h c)) ≡ map (marked (route_by h)) (told_changes (route_by h) (report_at (c ∷ h)) (progress_run h))
 unfolding changes_by
 report-tells h c x e =
     let j = route_by h in
     let r = report_at (c ∷ h) in
     let p = progress_run h in
-    let by-steps : changes_by h c ≡ map (change_in j.load) (report_changes j r p) = rw (e, changes_by) (changes_is c h x e) in
+    let by-steps : changes_by h c ≡ map (change_in j) (report_changes j r p) = rw (e, changes_by) (changes_is c h x e) in
     call-tells h c
-    ∙ ap (λ i. those counts (map (changed i) (changes_by h c))) (route_kept c h x e)
-    ∙ ap (λ l. those counts (map (changed j) l)) by-steps
-    ∙ ap (those counts) (changed-in j j.load (report_changes j r p))
+    ∙ ap (λ l. those counts (map changed l)) by-steps
+    ∙ ap (those counts) (changed-in j (report_changes j r p))
     ∙ all_count j r p
 
 abbrev pub Quiet : Role → Type 0
@@ -155,22 +153,26 @@ Quiet report = ⊥
 Quiet other = Unit {0}
 Quiet (skip t on) = Unit {0}
 
--- any other event: a driver skip writes 5 or 6
+-- any other event: a driver skip writes 5 or 6, a load at most a 4
 pub quiet : (h : History) (c : Call) (r : Role) → role_of_call c ≡ r → Quiet r → told_in (bytes_of_each (packets_by h c)) ≡ []
 unfolding changes_by
 quiet h c r q n = call-tells h c ∙ go r q n
   where
     j : Route
-    j = route_by (c ∷ h)
+    j = route_by h
 
-    skipped : (f : Option ℕ) (on ahead : Bool) → those counts (map (changed j) (skip_change f on ahead)) ≡ []
+    skipped : (f : Option ℕ) (on ahead : Bool) → those counts (map changed (skip_change j f on ahead)) ≡ []
     skipped None on ahead = refl
     skipped (Some k) true ahead = refl
     skipped (Some k) false ahead = refl
 
-    go : (r : Role) → role_of_call c ≡ r → Quiet r → those counts (map (changed j) (changes_by h c)) ≡ []
+    ended : (o : Option Point) (ahead : Bool) → those counts (map changed (hold_revoked o ahead)) ≡ []
+    ended None ahead = refl
+    ended (Some p) ahead = refl
+
+    go : (r : Role) → role_of_call c ≡ r → Quiet r → those counts (map changed (changes_by h c)) ≡ []
     go off q n = rw (q, changes_by)
-    go load q n = rw (q, changes_by)
+    go load q n = rw (q, changes_by) (ended _ _)
     go report q n = absurd n
     go other q n = rw (q, changes_by)
     go (skip t on) q n = rw (q, changes_by) (skipped (stop_named (route_by h) t) on (end_ahead (route_by h).load (standing_by h)))

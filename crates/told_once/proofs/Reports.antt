@@ -1,4 +1,5 @@
 -- A position report carries the story on: by what it changes, from the progress before it to the one after.
+use Rattle.std.specs.Prelude.{if◌then◌else◌}
 use mathlib.Core.Path.{◌≡◌, refl, sym, ◌∙◌, ap, subst}
 use mathlib.Core.Bool.{Bool, true, false, ◌||◌}
 use mathlib.Core.List.{List, [], ◌∷◌, ◌++◌, map, append-nil, append_assoc}
@@ -9,10 +10,10 @@ use Rattle.std.proofs.lemmas.List.{map-append}
 use Rattle.std.proofs.lemmas.List.Elements.{filter-append}
 use Rattle.engine_value.specs.Engine.{Route, progress}
 use Rattle.engine_value.specs.declared.Progress.{Progress}
-use Rattle.position.specs.Position.{point_count}
+use Rattle.position.specs.Position.{point, point_count}
 use Rattle.timing.specs.Distance.{Report, leaves}
 use Rattle.timing.specs.Report.{departs, first_looked, reported, became_reached}
-use Rattle.timing.specs.Changes.{Change, change, status_passed, status_stopped, status_departed, passings, when, report_changes}
+use Rattle.timing.specs.Changes.{Change, change, status_passed, status_stopped, status_departed, status_held, passings, when, stopped_at, report_changes}
 use Rattle.timing.proofs.Steps.{InRange, following-is, looked_range, reported_stays, reported_departs, reported_looks}
 use Rattle.told_once.specs.Recording.{Told, stops, passes}
 use Rattle.told_once.proofs.Story.{tell, Story, passing, stopping, departing}
@@ -20,6 +21,13 @@ use Rattle.told_once.proofs.Story.{tell, Story, passing, stopping, departing}
 -- the packets 62 that are looked at
 abbrev pub counts : Told → Bool
 counts t = passes t || stops t
+
+-- of what a report changes: all but that a held stop becomes reached
+abbrev pub told_changes : Route → Report → Progress → List Change
+told_changes j r p =
+    when (departs j r p) (change p.next status_departed (progress (first_looked j r p) false))
+    ++ (passings ((reported j r p).next - first_looked j r p) (first_looked j r p)
+    ++ when (became_reached j r p) (change (reported j r p).next status_stopped (reported j r p)))
 
 -- what a change tells in a packet 62
 abbrev pub marked : Route → Change → Told
@@ -74,8 +82,7 @@ module _ (j : Route) (start : ℕ) where
 
     changes_by_lem : (departed : Bool) (f : ℕ) (reached : Bool) (q : Progress)
         → departs j r p ≡ departed → first_looked j r p ≡ f → became_reached j r p ≡ reached → reported j r p ≡ q
-        → report_changes j r p ≡ by departed f reached q
-    unfolding report_changes
+        → told_changes j r p ≡ by departed f reached q
     changes_by_lem departed f reached q a b c d =
         ap (λ x. by x (first_looked j r p) (became_reached j r p) (reported j r p)) a
         ∙ ap (λ x. by departed x (became_reached j r p) (reported j r p)) b
@@ -86,13 +93,13 @@ module _ (j : Route) (start : ℕ) where
     unfolding passings
     none_there = append-nil told
 
-    pub reporting : Story j start p told → Story j start (reported j r p) (told ++ map (marked j) (report_changes j r p))
+    pub reporting : Story j start p told → Story j start (reported j r p) (told ++ map (marked j) (told_changes j r p))
     reporting s = go _ refl _ refl
       where
         Goes : List Change → Type 0
         Goes l = Story j start (reported j r p) (told ++ map (marked j) l)
 
-        go : (a : Bool) → p.reached ≡ a → (b : Bool) → leaves j r p.next ≡ b → Goes (report_changes j r p)
+        go : (a : Bool) → p.reached ≡ a → (b : Bool) → leaves j r p.next ≡ b → Goes (told_changes j r p)
         go true e false m =
             let z : p.next - p.next ≡ 0 = omega arith in
             subst Goes (sym (changes_by_lem false p.next false p (rw (e, m)) (rw (e, m)) (rw (e, m)) (reported_stays j r p e m)))
@@ -115,14 +122,14 @@ module _ (j : Route) (start : ℕ) where
             subst Goes (sym (changes_by_lem false p.next q.reached q (rw e) (rw e) (rw e) refl))
             (looking p.next q told up (story_of (λ i. record { next = p.next; reached = e i }) refl s))
 
--- all that a report changes is looked at
+-- of all that a report changes those are looked at
 module _ (j : Route) where
-  all_append : (a b : List Change) → those counts (map (marked j) a) ≡ map (marked j) a → those counts (map (marked j) b) ≡ map (marked j) b
-      → those counts (map (marked j) (a ++ b)) ≡ map (marked j) (a ++ b)
-  all_append a b e f =
+  count_append : (a b c d : List Change) → those counts (map (marked j) a) ≡ map (marked j) c → those counts (map (marked j) b) ≡ map (marked j) d
+      → those counts (map (marked j) (a ++ b)) ≡ map (marked j) (c ++ d)
+  count_append a b c d e f =
       ap (those counts) (map-append (marked j) a b) ∙ filter-append counts (map (marked j) a) (map (marked j) b)
-      ∙ ap (λ (l : List Told). l ++ those counts (map (marked j) b)) e ∙ ap (λ (l : List Told). map (marked j) a ++ l) f
-      ∙ sym (map-append (marked j) a b)
+      ∙ ap (λ (l : List Told). l ++ those counts (map (marked j) b)) e ∙ ap (λ (l : List Told). map (marked j) c ++ l) f
+      ∙ sym (map-append (marked j) c d)
 
   all_passings : (n k : ℕ) → those counts (map (marked j) (passings n k)) ≡ map (marked j) (passings n k)
   unfolding passings
@@ -134,17 +141,24 @@ module _ (j : Route) where
   departure true k p = refl
   departure false k p = refl
 
-  stop : (b : Bool) (k : ℕ) (p : Progress)
-      → those counts (map (marked j) (when b (change k status_stopped p))) ≡ map (marked j) (when b (change k status_stopped p))
-  stop true k p = refl
-  stop false k p = refl
+  -- the 1, and no 3
+  stop : (b : Bool) (p : Progress)
+      → those counts (map (marked j) (if b then stopped_at j p else [])) ≡ map (marked j) (when b (change p.next status_stopped p))
+  stop true p = go (point j p.next).held
+    where
+      go : (h : Bool) → those counts (map (marked j) (change p.next status_stopped p ∷ when h (change p.next status_held p)))
+          ≡ map (marked j) (change p.next status_stopped p ∷ [])
+      go true = refl
+      go false = refl
+  stop false p = refl
 
-  pub all_count : (r : Report) (p : Progress) → those counts (map (marked j) (report_changes j r p)) ≡ map (marked j) (report_changes j r p)
+  pub all_count : (r : Report) (p : Progress) → those counts (map (marked j) (report_changes j r p)) ≡ map (marked j) (told_changes j r p)
   unfolding report_changes
   all_count r p =
       let f = first_looked j r p in
       let q = reported j r p in
       let first = when (departs j r p) (change p.next status_departed (progress f false)) in
+      let end = if became_reached j r p then stopped_at j q else [] in
       let last = when (became_reached j r p) (change q.next status_stopped q) in
-      all_append first (passings (q.next - f) f ++ last) (departure (departs j r p) _ _)
-      (all_append (passings (q.next - f) f) last (all_passings (q.next - f) f) (stop (became_reached j r p) _ _))
+      count_append first (passings (q.next - f) f ++ end) first (passings (q.next - f) f ++ last) (departure (departs j r p) _ _)
+      (count_append (passings (q.next - f) f) end (passings (q.next - f) f) last (all_passings (q.next - f) f) (stop (became_reached j r p) q))

@@ -17,7 +17,7 @@ use Rattle.std.proofs.lemmas.List.FromFn.{length-range_with_len, map-range_with_
 use Rattle.wire.proofs.ListLaws.{or-false, tabulate_more}
 use Rattle.engine_value.specs.Engine.{Route}
 use Rattle.engine_value.specs.declared.Progress.{Progress}
-use Rattle.position.specs.Position.{point_count}
+use Rattle.position.specs.Position.{point_count, indices}
 use Rattle.position.specs.Standing.{standing, is_passed}
 use Rattle.position.specs.declared.Standing.TheVariants.{Unused, Targeted, Reached, Passed}
 use Rattle.position.proofs.Laws.{standing-at, reached-only}
@@ -29,7 +29,7 @@ use Rattle.whole_list.specs.Calls.{history_of}
 use Rattle.whole_list.proofs.Fields.{progress_run, in-range, stands_at}
 use Rattle.whole_list.proofs.Engaged.{stands_exactly}
 use Rattle.told_once.specs.Recording.{Name, Told, departs, passes}
-use Rattle.told_once.specs.ToldOnce.{name_of, indices, passed_since, StoppedLast, last_stops, standing_told, ToldOnce, InOrder}
+use Rattle.told_once.specs.ToldOnce.{name_of, passed_since, StoppedLast, last_stops, standing_told, ToldOnce, InOrder}
 use Rattle.told_once.proofs.Story.{not_empty, Parted, parted, last_is, tell}
 use Rattle.told_once.proofs.Calls.{StoryBy, story}
 use Rattle.told_once.proofs.Names.{one_point}

@@ -6,7 +6,7 @@ use Rattle.call_values.specs.Call.{Call}
 use Rattle.call.specs.Trials.{plain, loads, power_on, trial_book, trial_load, at, skip}
 use Rattle.whole_list.specs.Values.{behind_at_load}
 use Rattle.whole_list.specs.Calls.{history_of}
-use Rattle.whole_list.specs.Example.{stopped, finished}
+use Rattle.whole_list.specs.Example.{stopped, finished, held}
 use Rattle.told_once.specs.Recording.{Told, recording_of}
 use Rattle.told_once.specs.ToldOnce.{standing_told, told_since}
 
@@ -36,6 +36,10 @@ switched_off = stopped ++ (plain (0x03 ∷ []) ∷ [])
 abbrev pub turned_down_there : List Call
 turned_down_there = stopped ++ (loads [] trial_book ∷ [])
 
+-- at 7001, which is held; the hold ended by a load
+abbrev pub hold_ended_there : List Call
+hold_ended_there = held ++ (trial_load ∷ [])
+
 pub record Example : Type 0 where
   -- stopped at 7001; in the longer list it is departed, and 7002 passed
   pub stops : told_since stopped ≡ tells 7001 1 ∷ []
@@ -48,6 +52,11 @@ pub record Example : Type 0 where
   pub goes_on_lem : told_since turned_down_there ≡ tells 7001 1 ∷ []
   pub still_there : both 0 turned_down_there ≡ Reached ∷ Unused ∷ []
   pub recorded_there : length (recording_of turned_down_there) ≡ 5
+  -- status 3 tells nothing of it, nor does the 4 with which the load begins
+  pub held_told : told_since held ≡ tells 7001 1 ∷ []
+  pub held_there : both 0 held ≡ Reached ∷ Unused ∷ []
+  pub ended_told : told_since hold_ended_there ≡ []
+  pub ended_recorded : length (recording_of hold_ended_there) ≡ 2
   -- since the load in force
   pub told_again : told_since again ≡ tells 7001 1 ∷ []
   pub none_in_force : told_since switched_off ≡ []

@@ -1,8 +1,8 @@
 -- TOLD ONCE, IN ORDER: a corollary over every list of calls, refused ones included, on one fresh engine. It assumes nothing.
 use Rattle.std.specs.Prelude.{◌≡◌, ◌↔◌, Bool, false, ◌&&◌, List, [], ◌∷◌, ◌++◌, map, ℕ, ◌+◌, ◌<◌, length, eqb, ltb, leb, if◌then◌else◌}
-use Rattle.wire.specs.Lists.{any, those, tabulate}
+use Rattle.wire.specs.Lists.{any, those}
 use Rattle.engine_value.specs.Engine.{Route}
-use Rattle.position.specs.Position.{point, point_count}
+use Rattle.position.specs.Position.{point, point_count, indices}
 use Rattle.position.specs.Standing.{is_passed}
 use Rattle.position.specs.declared.Standing.{Standing}
 use Rattle.position.specs.declared.Standing.TheVariants.{Unused, Targeted, Reached, Passed}
@@ -18,10 +18,6 @@ name_of j k = record { nidc = (point j k).nidc; nidtp = (point j k).nidtp }
 
 abbrev pub names_in : List Told → List Name
 names_in l = map (λ (t : Told). t.name) l
-
--- the points of a journey by their index, in its order
-abbrev pub indices : Route → List ℕ
-indices j = tabulate (point_count j) (λ k. k)
 
 -- passed now, and not put behind by the load
 abbrev pub passed_since : History → ℕ → Bool

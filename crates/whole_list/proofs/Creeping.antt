@@ -9,8 +9,9 @@ use Prim.Native.Nat.{ℕ, ◌<◌}
 use native.Mathlib.Omega.{arith}
 use Rattle.wire.specs.Judged.{Judged}
 use Rattle.wire.specs.Judged.Judged.{refuse, accept}
-use Rattle.engine_value.specs.Engine.{Route, fresh}
+use Rattle.engine_value.specs.Engine.{fresh}
 use Rattle.engine_value.specs.declared.Engine.{Engine}
+use Rattle.engine_value.specs.declared.Point.{Point}
 use Rattle.engine_value.specs.declared.Position.{Position}
 use Rattle.engine_value.specs.declared.Progress.{Progress}
 use Rattle.event.specs.declared.Event.TheVariants.{PositionReport}
@@ -49,7 +50,7 @@ use Rattle.whole_list.proofs.Passed.{by_steps, step_change, timing_among, told_b
 use Rattle.whole_list.proofs.WholeList.{judged_next}
 
 -- where the steps leave a point, and where the history rule has it
-stands-by : (h : History) (k : ℕ) → k < point_count (route_by h) → (s : Standing) → (standing (progress_run h) k ≡ s) ↔ StandsBy h k s
+pub stands-by : (h : History) (k : ℕ) → k < point_count (route_by h) → (s : Standing) → (standing (progress_run h) k ≡ s) ↔ StandsBy h k s
 stands-by h k l s = ((λ e. (stands_exactly h k s).0 (sym (stands_at h k l) ∙ e)), (λ x. stands_at h k l ∙ (stands_exactly h k s).1 x))
 
 -- ---- a report that leaves a point, by its three tests and by the one definition of them
@@ -103,10 +104,10 @@ truly-departed earlier c packet i p e s =
 -- its change is the first of the report
 first_change : (h : History) (c : Call) (x : Position) → event_of_call c ≡ PositionReport x → (progress_run h).reached ≡ true
     → leaves (route_by h) (report_at (c ∷ h)) (progress_run h).next ≡ true
-    → (d : PointChange) × In d (changes_by h c) × (d.index ≡ (progress_run h).next) × (d.status ≡ status_departed)
+    → (d : PointChange) × In d (changes_by h c) × (d.point ≡ point (route_by h) (progress_run h).next) × (d.status ≡ status_departed)
 first_change h c x e reached left =
     let (l, q) = changes_leave (route_by h) (report_at (c ∷ h)) (progress_run h) reached left in
-    (_, subst (In _) (sym (by_steps c h x e ∙ ap (map (change_in (route_by h).load)) q)) (inl refl), refl, refl)
+    (_, subst (In _) (sym (by_steps c h x e ∙ ap (map (change_in (route_by h))) q)) (inl refl), refl, refl)
 
 pub surely-departed : (earlier : List Call) (c : Call) (k : ℕ) → Leaving earlier c k → SurelyDeparted earlier c k
 surely-departed earlier c k v =
@@ -114,7 +115,7 @@ surely-departed earlier c k v =
     let (at, reached) = reached-only (progress_run h) k ((stands-by h k v.before.one_of_them Reached).1 v.before.reached) in
     let left : leaves (route_by h) (report_at (c ∷ h)) k ≡ true = by_leaves h c v.position v.is_report_lem k v.left in
     let (l, passed) = goes_on h c v.position v.is_report_lem k at reached left in
-    let (d, i, index, status) = first_change h c v.position v.is_report_lem reached (rw (← at) left) in
+    let (d, i, point_is, status) = first_change h c v.position v.is_report_lem reached (rw (← at) left) in
     let (p, among, s, n) = told_by h c d i in
     let (w, r) = written_as (Packet.TimingPoint p) (packets_by h c) (packets_fit h c) among in
     record {
@@ -125,8 +126,7 @@ surely-departed earlier c k v =
       read = r;
       status_is = s ∙ status;
       its_name =
-          n ∙ ap (λ m. (point (route_by (c ∷ h)) m).nidtp) (index ∙ sym at)
-          ∙ ap (λ (j : Route). (point j k).nidtp) (route_kept c h v.position v.is_report_lem);
+          n ∙ ap (λ (o : Point). o.nidtp) point_is ∙ ap (λ m. (point (route_by h) m).nidtp) (sym at);
     }
 
 -- ---- one more call at a reached point

@@ -1,21 +1,22 @@
 -- The history of accepted calls as a run of the states: engagement and AD request by their sentences.
-use Rattle.std.specs.Prelude.{if◌then◌else◌, Option, Some, None}
+use Rattle.std.specs.Prelude.{if◌then◌else◌, Option, Some, None, is_some}
 use mathlib.Core.Path.{◌≡◌, refl, sym, ◌∙◌, ap}
 use mathlib.Core.Logic.{◌↔◌}
-use mathlib.Core.Bool.{Bool, true, false, false≢true}
+use mathlib.Core.Bool.{Bool, true, false, ◌&&◌, false≢true}
 use mathlib.Core.List.{[], ◌∷◌}
 use Prim.Native.Nat.{ℕ, zero, suc, ◌-◌, ◌<◌}
 use native.Mathlib.Omega.{arith}
 use lib.ListN.{length, drop}
 use lib.Seq.{drop-cons, drop-length}
-use Rattle.wire.specs.Judged.{Judged, then_judge}
+use Rattle.wire.specs.Judged.{Judged, then_judge, row}
 use Rattle.wire.specs.Judged.Judged.{refuse, accept}
 use Rattle.engine_value.specs.Engine.{mode}
 use Rattle.event.specs.Events.{event_of}
 use Rattle.event.specs.Kinds.{kind_of, carried, Role, off, load, report, other, skip, role_of, newer, is_off}
 use Rattle.event.specs.declared.Event.{Event}
-use Rattle.event.specs.declared.Event.TheVariants.{PowerOff, Mode, PositionReport}
+use Rattle.event.specs.declared.Event.TheVariants.{PowerOff, Press, Mode, PositionReport}
 use Rattle.event.proofs.Known.{OfRole, OfMode, known, mode_of}
+use Rattle.engine_value.specs.declared.Point.{Point}
 use Rattle.engine_value.specs.declared.Position.{Position}
 use Rattle.position.specs.Position.{point_count}
 use Rattle.position.specs.declared.Standing.{Standing}
@@ -25,6 +26,8 @@ use Rattle.state_codes.specs.Codes.{mode_at}
 use Rattle.conditions.specs.Conditions.{route_conditions, nine, all_of, O}
 use Rattle.state_codes.proofs.CodeLaws.{mode_AD}
 use Rattle.state_codes.specs.Numbers.{power_rows, state_row}
+use Rattle.hold.specs.Hold.{hold_row}
+use Rattle.hold.proofs.Laws.{held_is, held_some}
 use Rattle.states.specs.States.{machine_after, given}
 use Rattle.states.specs.declared.Values.{Values}
 use Rattle.states.specs.declared.Machine.{Machine}
@@ -34,8 +37,8 @@ use Rattle.state_codes.specs.declared.EtcsMode.TheVariants.{Other, AD}
 use Rattle.engagement.proofs.Requests.{run_holds}
 use Rattle.call_values.specs.Call.{Call}
 use Rattle.whole_list.specs.Values.{History, event_of_call, latest, mode_by, reports_by, position_by, route_by}
-use Rattle.whole_list.specs.Rules.{StandsBy, standing_by, values_by, BecameReached, JustReached, newly_reached, became_reached_by, machine_by, state_by, request_by, no_call, call_at, upto, Moments, Engaged}
-use Rattle.whole_list.specs.Table.{table_by}
+use Rattle.whole_list.specs.Rules.{StandsBy, standing_by, values_by, BecameReached, JustReached, newly_reached, became_reached_by, AtHeldStop, machine_by, state_by, request_by, no_call, call_at, upto, Moments, Engaged}
+use Rattle.whole_list.specs.Table.{held_stop_by, table_by}
 use Rattle.whole_list.specs.WholeList.{Requested}
 use Rattle.whole_list.proofs.FieldsReached.{newly}
 use Rattle.whole_list.proofs.TableRows.{event-is}
@@ -64,6 +67,15 @@ state_accepts h c e =
     let (u, e₂, f₂) = then_accepts (power_rows (state_by h) (kind_of event)) _ tt f₁ in
     let (v, e₃, f₃) = then_accepts (state_row (state_by h) (kind_of event)) _ tt f₂ in
     rw (event-is c event e₁) e₃
+
+held_accepts : (h : History) (c : Call) → table_by h c ≡ accept tt → hold_row (held_stop_by h) (kind_of (event_of_call c)) ≡ accept tt
+unfolding table_by
+held_accepts h c e =
+    let (event, e₁, f₁) = then_accepts (event_of c.event) _ tt e in
+    let (u, e₂, f₂) = then_accepts (power_rows (state_by h) (kind_of event)) _ tt f₁ in
+    let (v, e₃, f₃) = then_accepts (state_row (state_by h) (kind_of event)) _ tt f₂ in
+    let (w, e₄, f₄) = then_accepts (hold_row (held_stop_by h) (kind_of event)) _ tt f₃ in
+    rw (event-is c event e₁) e₄
 
 -- ---- "became reached" as a test and as the rule says it
 
@@ -100,6 +112,32 @@ pub saw : (h : History) → (became_reached_by h ≡ true) ↔ JustReached h
 unfolding became_reached_by
 saw [] = ((λ e. false≢true e), (λ x. absurd x))
 saw (c ∷ h) = (just_so c h, so_just c h)
+
+-- ---- "a held stop is reached" as a test and as the rule says it
+
+pub held_there : (h : History) → is_some (held_stop_by h) ≡ true → AtHeldStop h
+held_there h e = go (held_stop_by h) refl e
+  where
+    go : (o : Option Point) → held_stop_by h ≡ o → is_some o ≡ true → AtHeldStop h
+    go None q e = absurd (false≢true e)
+    go (Some p) q e =
+        let (k, l, s, r, m) = held_is (route_by h) (standing_by h) p q in
+        (k, record { reached = record { one_of_them = l; reached = (stands_exactly h k Reached).0 r }; marked = m })
+
+pub there_held : (h : History) → AtHeldStop h → is_some (held_stop_by h) ≡ true
+there_held h (k, a) = held_some (route_by h) (standing_by h) k a.reached.one_of_them ((stands_exactly h k Reached).1 a.reached.reached) a.marked
+
+pub held_exactly : (h : History) → (is_some (held_stop_by h) ≡ true) ↔ AtHeldStop h
+held_exactly h = (held_there h, there_held h)
+
+-- row 20: an accepted press is none of these
+not_held : (h : History) (c : Call) → table_by h c ≡ accept tt → event_of_call c ≡ Press → ¬ AtHeldStop h
+unfolding hold_row
+not_held h c e q a = absurd (no_row (is_some (held_stop_by h)) (there_held h a) (rw q at (held_accepts h c e)))
+  where
+    no_row : (b : Bool) → b ≡ true → row 20 (true && b) ≡ accept tt → ⊥
+    no_row true q e = cc
+    no_row false q e = false≢true q
 
 -- ---- values after an event
 
@@ -174,13 +212,16 @@ module _ (h : History) (g : Good h) where
   abbrev HasReached : ℕ → Type 0
   HasReached k = JustReached (upto h (suc k))
 
+  abbrev AtHeld : ℕ → Type 0
+  AtHeld v = AtHeldStop (upto h v)
+
   abbrev after : ℕ → Machine
   after v = machine_by (upto h v)
 
   abbrev request : ℕ → Bool
   request v = request_by (upto h v)
 
-  is_run : run.Run event value reached HasReached after request (length h)
+  is_run : run.Run event value reached HasReached AtHeld after request (length h)
   unfolding machine_by request_by
   is_run = record {
     start = rw (upto-none h) refl;
@@ -190,19 +231,20 @@ module _ (h : History) (g : Good h) where
     next = λ k l. rw (upto_next h k l) (machine-next (call_at h k) (upto h k));
     next_request = λ k l. rw (upto_next h k l) (request-next (call_at h k) (upto h k));
     saw = λ k l. saw (upto h (suc k));
+    not_held = λ k l e. not_held (upto h k) (call_at h k) (good-at h g k l) e;
     off = λ k l e. rw (upto_next h k l) (off_unfit (call_at h k) (upto h k) e);
     AD_report = λ k l a b. mode-report (call_at h k) (upto h k) a (rw (upto_next h k l) at b);
   }
 
   pub engaged_exactly : (state_by h ≡ EG) ↔ Engaged h
-  engaged_exactly = rw (upto_all h) at (run_holds event value reached HasReached after request (length h) is_run).engaged
+  engaged_exactly = rw (upto_all h) at (run_holds event value reached HasReached AtHeld after request (length h) is_run).engaged
 
   -- "given if wanted and (given before or mode other)", over the history
   pub requested_exactly : (request_by h ≡ true) ↔ Requested h
   requested_exactly = ((λ e. there (both.0 e)), (λ r. both.1 (back r)))
     where
       both : (request_by h ≡ true) ↔ run.Requested value after (length h)
-      both = rw (upto_all h) at (run_holds event value reached HasReached after request (length h) is_run).requested
+      both = rw (upto_all h) at (run_holds event value reached HasReached AtHeld after request (length h) is_run).requested
 
       there : run.Requested value after (length h) → Requested h
       there r = record { from = r.from; within = r.within; mode_other = r.mode_other; wanted_since = r.wanted_since }

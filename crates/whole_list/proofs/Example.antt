@@ -1,4 +1,4 @@
--- The lists by computation, and what the claim says of two of them.
+-- The lists by computation, and what the claim says of some of them.
 use mathlib.Core.Path.{◌≡◌, refl, sym, ◌∙◌, ap, subst}
 use mathlib.Core.Logic.{inl}
 use mathlib.Core.List.{List, [], ◌∷◌, ◌++◌}
@@ -7,21 +7,24 @@ use Prim.Native.Nat.{ℕ, zero, suc, ◌<◌}
 use lib.ListN.{get_or, take, length}
 use native.Mathlib.Omega.{arith}
 use Rattle.packets.specs.Packets.{packet_of, judged_packet}
-use Rattle.position.specs.Position.{point_count}
-use Rattle.position.specs.declared.Standing.TheVariants.{Reached, Passed}
+use Rattle.position.specs.Position.{point, point_count}
+use Rattle.position.specs.declared.Standing.TheVariants.{Targeted, Reached, Passed}
 use Rattle.wire.specs.Judged.Judged.{accept}
 use Rattle.event.specs.Kinds.{off, load, report}
 use Rattle.timing.specs.Distance.{leaves}
 use Rattle.whole_list.specs.Values.{History, role_of_call, route_by, report_at}
 use Rattle.whole_list.specs.Table.{table_by}
 use Rattle.call_values.specs.Call.{Call}
-use Rattle.call.specs.Trials.{at, plainly, point}
+use Rattle.call.specs.Trials.{at, press, plainly, point as point_bytes, trial_load}
 use Rattle.whole_list.specs.Rules.{StandsBy, Engaged, no_call}
 use Rattle.whole_list.specs.Calls.{history_of, engine_after}
 use Rattle.whole_list.specs.Creeping.{TrulyDeparted, Leaving, SurelyDeparted, Keeps, NoTraceOfCreeping}
-use Rattle.whole_list.specs.Example.{Example, stopped, driven, finished, crept}
+use Rattle.whole_list.specs.Held.{PressHeld, BecomesHeld, HoldEnds}
+use Rattle.whole_list.specs.Example.{Example, stopped, driven, finished, crept, coming, held, pressed}
 use Rattle.whole_list.proofs.Computed.{worked}
 use Rattle.whole_list.proofs.WholeList.{whole_list}
+use Rattle.whole_list.proofs.Engaged.{stands_exactly}
+use Rattle.whole_list.proofs.Held.{each-held}
 use Rattle.whole_list.proofs.Creeping.{by_leaves, truly-departed, surely-departed, no_trace_of_creeping}
 
 pub example : Example
@@ -56,6 +59,10 @@ example = record {
   same_history = refl;
   last_status_kept = refl;
   targeted_again = refl;
+  answers_held = refl;
+  at_held_stop = refl;
+  reached_held = refl;
+  engaged_held = refl;
   requests = refl;
   since_EG = refl;
   ranged = refl;
@@ -74,6 +81,10 @@ not-engaged-there e =
     let y : (engine_after finished).control.state ≡ 6 = example.degraded in
     omega arith
 
+-- with a press made before the held stop was reached
+pub engaged_held_there : Engaged (history_of pressed)
+engaged_held_there = (whole_list pressed).engaged.in_engine.0 example.engaged_held
+
 two-points : point_count (route_by (history_of stopped)) ≡ 2
 unfolding worked
 two-points = refl
@@ -89,7 +100,7 @@ pub passed_there : StandsBy (history_of finished) 1 Passed
 passed_there = ((whole_list finished).points.each 1 (omega (arith, two-points_too)) Passed).0 example.passed_too
 
 -- the packet 62 of the departure stands for one
-pub departed_there : TrulyDeparted (at 40151 50 ∷ history_of crept) (plainly 62 40151 50 (point 7001 0x11 0x00))
+pub departed_there : TrulyDeparted (at 40151 50 ∷ history_of crept) (plainly 62 40151 50 (point_bytes 7001 0x11 0x00))
 unfolding worked packet_of judged_packet
 departed_there =
     truly-departed crept (at 40151 50) _ (inl refl)
@@ -156,3 +167,35 @@ crept_there =
         let few : n < 4 = subst (λ (y : List Call). n < length y) (sym e) l in
         subst (λ y. Keeps (history_of (stopped ++ y)) 0 c) (ap (take n) e ∙ a)
         (subst (λ y. Keeps (history_of (stopped ++ take n creep)) 0 y) (ap (λ (y : List Call). get_or y n no_call) e ∙ b) (kept_so n few))
+
+-- ---- held
+
+-- 7001 becomes reached at that report, and its hold ends with that load
+pub becomes_there : BecomesHeld (history_of coming) (at 39900 0) 0
+unfolding worked
+becomes_there = record {
+  accepted = refl;
+  position = record { nidsp = 500; offset = 39900; nidc = 17; speed = 0 };
+  is_report_lem = refl;
+  after = record { reached = record { one_of_them = omega arith; reached = (stands_exactly (at 39900 0 ∷ history_of coming) 0 Reached).0 refl }; marked = refl };
+  before = λ s. let z : Targeted ≡ Reached = (stands_exactly (history_of coming) 0 Reached).1 s in cc;
+}
+
+pub ends_there : HoldEnds (history_of held) trial_load 0
+unfolding worked
+ends_there = record {
+  accepted = refl;
+  is_load_lem = refl;
+  before = record { reached = record { one_of_them = omega arith; reached = (stands_exactly (history_of held) 0 Reached).0 refl }; marked = refl };
+  not_kept = none;
+}
+  where
+    none : (i : ℕ) → i < 2 → (point (route_by (trial_load ∷ history_of held)) i).nidtp ≡ 7001 → (point (route_by (trial_load ∷ history_of held)) i).held ≡ false
+    none zero l q = refl
+    none (suc zero) l q = refl
+    none (suc (suc i)) l q = absurd (omega arith)
+
+-- the press before that load is one at a held stop
+pub press_there : PressHeld (history_of (coming ++ (at 39900 0 ∷ []))) press
+unfolding worked
+press_there = (each-held (coming ++ (at 39900 0 ∷ [])) press).twenty.0 refl

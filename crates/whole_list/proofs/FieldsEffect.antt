@@ -25,6 +25,7 @@ use Rattle.timing.specs.Changes.{Change, report_changes}
 use Rattle.position.specs.Skips.{stop_named, stop_at}
 use Rattle.timing.proofs.Steps.{run_snoc}
 use Rattle.state_codes.specs.Codes.{code}
+use Rattle.hold.specs.Hold.{held_stop_in, hold_ended}
 use Rattle.look_up.specs.LookUp.{look_up}
 use Rattle.look_up.specs.declared.LookedUp.{LookedUp}
 use Rattle.call_values.specs.Rows.{offset_beyond, same_bool}
@@ -34,7 +35,7 @@ use Rattle.whole_list.specs.Values.{History, event_of_call, load_of_call, role_o
 use Rattle.whole_list.specs.Rules.{standing_by, state_by, machine_by, request_by, newly_reached, became_reached_by}
 use Rattle.whole_list.specs.Table.{head_of, head_of_call, skip_rows, kind_rows}
 use Rattle.whole_list.proofs.Fields.{skip_by, skips_then, skips_of, progress_run, train_by, inputs_by, control_by, engine_of, stop-in, skips-at, stands_at}
-use Rattle.whole_list.proofs.FieldsStep.{skip_run, changes_run, report_is, became_is, target_is}
+use Rattle.whole_list.proofs.FieldsStep.{ended_run, skip_run, changes_run, report_is, became_is, target_is}
 
 -- ---- what is by the role of an event
 
@@ -70,6 +71,7 @@ effect_of h c = record {
   inputs = inputs_by (c ∷ h);
   control = control_then h (role_of_call c);
   loaded = head_of_call c;
+  hold_ended = ended_run h (role_of_call c) (route_by (c ∷ h));
   changes = changes_run h c;
   reached = became_reached_by (c ∷ h);
 }
@@ -95,6 +97,7 @@ module _ (h : History) (o : Option LoadValue) (t : ℕ) (r : distance.Report) (c
     inputs = inputs_of (numbers_then q c);
     control = control_then h q;
     loaded = elim q [ off ↦ None | load ↦ head_of o | report ↦ None | other ↦ None | skip t on ↦ None ];
+    hold_ended = ended_run h q (route_with q);
     changes = elim q [ off ↦ [] | load ↦ [] | report ↦ changes | other ↦ [] | skip t on ↦ skip_run (stop_named (route_by h) t) on (progress_run h) ];
     reached = elim q [ off ↦ false | load ↦ false | report ↦ became | other ↦ false | skip t on ↦ false ];
   }
@@ -173,7 +176,7 @@ stored_is h c =
 -- of a driver skip or its revocation, where the rows accept it
 abbrev skip_effect_by : History → Carried → Option ℕ → Bool → Effect
 skip_effect_by h c f on =
-    record { journey = skip_after f on; train = train_with (engine_of h) c; progress = progress_run h; inputs = inputs_with (engine_of h) c; control = control_by h; loaded = None; changes = skip_run f on (progress_run h); reached = false }
+    record { journey = skip_after f on; train = train_with (engine_of h) c; progress = progress_run h; inputs = inputs_with (engine_of h) c; control = control_by h; loaded = None; hold_ended = None; changes = skip_run f on (progress_run h); reached = false }
 
 by_skip : (h : History) (c : Carried) (f : Option ℕ) (on : Bool) → IfSome f (λ k. k < point_count (route_by h))
     → skip_effect (engine_of h) c on (stop_at (skips_of h) f) ≡ then_judge (skip_rows h f on) (λ u. accept (skip_effect_by h c f on))
@@ -204,7 +207,7 @@ module _ (h : History) (t : ℕ) (r : distance.Report) (changes : List Change) (
       let p : reported (route_by h) (distance.report_from (engine_of h) x) (progress_run h) ≡ run (route_by h) start (reports_since h ++ (r ∷ [])) =
       ap (λ y. reported (route_by h) y (progress_run h)) (sym e) ∙ sym (run_snoc (route_by h) (reports_since h) r start) in
       let same : reported_in (engine_of h) c (report_of (route_by h) (distance.report_from (engine_of h) x) (progress_run h)) ≡ effect_by h (load_then (load_of journey book)) t r changes became report c =
-      λ i. record { journey = kept; train = train_with (engine_of h) c; progress = p i; inputs = inputs_with (engine_of h) c; control = control_by h; loaded = None; changes = sym f i; reached = sym g i } in
+      λ i. record { journey = kept; train = train_with (engine_of h) c; progress = p i; inputs = inputs_with (engine_of h) c; control = control_by h; loaded = None; hold_ended = None; changes = sym f i; reached = sym g i } in
       ap (λ y. then_judge (row 13 (offset_beyond (segment_named (route_by h) x) x)) (λ u. accept y)) same
 
   by_load : ((l : LoadValue) → load_of journey book ≡ accept l → t ≡ target l.route (position_by h) (length_by h)) → By Load
@@ -216,7 +219,7 @@ module _ (h : History) (t : ℕ) (r : distance.Report) (changes : List Change) (
       go (refuse n) e = refl
       go (accept l) e =
           let p = e l refl in
-          ap accept (λ i. record { journey = replaced l.route; train = train_by h; progress = progress (sym p i) false; inputs = inputs_by h; control = control_by h; loaded = Some l.head; changes = []; reached = false })
+          ap accept (λ i. record { journey = replaced l.route; train = train_by h; progress = progress (sym p i) false; inputs = inputs_by h; control = control_by h; loaded = Some l.head; hold_ended = hold_ended (held_stop_in (engine_of h)) l.route; changes = []; reached = false })
 
   -- an event that only brings a value
   brought : (c : Carried) (l : LookedUp) → ByRole other c l

@@ -2,12 +2,13 @@
 use Rattle.std.specs.Prelude.{Option, Some, None, if◌then◌else◌}
 use mathlib.Core.Path.{◌≡◌, refl, sym, ◌∙◌, ap}
 use mathlib.Core.Bool.{Bool, true, false}
-use mathlib.Core.List.{List, [], ◌∷◌, ◌++◌, map}
+use mathlib.Core.List.{List, [], ◌∷◌, ◌++◌, map, append-nil}
 use Prim.Native.Nat.{ℕ, ◌<◌}
 use native.Mathlib.Omega.{arith}
 use lib.Dec.{leb}
 use Rattle.wire.specs.Judged.Judged.{accept}
-use Rattle.engine_value.specs.Engine.{progress}
+use Rattle.engine_value.specs.Engine.{Route, progress}
+use Rattle.engine_value.specs.declared.Point.{Point}
 use Rattle.engine_value.specs.declared.Position.{Position}
 use Rattle.engine_value.specs.declared.Progress.{Progress}
 use Rattle.event.specs.declared.Event.{Event}
@@ -15,7 +16,7 @@ use Rattle.event.specs.declared.Event.TheVariants.{PositionReport, Load}
 use Rattle.event.specs.Kinds.{Role, off, load, report, other, skip, role_of}
 use Rattle.event.proofs.Known.{OfRole, known}
 use Rattle.route.specs.Route.{LoadValue, load_of}
-use Rattle.position.specs.Position.{point_count}
+use Rattle.position.specs.Position.{point, point_count}
 use Rattle.timing.specs.Distance as distance
 use Rattle.position.specs.Standing.{standing}
 use Rattle.position.specs.Skips.{stop_named}
@@ -25,12 +26,14 @@ use Rattle.timing.specs.Changes.{Change, change, status_skipped, status_revoked,
 use Rattle.timing.proofs.Steps.{run_snoc}
 use Rattle.timing.proofs.Rule.{became_reached_lem}
 use Rattle.conditions.specs.Conditions.{end_ahead}
-use Rattle.call_values.specs.Packets.{point_change}
-use Rattle.call.specs.Packets.{change_in}
+use Rattle.hold.specs.Hold.{held_stop, hold_ended}
+use Rattle.hold.proofs.Laws.{held_same}
+use Rattle.call_values.specs.Packets.{point_change, hold_revoked}
+use Rattle.call.specs.Packets.{change_in, changes_in}
 use Rattle.call_values.specs.Call.{Call}
 use Rattle.whole_list.specs.Values.{History, event_of_call, load_of_call, role_of_call, latest, position_by, length_by, route_by, skipped_by, report_at, reports_since, behind_at_load}
 use Rattle.whole_list.specs.Rules.{standing_by, newly_reached}
-use Rattle.whole_list.specs.Table.{standing_then, changes_from, skip_change, changes_by}
+use Rattle.whole_list.specs.Table.{standing_then, changes_from, skip_change, held_stop_by, load_changes, changes_by}
 use Rattle.whole_list.proofs.Decoded.{route-in}
 use Rattle.whole_list.proofs.FieldsReached.{same_bool_lem, newly}
 use Rattle.whole_list.proofs.Fields.{progress_run, engine_of, skips-at, in-range, stands_at, end_ext}
@@ -99,12 +102,12 @@ module _ (c : Call) (h : History) (x : Position) (q : event_of_call c ≡ Positi
       go true = sym (after_is k l)
       go false = sym (stands_at h k l)
 
-  pub changes_is : changes_from (route_by h).load (standing_by h) (standing_by (c ∷ h)) (point_count (route_by h)) 0
-      ≡ map (change_in (route_by h).load) (report_changes (route_by h) (report_at (c ∷ h)) (progress_run h))
+  pub changes_is : changes_from (route_by h) (standing_by h) (standing_by (c ∷ h)) (point_count (route_by h)) 0
+      ≡ map (change_in (route_by h)) (report_changes (route_by h) (report_at (c ∷ h)) (progress_run h))
   changes_is =
       let before = standing (progress_run h) in
       let after = standing (reported (route_by h) (report_at (c ∷ h)) (progress_run h)) in
-      changes_ext (route_by h).load (standing_by h) (standing_by (c ∷ h)) before after (point_count (route_by h)) 0
+      changes_ext (route_by h) (standing_by h) (standing_by (c ∷ h)) before after (point_count (route_by h)) 0
       (λ i l m. sym (stands_at h i (omega arith))) (λ i l m. sym (after_is i (omega arith)))
       (λ i. end_ext (route_by h) (standing_then (standing_by h) (standing_by (c ∷ h)) i) (standing_then before after i) (route-in h) (then_is i))
       ∙ changes_same (route_by h) (report_at (c ∷ h)) (progress_run h) (in-range h)
@@ -140,6 +143,11 @@ module _ (c : Call) (h : History) (q : event_of_call c ≡ Load) (l : LoadValue)
 
 -- ---- the points that an event changes
 
+-- the stop whose hold ends with the journey j
+abbrev pub ended_run : History → Role → Route → Option Point
+ended_run h r j =
+    elim r [ off ↦ None | load ↦ hold_ended (held_stop (route_by h) (standing (progress_run h))) j | report ↦ None | other ↦ None | skip t on ↦ None ]
+
 abbrev pub skip_run : Option ℕ → Bool → Progress → List Change
 skip_run None on p = []
 skip_run (Some k) on p = change k (if on then status_skipped else status_revoked) p ∷ []
@@ -154,20 +162,31 @@ changes_run h c = elim (role_of_call c) [
   | skip t on ↦ skip_run (stop_named (route_by h) t) on (progress_run h)
 ]
 
+-- the held stop by the steps is that of the rules
+pub held_is_by : (h : History) → held_stop (route_by h) (standing (progress_run h)) ≡ held_stop_by h
+held_is_by h = held_same (route_by h) (standing (progress_run h)) (standing_by h) (stands_at h)
+
 -- they are those of the rules
-pub changes_by_lem : (h : History) (c : Call) → map (change_in (route_by (c ∷ h)).load) (changes_run h c) ≡ changes_by h c
+pub changes_by_lem : (h : History) (c : Call) → changes_in (engine_of (c ∷ h)) (ended_run h (role_of_call c) (route_by (c ∷ h))) (changes_run h c) ≡ changes_by h c
 unfolding changes_by route_by
 changes_by_lem h c = go (role_of_call c) refl (known (event_of_call c)).role
   where
-    skipped : (f : Option ℕ) (on : Bool) → map (change_in (route_by h).load) (skip_run f on (progress_run h)) ≡ skip_change f on (end_ahead (route_by h).load (standing_by h))
+    skipped : (f : Option ℕ) (on : Bool) → map (change_in (route_by h)) (skip_run f on (progress_run h)) ≡ skip_change (route_by h) f on (end_ahead (route_by h).load (standing_by h))
     skipped None on = refl
     skipped (Some k) on =
-        ap (λ b. point_change k (if on then status_skipped else status_revoked) b ∷ [])
+        ap (λ b. point_change (point (route_by h) k) (if on then status_skipped else status_revoked) b ∷ [])
         (end_ext (route_by h) (standing (progress_run h)) (standing_by h) (route-in h) (stands_at h))
 
-    go : (q : Role) → role_of_call c ≡ q → OfRole q (event_of_call c) → map (change_in (route_by (c ∷ h)).load) (changes_run h c) ≡ changes_by h c
+    ended : changes_in (engine_of (c ∷ h)) (hold_ended (held_stop (route_by h) (standing (progress_run h))) (route_by (c ∷ h))) [] ≡ load_changes h c
+    ended =
+        append-nil _
+        ∙ ap (λ o. hold_revoked (hold_ended o (route_by (c ∷ h))) (end_ahead (route_by (c ∷ h)).load (standing (progress_run (c ∷ h))))) (held_is_by h)
+        ∙ ap (hold_revoked (hold_ended (held_stop_by h) (route_by (c ∷ h))))
+        (end_ext (route_by (c ∷ h)) (standing (progress_run (c ∷ h))) (standing_by (c ∷ h)) (route-in (c ∷ h)) (stands_at (c ∷ h)))
+
+    go : (q : Role) → role_of_call c ≡ q → OfRole q (event_of_call c) → changes_in (engine_of (c ∷ h)) (ended_run h (role_of_call c) (route_by (c ∷ h))) (changes_run h c) ≡ changes_by h c
     go off z k = rw (z, changes_run, changes_by)
-    go load z k = rw (z, changes_run, changes_by)
+    go load z k = rw (z, changes_run, changes_by) ended
     go report z k = rw (z, changes_run, changes_by, route_by) (sym (changes_is c h k.0 k.1))
     go other z k = rw (z, changes_run, changes_by)
     go (skip t on) z k = rw (z, changes_run, changes_by, route_by) (skipped (stop_named (route_by h) t) on)

@@ -16,6 +16,8 @@ pub mod Shown
 pub mod Passed
 pub mod WholeList
 pub mod Creeping
+pub mod RowNumbers
 pub mod TurnedDown
+pub mod Held
 pub mod Computed
 pub mod Example

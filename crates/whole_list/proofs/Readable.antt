@@ -14,8 +14,8 @@ use Rattle.wire.specs.Judged.{Judged}
 use Rattle.wire.specs.Judged.Judged.{refuse, accept}
 use Rattle.wire.specs.Refusals.{turns_down}
 use Rattle.engine_value.specs.Engine.{Route}
+use Rattle.engine_value.specs.declared.Point.{Point}
 use Rattle.engine_value.specs.declared.Position.{Position}
-use Rattle.engine_value.specs.declared.Load.{Load}
 use Rattle.wire.specs.Lists.{All}
 use Rattle.journey.proofs.Accepted.{HeadFits}
 use Rattle.journey.specs.declared.Head.{Head}
@@ -41,19 +41,21 @@ use Rattle.packets.specs.declared.Packet.{Packet}
 use Rattle.traction.specs.Requests.{written_content}
 use Rattle.traction.proofs.Laws.{written_inv, written_is}
 use Rattle.position.specs.Position.{point, point_count, known}
-use Rattle.timing.specs.Changes.{status_stopped, when}
+use Rattle.timing.specs.Changes.{status_stopped, status_held, when}
 use Rattle.position.specs.Skips.{stop_named}
 use Rattle.position.specs.declared.Standing.{Standing}
 use Rattle.position.specs.declared.Standing.TheVariants.{Unused, Targeted, Reached, Passed}
 use Rattle.conditions.specs.Conditions.{end_ahead}
 use Rattle.conditions.proofs.NineLaws.{conditions_zeros}
 use Rattle.state_codes.proofs.CodeLaws.{code-most}
-use Rattle.call_values.specs.Packets.{PointChange, header, timing_point, jp_received, traction_brake, traction_brakes, ato_status, status_due, received, packets_of, jp_turned_down, packets_refused}
+use Rattle.hold.specs.Hold.{keeps_hold, hold_ended}
+use Rattle.hold.proofs.Laws.{held_is}
+use Rattle.call_values.specs.Packets.{PointChange, point_change, hold_revoked, header, timing_point, jp_received, traction_brake, traction_brakes, ato_status, status_due, received, packets_of, jp_turned_down, packets_refused}
 use Rattle.call_values.specs.Call.{Call}
 use Rattle.whole_list.specs.Values.{History, event_of_call, load_of_call, role_of_call, position_by, route_by}
 use Rattle.whole_list.specs.Rules.{standing_by, conditions_by, state_by}
 use Rattle.whole_list.specs.Requests.{traction_by}
-use Rattle.whole_list.specs.Table.{own_by, change_at, standing_then, changes_from, skip_change, changes_by, head_of, head_of_call, status_by, packets_by, table_by, packets_refused_by, packets_if, written_by}
+use Rattle.whole_list.specs.Table.{own_by, becomes_reached, held_stop_by, load_changes, change_at, standing_then, changes_from, skip_change, changes_by, head_of, head_of_call, status_by, packets_by, table_by, packets_refused_by, packets_if, written_by}
 use Rattle.whole_list.specs.Recorded.{In}
 use Rattle.whole_list.specs.WholeList.{bytes_of_each}
 use Rattle.whole_list.proofs.Recorded.{Ranged}
@@ -66,6 +68,10 @@ all_append P (z ∷ a) b x y = (x.0, all_append P a b x.1 y)
 -- in its ranges, and within its types
 abbrev pub Fits : Packet → Type 0
 Fits p = (packet_fits p ≡ true) × TypedPacket p
+
+-- a point's change: its point is one of a journey that was read
+abbrev ChangeFits : PointChange → Type 0
+ChangeFits c = PointFits c.point × (c.status ≤ 8)
 
 -- ---- one packet
 
@@ -89,10 +95,10 @@ module _ (j : Route) (x : Position) (r : Ranged j x) where
       go true = rw (le-leb n 127 h)
       go false = refl
 
-  fits_62 : (c : PointChange) → PointFits (point j c.index) → c.status ≤ 8 → Fits (timing_point j x c)
+  fits_62 : (c : PointChange) → ChangeFits c → Fits (timing_point j x c)
   unfolding timing_point
-  fits_62 c p s =
-      let q = point j c.index in (
+  fits_62 c (p, s) =
+      let q = c.point in (
         rw (header_fits, le-leb q.nidc 1023 p.nidc, le-leb _ 1 (flag_most c.end_ahead), le-leb q.alignment 2 p.alignment, le-leb c.status 8 s)
             (stopping_fits c.status q.stopping p.stopping),
         (header_typed, (tt, (omega (arith, p.nidtp), (tt, (tt, tt))))),
@@ -126,9 +132,9 @@ module _ (j : Route) (x : Position) (r : Ranged j x) where
 
   -- ---- all of an event
 
-  all_62 : (l : List PointChange) → RouteIn j → All (λ (c : PointChange). c.status ≤ 8) l → All Fits (map (timing_point j x) l)
-  all_62 [] p a = tt
-  all_62 (c ∷ l) p a = (fits_62 c (p.points c.index) a.0, all_62 l p a.1)
+  all_62 : (l : List PointChange) → All ChangeFits l → All Fits (map (timing_point j x) l)
+  all_62 [] a = tt
+  all_62 (c ∷ l) a = (fits_62 c a.0, all_62 l a.1)
 
   all_65 : (o : Option Head) → ((h : Head) → o ≡ Some h → HeadFits h) → All Fits (received j x o)
   all_65 None k = tt
@@ -152,51 +158,73 @@ module _ (j : Route) (x : Position) (r : Ranged j x) where
 
 -- ---- the points that an event changes
 
-abbrev StatusIn : PointChange → Type 0
-StatusIn c = c.status ≤ 8
+module _ (p : Point) (f : PointFits p) where
+  reached_fits : (x : Bool) → All ChangeFits (becomes_reached p x)
+  reached_fits x = go p.held
+    where
+      go : (b : Bool) → All ChangeFits (point_change p status_stopped x ∷ when b (point_change p status_held x))
+      go true = ((f, omega arith), ((f, omega arith), tt))
+      go false = ((f, omega arith), tt)
 
-change_status : (b a : Standing) (k : ℕ) (x : Bool) → All StatusIn (change_at b a k x)
-change_status Passed a k x = tt
-change_status Reached Passed k x = (omega arith, tt)
-change_status Reached Reached k x = tt
-change_status Reached Targeted k x = tt
-change_status Reached Unused k x = tt
-change_status Targeted Passed k x = (omega arith, tt)
-change_status Targeted Reached k x = (omega arith, tt)
-change_status Targeted Targeted k x = tt
-change_status Targeted Unused k x = tt
-change_status Unused Passed k x = (omega arith, tt)
-change_status Unused Reached k x = (omega arith, tt)
-change_status Unused Targeted k x = tt
-change_status Unused Unused k x = tt
+  change_fits : (b a : Standing) (x : Bool) → All ChangeFits (change_at b a p x)
+  change_fits Passed a x = tt
+  change_fits Reached Passed x = ((f, omega arith), tt)
+  change_fits Reached Reached x = tt
+  change_fits Reached Targeted x = tt
+  change_fits Reached Unused x = tt
+  change_fits Targeted Passed x = ((f, omega arith), tt)
+  change_fits Targeted Reached x = reached_fits x
+  change_fits Targeted Targeted x = tt
+  change_fits Targeted Unused x = tt
+  change_fits Unused Passed x = ((f, omega arith), tt)
+  change_fits Unused Reached x = reached_fits x
+  change_fits Unused Targeted x = tt
+  change_fits Unused Unused x = tt
 
-changes_status : (e : Load) (b a : ℕ → Standing) (n k : ℕ) → All StatusIn (changes_from e b a n k)
-unfolding changes_from
-changes_status e b a zero k = tt
-changes_status e b a (suc n) k =
-    all_append StatusIn (change_at (b k) (a k) k (end_ahead e (standing_then b a k))) _ (change_status (b k) (a k) k (end_ahead e (standing_then b a k))) (changes_status e b a n (k + 1))
+module _ (j : Route) (r : RouteIn j) where
+  changes_fit : (b a : ℕ → Standing) (n k : ℕ) → All ChangeFits (changes_from j b a n k)
+  unfolding changes_from
+  changes_fit b a zero k = tt
+  changes_fit b a (suc n) k =
+      let x = end_ahead j.load (standing_then b a k) in
+      all_append ChangeFits (change_at (b k) (a k) (point j k) x) _ (change_fits (point j k) (r.points k) (b k) (a k) x) (changes_fit b a n (k + 1))
 
-skip_status_lem : (f : Option ℕ) (on x : Bool) → All StatusIn (skip_change f on x)
-skip_status_lem None on x = tt
-skip_status_lem (Some k) true x = (omega arith, tt)
-skip_status_lem (Some k) false x = (omega arith, tt)
+  skip_fits : (f : Option ℕ) (on x : Bool) → All ChangeFits (skip_change j f on x)
+  skip_fits None on x = tt
+  skip_fits (Some k) true x = ((r.points k, omega arith), tt)
+  skip_fits (Some k) false x = ((r.points k, omega arith), tt)
 
-status_in_lem : (h : History) (c : Call) → All StatusIn (changes_by h c)
-unfolding changes_by
-status_in_lem h c = go (role_of_call c)
+-- the stop whose hold a load ends is one of the journey before
+ended_fits : (h : History) (j : Route) (x : Bool) → All ChangeFits (hold_revoked (hold_ended (held_stop_by h) j) x)
+unfolding hold_ended
+ended_fits h j x = go (held_stop_by h) refl
   where
-    go : (r : Role) → All StatusIn (elim r [
+    by : (p : Point) → PointFits p → (b : Bool) → All ChangeFits (hold_revoked (if b then None else Some p) x)
+    by p f true = tt
+    by p f false = ((f, omega arith), tt)
+
+    go : (o : Option Point) → held_stop_by h ≡ o → All ChangeFits (hold_revoked (hold_ended o j) x)
+    go None q = tt
+    go (Some p) q =
+        let (k, l, s, e, m) = held_is (route_by h) (standing_by h) p q in
+        by p (rw s ((route-in h).points k)) (keeps_hold j p.nidtp)
+
+changes_in_lem : (h : History) (c : Call) → All ChangeFits (changes_by h c)
+unfolding changes_by
+changes_in_lem h c = go (role_of_call c)
+  where
+    go : (r : Role) → All ChangeFits (elim r [
       | off ↦ []
-      | load ↦ []
-      | report ↦ changes_from (route_by h).load (standing_by h) (standing_by (c ∷ h)) (point_count (route_by h)) 0
+      | load ↦ load_changes h c
+      | report ↦ changes_from (route_by h) (standing_by h) (standing_by (c ∷ h)) (point_count (route_by h)) 0
       | other ↦ []
-      | skip t on ↦ skip_change (stop_named (route_by h) t) on (end_ahead (route_by h).load (standing_by h))
+      | skip t on ↦ skip_change (route_by h) (stop_named (route_by h) t) on (end_ahead (route_by h).load (standing_by h))
     ])
     go off = tt
-    go load = tt
-    go report = changes_status (route_by h).load (standing_by h) (standing_by (c ∷ h)) (point_count (route_by h)) 0
+    go load = ended_fits h (route_by (c ∷ h)) _
+    go report = changes_fit (route_by h) (route-in h) (standing_by h) (standing_by (c ∷ h)) (point_count (route_by h)) 0
     go other = tt
-    go (skip t on) = skip_status_lem (stop_named (route_by h) t) on _
+    go (skip t on) = skip_fits (route_by h) (route-in h) (stop_named (route_by h) t) on _
 
 head_in : (c : Call) (d : Head) → head_of_call c ≡ Some d → HeadFits d
 head_in c d = go (role_of_call c)
@@ -234,7 +262,7 @@ module _ (h : History) (c : Call) where
       let r = ranged (c ∷ h) in
       all_append Fits (received (route_by (c ∷ h)) (position_by (c ∷ h)) (head_of_call c)) _ (all_65 _ _ r (head_of_call c) (head_in c))
       (all_append Fits (map (timing_point (route_by (c ∷ h)) (position_by (c ∷ h))) (changes_by h c)) _
-      (all_62 _ _ r (changes_by h c) (route-in (c ∷ h)) (status_in_lem h c))
+      (all_62 _ _ r (changes_by h c) (changes_in_lem h c))
       (all_append Fits (own_by h c) _ (all_61 _ _ r _ content_in)
       (all_68 _ _ r (status_due (status_by h) (status_by (c ∷ h))) _ _ (code-most (state_by (c ∷ h))) (conditions_zeros _ _ _ _))))
 

@@ -11,13 +11,13 @@ use lib.Dec.{leb}
 use borrow.Author.Tests.{le-ltb, eq-eqb, leb-true, leb-false}
 use Rattle.wire.proofs.ListLaws.{and_right}
 use Rattle.engine_value.specs.Engine.{Route, progress}
-use Rattle.engine_value.specs.declared.Load.{Load}
+use Rattle.engine_value.specs.declared.Point.{Point}
 use Rattle.engine_value.specs.declared.Progress.{Progress}
-use Rattle.position.specs.Position.{point_count}
+use Rattle.position.specs.Position.{point, point_count}
 use Rattle.timing.specs.Distance.{Report, leaves}
 use Rattle.position.specs.Standing.{standing, behind}
 use Rattle.timing.specs.Report.{departs, stays, first_looked, reported, became_reached}
-use Rattle.timing.specs.Changes.{Change, change, status_passed, status_stopped, status_departed, passings, when, report_changes}
+use Rattle.timing.specs.Changes.{Change, change, status_passed, status_departed, passings, when, stopped_at, report_changes}
 use Rattle.position.specs.declared.Standing.{Standing}
 use Rattle.position.specs.declared.Standing.TheVariants.{Unused, Targeted, Reached}
 use Rattle.timing.proofs.Steps.{InRange, following-is, looked_range, reported_first, reported_up, reported_range}
@@ -25,13 +25,13 @@ use Rattle.position.proofs.Laws.{standing_passed, standing_unused, standing-at}
 use Rattle.conditions.specs.Conditions.{end_ahead}
 use Rattle.call_values.specs.Packets.{PointChange}
 use Rattle.call.specs.Packets.{change_in}
-use Rattle.whole_list.specs.Table.{change_at, standing_then, changes_from}
+use Rattle.whole_list.specs.Table.{becomes_reached, change_at, standing_then, changes_from}
 
 -- ---- a range of points, and two ranges one after the other
-module _ (e : Load) (b a : ℕ → Standing) where
+module _ (e : Route) (b a : ℕ → Standing) where
   -- the change of point k
   abbrev change_of : ℕ → List PointChange
-  change_of k = change_at (b k) (a k) k (end_ahead e (standing_then b a k))
+  change_of k = change_at (b k) (a k) (point e k) (end_ahead e.load (standing_then b a k))
 
   split : (m n k i t : ℕ) → t ≡ m + n → i ≡ k + m → changes_from e b a t k ≡ changes_from e b a m k ++ changes_from e b a n i
   unfolding changes_from
@@ -56,16 +56,16 @@ module _ (e : Load) (b a : ℕ → Standing) where
       ∙ ap (λ x. change_in e (change k status_passed (progress (k + 1) false)) ∷ x) (all_pass n (k + 1) (λ i l m. p i (omega arith) (omega arith)))
 
 -- equal standings and an equal Q_EOJ_REACHED give equal changes
-changed : (k : ℕ) {s s' t t' : Standing} {x x' : Bool} → s ≡ s' → t ≡ t' → x ≡ x' → change_at s t k x ≡ change_at s' t' k x'
+changed : (k : Point) {s s' t t' : Standing} {x x' : Bool} → s ≡ s' → t ≡ t' → x ≡ x' → change_at s t k x ≡ change_at s' t' k x'
 changed k {s' = s'} {t = t} {t' = t'} {x = x} e f g = ap (λ y. change_at y t k x) e ∙ ap (λ y. change_at s' y k x) f ∙ ap (change_at s' t' k) g
 
 -- they are determined by where the points stand
-pub changes_ext : (e : Load) (b a b' a' : ℕ → Standing) (n k : ℕ) → ((i : ℕ) → k ≤ i → i < k + n → b i ≡ b' i) → ((i : ℕ) → k ≤ i → i < k + n → a i ≡ a' i)
-    → ((i : ℕ) → end_ahead e (standing_then b a i) ≡ end_ahead e (standing_then b' a' i)) → changes_from e b a n k ≡ changes_from e b' a' n k
+pub changes_ext : (e : Route) (b a b' a' : ℕ → Standing) (n k : ℕ) → ((i : ℕ) → k ≤ i → i < k + n → b i ≡ b' i) → ((i : ℕ) → k ≤ i → i < k + n → a i ≡ a' i)
+    → ((i : ℕ) → end_ahead e.load (standing_then b a i) ≡ end_ahead e.load (standing_then b' a' i)) → changes_from e b a n k ≡ changes_from e b' a' n k
 unfolding changes_from
 changes_ext e b a b' a' zero k p q s = refl
 changes_ext e b a b' a' (suc n) k p q s =
-    ap (λ x. x ++ changes_from e b a n (k + 1)) (changed k (p k (omega arith) (omega arith)) (q k (omega arith) (omega arith)) (s k))
+    ap (λ x. x ++ changes_from e b a n (k + 1)) (changed (point e k) (p k (omega arith) (omega arith)) (q k (omega arith) (omega arith)) (s k))
     ∙ ap (λ x. change_of e b' a' k ++ x) (changes_ext e b a b' a' n (k + 1) (λ i l m. p i (omega arith) (omega arith)) (λ i l m. q i (omega arith) (omega arith)) s)
 
 -- ---- where the first point not passed stands
@@ -112,10 +112,10 @@ module _ (j : Route) (r : Report) (p : Progress) (range : InRange j p) where
       go (looks e s d g) = rw g (omega arith, reported_up j r p range)
 
   abbrev told : Change → PointChange
-  told = change_in j.load
+  told = change_in j
 
   abbrev change_at_lem : ℕ → List PointChange
-  change_at_lem i = change_of j.load (standing p) (standing q) i
+  change_at_lem i = change_of j (standing p) (standing q) i
 
   -- ---- "after that change"
 
@@ -154,21 +154,21 @@ module _ (j : Route) (r : Report) (p : Progress) (range : InRange j p) where
   before_first : (i : ℕ) → i < p.next → change_at_lem i ≡ []
   before_first i l = rw (standing_passed p i l)
 
-  departed : changes_from j.load (standing p) (standing q) (F - p.next) p.next ≡ map told (when (departs j r p) (change p.next status_departed (progress F false)))
+  departed : changes_from j (standing p) (standing q) (F - p.next) p.next ≡ map told (when (departs j r p) (change p.next status_departed (progress F false)))
   unfolding changes_from
   departed = go way
     where
       none_looked : F ≡ p.next → F - p.next ≡ 0
       none_looked e = omega arith
 
-      go : Way → changes_from j.load (standing p) (standing q) (F - p.next) p.next ≡ map told (when (departs j r p) (change p.next status_departed (progress F false)))
+      go : Way → changes_from j (standing p) (standing q) (F - p.next) p.next ≡ map told (when (departs j r p) (change p.next status_departed (progress F false)))
       go (not_settled e s d g z) = rw (none_looked g, d)
       go (looks e s d g) = rw (none_looked g, d)
       go (goes_on e s d g l) =
           let one : F - p.next ≡ 1 = omega arith in
           let k : p.next + 1 ≡ F = omega arith in
-          ap (λ n. changes_from j.load (standing p) (standing q) n p.next) one
-          ∙ ap (λ x. x ++ []) (changed p.next (standing-at p e) (standing_passed q p.next l) (end_passed p.next (omega arith) l))
+          ap (λ n. changes_from j (standing p) (standing q) n p.next) one
+          ∙ ap (λ x. x ++ []) (changed (point j p.next) (standing-at p e) (standing_passed q p.next l) (end_passed p.next (omega arith) l))
           ∙ ap (λ n. told (change p.next status_departed (progress n false)) ∷ []) k
           ∙ sym (ap (λ b. map told (when b (change p.next status_departed (progress F false)))) d)
 
@@ -177,78 +177,90 @@ module _ (j : Route) (r : Report) (p : Progress) (range : InRange j p) where
   passes i l m = go way (eq-or-lt_of_le {n = p.next} {m = i} (omega (arith, first_up.0)))
     where
       go : Way → (p.next ≡ i) ⊎ (p.next < i) → change_at_lem i ≡ told (change i status_passed (progress (i + 1) false)) ∷ []
-      go w (inr n) = changed i (standing_unused p i n) (standing_passed q i m) (end_passed i (omega arith) m)
+      go w (inr n) = changed (point j i) (standing_unused p i n) (standing_passed q i m) (end_passed i (omega arith) m)
       go (not_settled e s d g z) (inl n) = let y : q.next ≡ p.next = ap (λ x. x.next) z in absurd (omega arith)
       go (goes_on e s d g y) (inl n) = absurd (omega arith)
-      go (looks e s d g) (inl n) = changed i (ap (standing p) (sym n) ∙ standing-targeted p e) (standing_passed q i m) (end_passed i (omega arith) m)
+      go (looks e s d g) (inl n) = changed (point j i) (ap (standing p) (sym n) ∙ standing-targeted p e) (standing_passed q i m) (end_passed i (omega arith) m)
+
+  -- the changes at the end, where a point became reached
+  abbrev end_if : Bool → List Change
+  end_if b = if b then stopped_at j q else []
+
+  -- a point that becomes reached, by the rules and by the steps; both tell that it is held
+  held_too : map told (stopped_at j q) ≡ becomes_reached (point j q.next) (end_ahead j.load (standing q))
+  held_too = go (point j q.next).held refl
+    where
+      go : (b : Bool) → (point j q.next).held ≡ b → map told (stopped_at j q) ≡ becomes_reached (point j q.next) (end_ahead j.load (standing q))
+      go true e = rw e
+      go false e = rw e
 
   -- the first point not passed after the report
-  stops : change_at_lem q.next ≡ map told (when (became_reached j r p) (change q.next status_stopped q))
+  stops : change_at_lem q.next ≡ map told (end_if (became_reached j r p))
   stops = go _ refl way (eq-or-lt_of_le (reported_up j r p range))
     where
-      as_before : (b : Bool) → became_reached j r p ≡ b → change_at_lem q.next ≡ map told (when b (change q.next status_stopped q))
-          → change_at_lem q.next ≡ map told (when (became_reached j r p) (change q.next status_stopped q))
-      as_before b e f = f ∙ sym (ap (λ x. map told (when x (change q.next status_stopped q))) e)
+      as_before : (b : Bool) → became_reached j r p ≡ b → change_at_lem q.next ≡ map told (end_if b)
+          → change_at_lem q.next ≡ map told (end_if (became_reached j r p))
+      as_before b e f = f ∙ sym (ap (λ x. map told (end_if x)) e)
 
       reached_there : (s : Standing) → standing p q.next ≡ s → q.reached ≡ true → stays j r p ≡ false
-          → change_at s Reached q.next (end_ahead j.load (standing q)) ≡ told (change q.next status_stopped q) ∷ []
-          → change_at_lem q.next ≡ map told (when (became_reached j r p) (change q.next status_stopped q))
-      reached_there s e x y f = as_before true (ap (λ b. not b && q.reached) y ∙ x) (changed q.next e (standing-at q x) end_reached ∙ f)
+          → change_at s Reached (point j q.next) (end_ahead j.load (standing q)) ≡ map told (stopped_at j q)
+          → change_at_lem q.next ≡ map told (end_if (became_reached j r p))
+      reached_there s e x y f = as_before true (ap (λ b. not b && q.reached) y ∙ x) (changed (point j q.next) e (standing-at q x) end_reached ∙ f)
 
-      targeted_there : (s : Standing) → standing p q.next ≡ s → q.reached ≡ false → stays j r p ≡ false → ((x : Bool) → change_at s Targeted q.next x ≡ [])
-          → change_at_lem q.next ≡ map told (when (became_reached j r p) (change q.next status_stopped q))
-      targeted_there s e x y f = as_before false (ap (λ b. not b && q.reached) y ∙ x) (changed q.next e (standing-targeted q x) refl ∙ f _)
+      targeted_there : (s : Standing) → standing p q.next ≡ s → q.reached ≡ false → stays j r p ≡ false → ((x : Bool) → change_at s Targeted (point j q.next) x ≡ [])
+          → change_at_lem q.next ≡ map told (end_if (became_reached j r p))
+      targeted_there s e x y f = as_before false (ap (λ b. not b && q.reached) y ∙ x) (changed (point j q.next) e (standing-targeted q x) refl ∙ f _)
 
       before : (s : Standing) → standing p p.next ≡ s → p.next ≡ q.next → standing p q.next ≡ s
       before s e n = ap (standing p) (sym n) ∙ e
 
-      go : (b : Bool) → q.reached ≡ b → Way → (p.next ≡ q.next) ⊎ (p.next < q.next) → change_at_lem q.next ≡ map told (when (became_reached j r p) (change q.next status_stopped q))
+      go : (b : Bool) → q.reached ≡ b → Way → (p.next ≡ q.next) ⊎ (p.next < q.next) → change_at_lem q.next ≡ map told (end_if (became_reached j r p))
       go b x (not_settled e s d g z) (inr n) = let y : q.next ≡ p.next = ap (λ x. x.next) z in absurd (omega arith)
-      go true x (goes_on e s d g y) (inr n) = reached_there Unused (standing_unused p q.next n) x s refl
-      go true x (looks e s d g) (inr n) = reached_there Unused (standing_unused p q.next n) x s refl
+      go true x (goes_on e s d g y) (inr n) = reached_there Unused (standing_unused p q.next n) x s (sym held_too)
+      go true x (looks e s d g) (inr n) = reached_there Unused (standing_unused p q.next n) x s (sym held_too)
       go false x (goes_on e s d g y) (inr n) = targeted_there Unused (standing_unused p q.next n) x s (λ b. refl)
       go false x (looks e s d g) (inr n) = targeted_there Unused (standing_unused p q.next n) x s (λ b. refl)
       go b x (not_settled e s d g z) (inl n) =
           as_before false (ap (λ b. not b && q.reached) s)
-          (changed q.next (before Reached (standing-at p e) n) (standing-at q (ap (λ x. x.reached) z ∙ e)) refl)
+          (changed (point j q.next) (before Reached (standing-at p e) n) (standing-at q (ap (λ x. x.reached) z ∙ e)) refl)
       go b x (goes_on e s d g y) (inl n) = absurd (omega arith)
-      go true x (looks e s d g) (inl n) = reached_there Targeted (before Targeted (standing-targeted p e) n) x s refl
+      go true x (looks e s d g) (inl n) = reached_there Targeted (before Targeted (standing-targeted p e) n) x s (sym held_too)
       go false x (looks e s d g) (inl n) = targeted_there Targeted (before Targeted (standing-targeted p e) n) x s (λ b. refl)
 
-  from_there : changes_from j.load (standing p) (standing q) (point_count j - q.next) q.next ≡ map told (when (became_reached j r p) (change q.next status_stopped q))
+  from_there : changes_from j (standing p) (standing q) (point_count j - q.next) q.next ≡ map told (end_if (became_reached j r p))
   unfolding changes_from
   from_there = go (eq-or-lt_of_le (reported_range j r p range).most)
     where
       later : (i : ℕ) → suc q.next ≤ i → change_at_lem i ≡ []
-      later i l = changed i (standing_unused p i (omega (arith, reported_up j r p range))) (standing_unused q i l) refl
+      later i l = changed (point j i) (standing_unused p i (omega (arith, reported_up j r p range))) (standing_unused q i l) refl
 
-      beyond_all : (b : Bool) → became_reached j r p ≡ b → q.next ≡ point_count j → [] ≡ map told (when (became_reached j r p) (change q.next status_stopped q))
-      beyond_all false e n = sym (ap (λ b. map told (when b (change q.next status_stopped q))) e)
+      beyond_all : (b : Bool) → became_reached j r p ≡ b → q.next ≡ point_count j → [] ≡ map told (end_if (became_reached j r p))
+      beyond_all false e n = sym (ap (λ b. map told (end_if b)) e)
       beyond_all true e n =
           let l : q.next < point_count j = (reported_range j r p range).reached_one (and_right (not (stays j r p)) _ e) in
           absurd (omega arith)
 
-      go : (q.next ≡ point_count j) ⊎ (q.next < point_count j) → changes_from j.load (standing p) (standing q) (point_count j - q.next) q.next ≡ map told (when (became_reached j r p) (change q.next status_stopped q))
+      go : (q.next ≡ point_count j) ⊎ (q.next < point_count j) → changes_from j (standing p) (standing q) (point_count j - q.next) q.next ≡ map told (end_if (became_reached j r p))
       go (inl n) =
           let z : point_count j - q.next ≡ 0 = omega arith in
-          ap (λ m. changes_from j.load (standing p) (standing q) m q.next) z ∙ beyond_all _ refl n
+          ap (λ m. changes_from j (standing p) (standing q) m q.next) z ∙ beyond_all _ refl n
       go (inr l) =
           let z : point_count j - q.next ≡ suc (point_count j - suc q.next) = omega arith in
-          ap (λ m. changes_from j.load (standing p) (standing q) m q.next) z
-          ∙ ap (λ x. change_at_lem q.next ++ x) (unchanged j.load (standing p) (standing q) (point_count j - suc q.next) (q.next + 1) (λ i m n. later i (omega arith)))
+          ap (λ m. changes_from j (standing p) (standing q) m q.next) z
+          ∙ ap (λ x. change_at_lem q.next ++ x) (unchanged j (standing p) (standing q) (point_count j - suc q.next) (q.next + 1) (λ i m n. later i (omega arith)))
           ∙ append-nil (change_at_lem q.next) ∙ stops
 
-  pub changes_same : changes_from j.load (standing p) (standing q) (point_count j) 0 ≡ map told (report_changes j r p)
+  pub changes_same : changes_from j (standing p) (standing q) (point_count j) 0 ≡ map told (report_changes j r p)
   unfolding report_changes
   changes_same =
       let most : q.next ≤ point_count j = (reported_range j r p range).most in
       let low : p.next ≤ F = first_up.0 in
       let up : F ≤ q.next = first_up.1 in
-      let e = j.load in
+      let e = j in
       let b = standing p in
       let a = standing q in
       let first = when (departs j r p) (change p.next status_departed (progress F false)) in
-      let last = when (became_reached j r p) (change q.next status_stopped q) in
+      let last = end_if (became_reached j r p) in
       split e b a p.next (point_count j - p.next) 0 p.next (point_count j) (omega arith) (omega arith)
       ∙ ap (λ x. x ++ changes_from e b a (point_count j - p.next) p.next) (unchanged e b a p.next 0 (λ i l m. before_first i (omega arith)))
       ∙ split e b a (F - p.next) (point_count j - F) p.next F (point_count j - p.next) (omega arith) (omega arith)

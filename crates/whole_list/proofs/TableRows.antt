@@ -21,6 +21,7 @@ use Rattle.traction.specs.Requests.{written_content}
 use Rattle.traction.specs.declared.Remembered.{Remembered}
 use Rattle.traction.specs.View.{remembered_in}
 use Rattle.traction.proofs.Laws.{told_again}
+use Rattle.hold.specs.Hold.{held_stop_in, hold_row}
 use Rattle.call.specs.Packets.{own_packets}
 use Rattle.call_values.specs.Packets.{traction_brakes, packets_of}
 use Rattle.call.specs.Effect.{Effect, effect}
@@ -29,9 +30,9 @@ use Rattle.call.specs.Call.{Step, status_in, step_to, step_by, judge, judged}
 use Rattle.whole_list.specs.Values.{History, event_of_call, position_by, route_by}
 use Rattle.whole_list.specs.Rules.{state_by}
 use Rattle.whole_list.specs.Requests.{traction_by}
-use Rattle.whole_list.specs.Table.{head_of_call, own_by, status_by, packets_by, kind_rows, table_by}
+use Rattle.whole_list.specs.Table.{held_stop_by, head_of_call, own_by, status_by, packets_by, kind_rows, table_by}
 use Rattle.whole_list.proofs.Fields.{engine_of}
-use Rattle.whole_list.proofs.FieldsStep.{changes_by_lem}
+use Rattle.whole_list.proofs.FieldsStep.{held_is_by, changes_by_lem}
 use Rattle.whole_list.proofs.FieldsEffect.{effect_of, effect_is}
 use Rattle.whole_list.proofs.FieldsControl.{conditions-in, engine-is}
 
@@ -61,13 +62,14 @@ step_is h c =
     ∙ λ i. record { engine = engine_of (c ∷ h); packets = packets_of (route_by (c ∷ h)) (position_by (c ∷ h)) (head_of_call c) (changes_by_lem h c i) (own_is h c i) (status_is h i) (status_is (c ∷ h) i) }
 
 -- the rows one after the other
-rows_on : (power state kind : Judged (Unit {0})) (f : Effect) (test : Effect → Bool) (step : Effect → Step)
-    → then_judge power (λ u. then_judge state (λ u. then_judge (then_judge kind (λ u. accept f)) (λ f. then_judge (row 16 (test f)) (λ u. accept (step f)))))
-    ≡ then_judge (then_judge power (λ u. then_judge state (λ u. then_judge kind (λ u. row 16 (test f))))) (λ u. accept (step f))
-rows_on (refuse n) s k f test step = refl
-rows_on (accept p) (refuse n) k f test step = refl
-rows_on (accept p) (accept s) (refuse n) f test step = refl
-rows_on (accept p) (accept s) (accept k) f test step = refl
+rows_on : (power state held kind : Judged (Unit {0})) (f : Effect) (test : Effect → Bool) (step : Effect → Step)
+    → then_judge power (λ u. then_judge state (λ u. then_judge held (λ u. then_judge (then_judge kind (λ u. accept f)) (λ f. then_judge (row 16 (test f)) (λ u. accept (step f))))))
+    ≡ then_judge (then_judge power (λ u. then_judge state (λ u. then_judge held (λ u. then_judge kind (λ u. row 16 (test f)))))) (λ u. accept (step f))
+rows_on (refuse n) s g k f test step = refl
+rows_on (accept p) (refuse n) g k f test step = refl
+rows_on (accept p) (accept s) (refuse n) k f test step = refl
+rows_on (accept p) (accept s) (accept g) (refuse n) f test step = refl
+rows_on (accept p) (accept s) (accept g) (accept k) f test step = refl
 
 module _ (h : History) (c : Call) where
   abbrev shorter : List Packet → Bool
@@ -77,16 +79,18 @@ module _ (h : History) (c : Call) where
   engine_rows e =
       then_judge (power_rows (state_at (code (state_by h))) (kind_of e)) (λ u.
       then_judge (state_row (state_at (code (state_by h))) (kind_of e)) (λ u.
+      then_judge (hold_row (held_stop_in (engine_of h)) (kind_of e)) (λ u.
       then_judge (effect (engine_of h) c.journey c.book e) (λ f.
       then_judge (row 16 (shorter (step_by (engine_of h) e f).packets)) (λ u.
-      accept (step_by (engine_of h) e f)))))
+      accept (step_by (engine_of h) e f))))))
 
   abbrev rule_rows : Event → Judged (Unit {0})
   rule_rows e =
       then_judge (power_rows (state_by h) (kind_of e)) (λ u.
       then_judge (state_row (state_by h) (kind_of e)) (λ u.
+      then_judge (hold_row (held_stop_by h) (kind_of e)) (λ u.
       then_judge (kind_rows h c) (λ u.
-      row 16 (shorter (packets_by h c)))))
+      row 16 (shorter (packets_by h c))))))
 
   same_rows : engine_rows (event_of_call c) ≡ then_judge (rule_rows (event_of_call c)) (λ u. accept (ruled h c))
   same_rows =
@@ -95,18 +99,27 @@ module _ (h : History) (c : Call) where
       ap (λ s.
       then_judge (power_rows s k) (λ u.
       then_judge (state_row s k) (λ u.
+      then_judge (hold_row (held_stop_in (engine_of h)) k) (λ u.
       then_judge (effect (engine_of h) c.journey c.book e) (λ f.
       then_judge (row 16 (shorter (step_by (engine_of h) e f).packets)) (λ u.
-      accept (step_by (engine_of h) e f)))))) (state_code (state_by h))
+      accept (step_by (engine_of h) e f))))))) (state_code (state_by h))
+      ∙ ap (λ o.
+      then_judge (power_rows (state_by h) k) (λ u.
+      then_judge (state_row (state_by h) k) (λ u.
+      then_judge (hold_row o k) (λ u.
+      then_judge (effect (engine_of h) c.journey c.book e) (λ f.
+      then_judge (row 16 (shorter (step_by (engine_of h) e f).packets)) (λ u.
+      accept (step_by (engine_of h) e f))))))) (held_is_by h)
       ∙ ap (λ m.
       then_judge (power_rows (state_by h) k) (λ u.
       then_judge (state_row (state_by h) k) (λ u.
+      then_judge (hold_row (held_stop_by h) k) (λ u.
       then_judge m (λ f.
       then_judge (row 16 (shorter (step_by (engine_of h) e f).packets)) (λ u.
-      accept (step_by (engine_of h) e f)))))) (effect_is h c)
-      ∙ rows_on (power_rows (state_by h) k) (state_row (state_by h) k) (kind_rows h c) (effect_of h c) (λ f. shorter (step_by (engine_of h) e f).packets) (λ f. step_by (engine_of h) e f)
+      accept (step_by (engine_of h) e f))))))) (effect_is h c)
+      ∙ rows_on (power_rows (state_by h) k) (state_row (state_by h) k) (hold_row (held_stop_by h) k) (kind_rows h c) (effect_of h c) (λ f. shorter (step_by (engine_of h) e f).packets) (λ f. step_by (engine_of h) e f)
       ∙ ap (λ (s : Step).
-      then_judge (then_judge (power_rows (state_by h) k) (λ u. then_judge (state_row (state_by h) k) (λ u. then_judge (kind_rows h c) (λ u. row 16 (shorter s.packets))))) (λ u. accept s)) (step_is h c)
+      then_judge (then_judge (power_rows (state_by h) k) (λ u. then_judge (state_row (state_by h) k) (λ u. then_judge (hold_row (held_stop_by h) k) (λ u. then_judge (kind_rows h c) (λ u. row 16 (shorter s.packets)))))) (λ u. accept s)) (step_is h c)
 
   pub judged_is : judged (engine_of h) c ≡ then_judge (table_by h c) (λ u. accept (ruled h c))
   unfolding judged judge table_by

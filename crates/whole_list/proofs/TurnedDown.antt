@@ -1,47 +1,40 @@
 -- Profiles turned down, over every list of calls.
-use Rattle.std.specs.Prelude.{if◌then◌else◌, Option, Some, None}
+use Rattle.std.specs.Prelude.{Option, Some, None}
 use mathlib.Core.Path.{◌≡◌, refl, sym, ◌∙◌, ap, subst}
 use mathlib.Core.Logic.{◌⊎◌, ◌↔◌, inl, inr}
-use mathlib.Core.Bool.{Bool, true, false, not, ◌&&◌, false≢true}
+use mathlib.Core.Bool.{Bool, true, false, ◌&&◌, false≢true}
 use mathlib.Core.List.{List, [], ◌∷◌, ◌++◌, map}
-use Prim.Native.Nat.{ℕ, ◌+◌, ◌≤◌, ◌<◌}
+use Prim.Native.Nat.{ℕ, ◌≤◌, ◌<◌}
 use native.Mathlib.Omega.{arith}
-use lib.Dec.{eqb, leb}
-use lib.ListN.{length, drop, get_or}
+use lib.Dec.{leb}
+use lib.ListN.{length, drop}
 use borrow.Author.Tests.{leb-true, le-leb, lt-leb}
-use Rattle.wire.specs.Judged.{Judged, then_judge, row}
+use Rattle.wire.specs.Judged.{Judged}
 use Rattle.wire.specs.Judged.Judged.{refuse, accept}
 use Rattle.wire.specs.Refusals.{turns_down}
 use Rattle.wire.proofs.ListLaws.{and_left, and_right}
-use Rattle.layout.specs.Layout.{size, values_at, fits}
 use Rattle.engine_value.specs.Engine.{Route}
 use Rattle.engine_value.specs.declared.Position.{Position}
-use Rattle.event.specs.declared.Event.{Event}
-use Rattle.event.specs.Kinds.{Content, kind, kinds, kind_of, Role, off, load, report, other, skip}
-use Rattle.event.specs.Events.{event_rows, event_with, content_among, event_of_kind, event_of}
+use Rattle.event.specs.Kinds.{kind_of, Role, off, load, report, other, skip}
+use Rattle.event.specs.Events.{event_of}
 use Rattle.status_word.specs.declared.OperationalConditions.{OperationalConditions}
 use Rattle.packets.specs.Packets.{packet_bytes, joined}
 use Rattle.packets.specs.declared.Requested.{Requested}
 use Rattle.packets.specs.declared.JpReceived.{JpReceived}
 use Rattle.packets.specs.declared.Packet.{Packet}
 use Rattle.journey.specs.declared.Head.{Head}
-use Rattle.position.specs.Position.{segment_named}
-use Rattle.position.specs.Skips.{stop_named}
 use Rattle.timing.specs.Changes.{when}
-use Rattle.state_codes.specs.Codes.{is}
 use Rattle.state_codes.specs.Numbers.{power_rows, state_row}
-use Rattle.state_codes.specs.declared.State.{State}
-use Rattle.state_codes.specs.declared.State.TheVariants.{NP}
+use Rattle.hold.specs.Hold.{hold_row}
 use Rattle.route.specs.Route.{LoadValue, load_of}
 use Rattle.traction.specs.Requests.{written_content}
-use Rattle.call_values.specs.Rows.{offset_beyond}
 use Rattle.call_values.specs.Packets.{PointChange, timing_point, jp_received, traction_brake, traction_brakes, ato_status, status_due, received, packets_of, jp_turned_down, packets_refused}
 use Rattle.call_values.specs.Call.{Call}
 use Rattle.call.specs.Call.{Outcome, step_of}
 use Rattle.whole_list.specs.Values.{History, event_of_call, load_of_call, role_of_call, position_by, route_by}
 use Rattle.whole_list.specs.Rules.{state_by}
 use Rattle.whole_list.specs.Requests.{traction_by}
-use Rattle.whole_list.specs.Table.{changes_by, head_of, head_of_call, status_by, own_by, packets_by, skip_rows, kind_rows, table_by, packets_refused_by, packets_if, written_by}
+use Rattle.whole_list.specs.Table.{held_stop_by, changes_by, head_of, head_of_call, status_by, own_by, packets_by, kind_rows, table_by, packets_refused_by, packets_if, written_by}
 use Rattle.whole_list.specs.Calls.{engine_after, history_of}
 use Rattle.whole_list.specs.Recorded.{packets_after, newest, In}
 use Rattle.whole_list.specs.WholeList.{bytes_of_each}
@@ -50,86 +43,13 @@ use Rattle.whole_list.proofs.Requests.{in_left, in-append}
 use Rattle.whole_list.proofs.Recorded.{newest_refused}
 use Rattle.whole_list.proofs.Readable.{written_fit, written_as, read_as}
 use Rattle.whole_list.proofs.Engaged.{then_accepts}
+use Rattle.whole_list.proofs.RowNumbers.{none_of, load_rows, rows_as, table_refuses}
 use Rattle.whole_list.proofs.WholeList.{judged_next}
 
--- ---- the numbers of the rows before the book and behind the journey
-
--- the number of no refusal is from 7 to 12
-abbrev Otherwise : {A : Type 0} → Judged A → Type 0
-Otherwise p = (n : ℕ) → p ≡ refuse n → turns_down n ≡ false
-
-then-otherwise : {A B : Type 0} (p : Judged A) (f : A → Judged B) → Otherwise p → ((a : A) → Otherwise (f a)) → Otherwise (then_judge p f)
-then-otherwise (refuse m) f h g n e = h n (let z : m ≡ n = cc in ap refuse z)
-then-otherwise (accept a) f h g n e = g a n e
-
-row_otherwise : (m : ℕ) (b : Bool) → turns_down m ≡ false → Otherwise (row m b)
-row_otherwise m true h n e = let z : m ≡ n = cc in ap turns_down (sym z) ∙ h
-row_otherwise m false h n e = cc
-
-no_content : (es : List Event) (n : ℕ) → Otherwise (content_among es n)
-unfolding content_among
-no_content [] n k e = let z : k ≡ 1 = cc in ap turns_down z
-no_content (x ∷ es) n k e = go (eqb n (kind x).number) (no_content es n) e
-  where
-    go : (b : Bool) → Otherwise (content_among es n) → (if b then accept (kind x).content else content_among es n) ≡ refuse k → turns_down k ≡ false
-    go true h q = cc
-    go false h q = h k q
-
-event_otherwise : (l : List ℕ) → Otherwise (event_of l)
-unfolding event_of event_of_kind event_with event_rows
-event_otherwise l =
-    then-otherwise (row 1 (eqb (length l) 0)) _ (row_otherwise 1 (eqb (length l) 0) refl)
-    (λ u. then-otherwise (content_among kinds (get_or l 0 0)) _ (no_content kinds (get_or l 0 0)) (λ c. fields c))
-  where
-    fields : (c : Content) → Otherwise (event_with c l)
-    fields c =
-        then-otherwise (row 1 (not (eqb (length l) (1 + size c.fields)))) _ (row_otherwise 1 _ refl)
-        (λ u. then-otherwise (row 2 (not (fits c.fields (values_at c.fields 1 l)))) _ (row_otherwise 2 _ refl) (λ v n e. cc))
-
-power_otherwise : (s : State) (k : ℕ) → Otherwise (power_rows s k)
-unfolding power_rows
-power_otherwise s k =
-    then-otherwise (row 3 (is s NP && not (eqb k 1))) _ (row_otherwise 3 _ refl)
-    (λ u. then-otherwise (row 4 (eqb k 1 && not (is s NP))) _ (row_otherwise 4 _ refl) (λ v. row_otherwise 5 _ refl))
-
-state_otherwise : (s : State) (k : ℕ) → Otherwise (state_row s k)
-unfolding state_row
-state_otherwise s k = row_otherwise 6 _ refl
-
-skip_otherwise : (h : History) (o : Option ℕ) (on : Bool) → Otherwise (skip_rows h o on)
-skip_otherwise h None on n e = let z : n ≡ 14 = cc in ap turns_down z
-skip_otherwise h (Some k) on n e = row_otherwise 15 _ refl n e
-
 module _ (h : History) (c : Call) where
-  -- the rows of a load
-  abbrev load_rows : Judged LoadValue → Judged (Unit {0})
-  load_rows v = then_judge v (λ l. accept tt)
-
-  -- the rows of the kinds, by the role of the event
-  abbrev rows_as : Role → Judged (Unit {0})
-  rows_as r = elim r [
-    | off ↦ accept tt
-    | load ↦ load_rows (load_of c.journey c.book)
-    | report ↦ let x = position_by (c ∷ h) in row 13 (offset_beyond (segment_named (route_by h) x) x)
-    | other ↦ accept tt
-    | skip t on ↦ skip_rows h (stop_named (route_by h) t) on
-  ]
-
-  kind_otherwise : (r : Role) → (r ≡ load → ⊥) → Otherwise (rows_as r)
-  kind_otherwise off other_role n e = cc
-  kind_otherwise load other_role n e = absurd (other_role refl)
-  kind_otherwise report other_role n e = row_otherwise 13 _ refl n e
-  kind_otherwise other other_role n e = cc
-  kind_otherwise (skip t on) other_role n e = skip_otherwise h (stop_named (route_by h) t) on n e
-
-  table_otherwise : (role_of_call c ≡ load → ⊥) → Otherwise (table_by h c)
-  unfolding table_by kind_rows
-  table_otherwise other_role =
-      then-otherwise (event_of c.event) _ (event_otherwise c.event) (λ e.
-      then-otherwise (power_rows (state_by h) (kind_of e)) _ (power_otherwise (state_by h) (kind_of e)) (λ u.
-      then-otherwise (state_row (state_by h) (kind_of e)) _ (state_otherwise (state_by h) (kind_of e)) (λ v.
-      then-otherwise (kind_rows h c) _ (kind_otherwise (role_of_call c) other_role) (λ w.
-      row_otherwise 16 _ refl))))
+  -- an event that is no load is refused by no number from 7 to 12
+  otherwise : (role_of_call c ≡ load → ⊥) → (n : ℕ) → table_by h c ≡ refuse n → turns_down n ≡ false
+  otherwise no_load n e = none_of turns_down (1 ∷ 1 ∷ 1 ∷ 2 ∷ 3 ∷ 4 ∷ 5 ∷ 6 ∷ 20 ∷ 13 ∷ 14 ∷ 15 ∷ 16 ∷ []) refl n (table_refuses h c no_load n e)
 
   -- ---- profiles are turned down
 
@@ -144,7 +64,7 @@ module _ (h : History) (c : Call) where
   is_load_lem t = go (role_of_call c) refl
     where
       no_other : (role_of_call c ≡ load → ⊥) → ⊥
-      no_other other_role = false≢true (sym (table_otherwise other_role t.number t.is_refused) ∙ down t)
+      no_other other_role = false≢true (sym (otherwise other_role t.number t.is_refused) ∙ down t)
 
       go : (r : Role) → role_of_call c ≡ r → role_of_call c ≡ load
       go off q = absurd (no_other (λ e. cc))
@@ -259,14 +179,15 @@ module _ (h : History) (c : Call) (p : JpReceived) where
 
 module _ (h : History) (c : Call) where
   -- has a head
-  loaded-has : table_by h c ≡ accept tt → role_of_call c ≡ load → (d : Head) × (head_of_call c ≡ Some d)
+  pub loaded-has : table_by h c ≡ accept tt → role_of_call c ≡ load → (d : Head) × (head_of_call c ≡ Some d)
   unfolding table_by kind_rows load_of_call
   loaded-has e q =
       let (event, _, f₁) = then_accepts (event_of c.event) _ tt e in
       let (_, _, f₂) = then_accepts (power_rows (state_by h) (kind_of event)) _ tt f₁ in
       let (_, _, f₃) = then_accepts (state_row (state_by h) (kind_of event)) _ tt f₂ in
-      let (_, e₄, _) = then_accepts (kind_rows h c) _ tt f₃ in
-      has (load_of c.journey c.book) refl (sym (kind_is (role_of_call c) q) ∙ e₄)
+      let (_, _, f₄) = then_accepts (hold_row (held_stop_by h) (kind_of event)) _ tt f₃ in
+      let (_, e₅, _) = then_accepts (kind_rows h c) _ tt f₄ in
+      has (load_of c.journey c.book) refl (sym (kind_is (role_of_call c) q) ∙ e₅)
     where
       kind_is : (r : Role) → r ≡ load → rows_as h c r ≡ load_rows h c (load_of c.journey c.book)
       kind_is r q = rw q refl

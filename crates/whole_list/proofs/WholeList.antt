@@ -38,7 +38,7 @@ use Rattle.whole_list.proofs.Decoded.{zones-booked}
 use Rattle.whole_list.proofs.Fields.{skips_of, progress_run, engine_of, stands_at}
 use Rattle.whole_list.proofs.FieldsControl.{conditions-in}
 use Rattle.whole_list.proofs.TableRows.{ruled, judged_is}
-use Rattle.whole_list.proofs.Engaged.{Good, power_accepts, stands_exactly, saw, engaged_exactly, requested_exactly}
+use Rattle.whole_list.proofs.Engaged.{Good, power_accepts, stands_exactly, saw, held_exactly, engaged_exactly, requested_exactly}
 use Rattle.whole_list.proofs.Recorded.{memory_read, newest_refused}
 use Rattle.whole_list.proofs.Readable.{written_fit, read_back}
 use Rattle.whole_list.proofs.Shown.{shown_by}
@@ -141,7 +141,7 @@ first_state e r v a = go (row_of e) (kind_of e) (known e).row a
     go SwitchOff n k a = cc (rw k.1 at a)
     go Fail n k a = cc (rw k.1 at a)
     go EngagePress n k a = cc (rw k.1 at a)
-    go ByState n k a = cc (rw k at a)
+    go ByState n k a = cc (rw k.0 at a)
 
 first_CO : (c : Call) → table_by [] c ≡ accept tt → state_by (c ∷ []) ≢ NP
 unfolding machine_by
@@ -251,7 +251,7 @@ whole_list calls =
       judged = λ earlier c later e. claim_judged _ _ c (kept earlier).seen;
       request = ap (λ x. x.control.request) k.seen;
       traction = ap (λ x. x.traction) k.seen;
-      as_ruled = record { stands = stands_exactly (history_of calls); became = saw (history_of calls); zones = zones-booked (history_of calls) };
+      as_ruled = record { stands = stands_exactly (history_of calls); became = saw (history_of calls); held = held_exactly (history_of calls); zones = zones-booked (history_of calls) };
       shown = rw k.seen (shown_by (history_of calls));
     }
 

@@ -8,14 +8,14 @@ use Rattle.event.specs.Kinds.{off, load}
 use Rattle.packets.specs.Packets.{packet_of}
 use Rattle.packets.specs.declared.TimingPoint.{TimingPoint}
 use Rattle.packets.specs.declared.Packet.{Packet}
-use Rattle.position.specs.Position.{point, point_count, front_at}
+use Rattle.position.specs.Position.{point, front_at}
 use Rattle.timing.specs.Distance.{exceeds_reach}
 use Rattle.timing.specs.Changes.{status_departed}
 use Rattle.position.specs.declared.Standing.TheVariants.{Reached, Passed}
 use Rattle.call_values.specs.Call.{Call}
 use Rattle.call.specs.Call.{step_of}
 use Rattle.whole_list.specs.Values.{History, event_of_call, role_of_call, route_by, length_by}
-use Rattle.whole_list.specs.Rules.{StandsBy}
+use Rattle.whole_list.specs.Rules.{StandsBy, ReachedBy}
 use Rattle.whole_list.specs.Table.{table_by}
 use Rattle.whole_list.specs.Calls.{engine_after, history_of}
 use Rattle.whole_list.specs.Recorded.{packets_after, In}
@@ -27,11 +27,6 @@ pub record Leaves (h : History) (x : Position) (k : ℕ) : Type 0 where
   pub front : ℕ
   pub is_known : front_at (route_by h) x ≡ Some front
   pub is_beyond : exceeds_reach front (length_by h) (point (route_by h) k) ≡ true
-
--- point k of the journey in force is reached
-pub record ReachedBy (h : History) (k : ℕ) : Type 0 where
-  pub one_of_them : k < point_count (route_by h)
-  pub reached : StandsBy h k Reached
 
 -- ---- truly departed
 

@@ -1,6 +1,6 @@
--- The claim is not empty: lists of calls, refused ones among them: one that ends in EG, one that ends in DE, one that creeps, one whose profiles are turned down, one with
--- traction requests.
-use Rattle.std.specs.Prelude.{◌≡◌, true, false, List, [], ◌∷◌, ◌++◌, map, ℕ, length, drop, replicate, Some, None}
+-- The claim is not empty: lists of calls, refused ones among them: one that ends in EG, one that ends in DE, one that creeps, one whose profiles are turned
+-- down, one that is held, one with traction requests.
+use Rattle.std.specs.Prelude.{◌≡◌, true, false, List, [], ◌∷◌, ◌++◌, map, ℕ, length, drop, replicate, set, Some, None, is_some}
 use Rattle.status_word.specs.View.{conditions_number}
 use Rattle.engine_value.specs.Engine.{fresh}
 use Rattle.position.specs.Standing.{standing}
@@ -13,6 +13,7 @@ use Rattle.event.specs.declared.TractionRequest.{TractionRequest}
 use Rattle.traction.specs.Requests.{remembered}
 use Rattle.whole_list.specs.Requests.{requests_since, traction_by}
 use Rattle.whole_list.specs.Rules.{standing_by, conditions_by, state_by, request_by}
+use Rattle.whole_list.specs.Table.{held_stop_by}
 use Rattle.whole_list.specs.Calls.{engine_after, Done, trace, history_of, last_answer}
 use Rattle.whole_list.specs.Recorded.{recorded_by, last_status}
 
@@ -45,6 +46,23 @@ not_received = 0x00 ∷ 0x11 ∷ 0x40 ∷ 0x00 ∷ 0x00 ∷ 0x00 ∷ 0x00 ∷ 0x
 
 abbrev pub taken : List Call
 taken = turned_down ++ (trial_load ∷ [])
+
+-- ready, and stopped at 7001, which is held: a press is refused; then the hold ends, 7001 is reached anew, and a press engages
+abbrev pub held_load : Call
+held_load = loads (set trial_journey 16 0x93) trial_book
+
+abbrev pub coming : List Call
+coming = power_on ∷ held_load ∷ at 20000 0 ∷ reports 31 ∷ configured ∷ []
+
+abbrev pub held : List Call
+held = coming ++ (at 39900 0 ∷ press ∷ [])
+
+abbrev pub released : List Call
+released = held ++ (trial_load ∷ at 39900 0 ∷ press ∷ mode 1 ∷ [])
+
+-- pressed before the held stop is reached
+abbrev pub pressed : List Call
+pressed = coming ++ (press ∷ at 39900 0 ∷ mode 1 ∷ [])
 
 -- engaged, requests of 20 and 75 (range 2), −72, which range 2 holds, and −72 with another Q_ATO_SupTB; one in RE, and one of 101, which is refused
 abbrev pub request : ℕ → ℕ → Call
@@ -103,6 +121,13 @@ pub record Example : Type 0 where
   pub same_history : history_of turned_down ≡ history_of stopped
   pub last_status_kept : last_status None (trace fresh turned_down) ≡ last_status None (trace fresh stopped)
   pub targeted_again : map (stands taken) (0 ∷ 1 ∷ []) ≡ Targeted ∷ Unused ∷ []
+  -- 1 and 3 where the held stop becomes reached; 20; 65 and 4 where the hold ends; then 1 alone, and EG
+  pub answers_held : answers_of released
+      ≡ answered 1 false 19 ∷ answered 1 false 48 ∷ answered 1 false 19 ∷ answered 1 false 19 ∷ answered 4 true 19 ∷ answered 4 true 50 ∷ refused 20 0
+      ∷ answered 4 true 54 ∷ answered 4 true 25 ∷ answered 4 true 0 ∷ answered 5 true 19 ∷ []
+  pub at_held_stop : map (λ (l : List Call). is_some (held_stop_by (history_of l))) (held ∷ released ∷ pressed ∷ []) ≡ true ∷ false ∷ true ∷ []
+  pub reached_held : stands held 0 ≡ Reached
+  pub engaged_held : (engine_after pressed).control.state ≡ 5
   -- 61 at 20, at 75 and with the other Q_ATO_SupTB; by the rules and in the engine range 2 and 6, until EG is entered again
   pub requests : answers_of pulling
       ≡ answered 1 false 19 ∷ refused 6 0 ∷ answered 1 false 48 ∷ answered 1 false 44 ∷ answered 1 false 19 ∷ answered 4 true 19 ∷ answered 4 true 0

@@ -8,4 +8,5 @@ pub mod Recorded
 pub mod WholeList
 pub mod Creeping
 pub mod TurnedDown
+pub mod Held
 pub mod Example

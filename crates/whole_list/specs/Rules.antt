@@ -1,10 +1,10 @@
 -- The rules over a history: where the points stand, the conditions, the state, the AD request, the engagement rule. Nothing here is of crate `call`.
-use Rattle.std.specs.Prelude.{◌≡◌, Bool, false, not, ◌&&◌, ◌||◌, [], ◌∷◌, ℕ, zero, suc, ◌-◌, ◌<◌, length, drop, get_or}
+use Rattle.std.specs.Prelude.{◌≡◌, Bool, true, false, not, ◌&&◌, ◌||◌, [], ◌∷◌, ℕ, zero, suc, ◌-◌, ◌<◌, length, drop, get_or}
 use Rattle.engine_value.specs.declared.Position.{Position}
 use Rattle.event.specs.declared.Event.TheVariants.{PositionReport}
 use Rattle.event.specs.Kinds.{off, load, report, other, skip}
 use Rattle.status_word.specs.declared.OperationalConditions.{OperationalConditions}
-use Rattle.position.specs.Position.{point_count}
+use Rattle.position.specs.Position.{point, point_count}
 use Rattle.position.specs.Standing.{is_reached}
 use Rattle.timing.specs.History.{Stands}
 use Rattle.timing.specs.Rule.{standing_by_reports}
@@ -97,6 +97,20 @@ pub record Moments (h : History) : Type 0 where
   pub after_none : upto h 0 ≡ []
   pub after_one_more : (k : ℕ) → k < length h → upto h (suc k) ≡ call_at h k ∷ upto h k
 
+-- point k of the journey in force is reached
+pub record ReachedBy (h : History) (k : ℕ) : Type 0 where
+  pub one_of_them : k < point_count (route_by h)
+  pub reached : StandsBy h k Reached
+
+-- 02, Q-5: "a held stop is reached", by the history rule and the mark of the load in force: point k; any of them
+pub record HeldBy (h : History) (k : ℕ) : Type 0 where
+  pub reached : ReachedBy h k
+  pub marked : (point (route_by h) k).held ≡ true
+
+abbrev pub AtHeldStop : History → Type 0
+AtHeldStop h = (k : ℕ) × HeldBy h k
+
 -- the engagement rule, read in a history
 abbrev pub Engaged : History → Type 0
-Engaged h = Engagement (λ k. event_of_call (call_at h k)) (λ v. values_by (upto h v)) (λ k. JustReached (upto h (suc k))) (length h)
+Engaged h =
+    Engagement (λ k. event_of_call (call_at h k)) (λ v. values_by (upto h v)) (λ k. JustReached (upto h (suc k))) (λ v. AtHeldStop (upto h v)) (length h)

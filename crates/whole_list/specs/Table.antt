@@ -2,23 +2,25 @@
 use Rattle.std.specs.Prelude.{Bool, ◌||◌, List, [], ◌∷◌, ◌++◌, ℕ, zero, suc, ◌+◌, length, ltb, leb, if◌then◌else◌, Option, Some, None}
 use Rattle.wire.specs.Judged.{Judged, then_judge, row, ◌>>=◌, ◌>>◌}
 use Rattle.wire.specs.Judged.Judged.{refuse, accept}
-use Rattle.engine_value.specs.declared.Load.{Load}
+use Rattle.engine_value.specs.Engine.{Route}
+use Rattle.engine_value.specs.declared.Point.{Point}
 use Rattle.event.specs.Events.{event_of}
 use Rattle.event.specs.Kinds.{kind_of, off, load, report, other, skip}
 use Rattle.journey.specs.declared.Head.{Head}
 use Rattle.route.specs.Route.{LoadValue, load_of}
 use Rattle.packets.specs.Packets.{joined}
 use Rattle.packets.specs.declared.Packet.{Packet}
-use Rattle.position.specs.Position.{point_count, segment_named}
+use Rattle.position.specs.Position.{point, point_count, segment_named}
 use Rattle.position.specs.Standing.{behind}
-use Rattle.timing.specs.Changes.{status_passed, status_stopped, status_departed, status_skipped, status_revoked}
+use Rattle.timing.specs.Changes.{status_passed, status_stopped, status_departed, status_held, status_skipped, status_revoked, when}
 use Rattle.position.specs.Skips.{stop_named}
 use Rattle.position.specs.declared.Standing.{Standing}
 use Rattle.position.specs.declared.Standing.TheVariants.{Unused, Targeted, Reached, Passed}
 use Rattle.state_codes.specs.Codes.{code}
+use Rattle.hold.specs.Hold.{held_stop, hold_row, hold_ended}
 use Rattle.conditions.specs.Conditions.{end_ahead}
 use Rattle.state_codes.specs.Numbers.{power_rows, state_row}
-use Rattle.call_values.specs.Packets.{PointChange, point_change, Status, traction_brakes, packets_of, packets_refused}
+use Rattle.call_values.specs.Packets.{PointChange, point_change, hold_revoked, Status, traction_brakes, packets_of, packets_refused}
 use Rattle.call_values.specs.Rows.{offset_beyond, same_bool}
 use Rattle.call_values.specs.Call.{Call, Answer, refused, accepted}
 use Rattle.call_values.specs.declared.Accepted.{Accepted}
@@ -29,45 +31,57 @@ use Rattle.whole_list.specs.Requests.{traction_by}
 
 -- ---- the points that an event changed, by where the history rule has them
 
--- "0 passed, 1 stopped, 2 departed", by where point k stands before and after a position report. "A departure writes status 2 and no 0";
--- `ahead` tells whether the End of Journey is neither reached nor passed
-abbrev pub change_at : Standing → Standing → ℕ → Bool → List PointChange
-change_at Passed after k ahead = []
-change_at Reached Passed k ahead = point_change k status_departed ahead ∷ []
-change_at Reached Reached k ahead = []
-change_at Reached Targeted k ahead = []
-change_at Reached Unused k ahead = []
-change_at Targeted Passed k ahead = point_change k status_passed ahead ∷ []
-change_at Targeted Reached k ahead = point_change k status_stopped ahead ∷ []
-change_at Targeted Targeted k ahead = []
-change_at Targeted Unused k ahead = []
-change_at Unused Passed k ahead = point_change k status_passed ahead ∷ []
-change_at Unused Reached k ahead = point_change k status_stopped ahead ∷ []
-change_at Unused Targeted k ahead = []
-change_at Unused Unused k ahead = []
+-- 02, Q-5: "When a held stop becomes reached, packet 62 with status 3 follows the one with status 1."; `ahead` tells whether the End of Journey is neither
+-- reached nor passed
+abbrev pub becomes_reached : Point → Bool → List PointChange
+becomes_reached p ahead = point_change p status_stopped ahead ∷ when p.held (point_change p status_held ahead)
+
+-- "0 passed, 1 stopped, 2 departed", by where a point stands before and after a position report. "A departure writes status 2 and no 0"
+abbrev pub change_at : Standing → Standing → Point → Bool → List PointChange
+change_at Passed after p ahead = []
+change_at Reached Passed p ahead = point_change p status_departed ahead ∷ []
+change_at Reached Reached p ahead = []
+change_at Reached Targeted p ahead = []
+change_at Reached Unused p ahead = []
+change_at Targeted Passed p ahead = point_change p status_passed ahead ∷ []
+change_at Targeted Reached p ahead = becomes_reached p ahead
+change_at Targeted Targeted p ahead = []
+change_at Targeted Unused p ahead = []
+change_at Unused Passed p ahead = point_change p status_passed ahead ∷ []
+change_at Unused Reached p ahead = becomes_reached p ahead
+change_at Unused Targeted p ahead = []
+change_at Unused Unused p ahead = []
 
 -- "after that change": the points up to k stand as after the report, the later ones still as before it
 abbrev pub standing_then : (ℕ → Standing) → (ℕ → Standing) → ℕ → ℕ → Standing
 standing_then before after k i = if leb i k then after i else before i
 
 -- of the n points from k on
-unfoldable pub changes_from : Load → (ℕ → Standing) → (ℕ → Standing) → ℕ → ℕ → List PointChange
-changes_from l before after zero k = []
-changes_from l before after (suc n) k = change_at (before k) (after k) k (end_ahead l (standing_then before after k)) ++ changes_from l before after n (k + 1)
+unfoldable pub changes_from : Route → (ℕ → Standing) → (ℕ → Standing) → ℕ → ℕ → List PointChange
+changes_from j before after zero k = []
+changes_from j before after (suc n) k =
+    change_at (before k) (after k) (point j k) (end_ahead j.load (standing_then before after k)) ++ changes_from j before after n (k + 1)
 
 -- "5 driver skip, 6 skip revoked"
-abbrev pub skip_change : Option ℕ → Bool → Bool → List PointChange
-skip_change None on ahead = []
-skip_change (Some k) on ahead = point_change k (if on then status_skipped else status_revoked) ahead ∷ []
+abbrev pub skip_change : Route → Option ℕ → Bool → Bool → List PointChange
+skip_change j None on ahead = []
+skip_change j (Some k) on ahead = point_change (point j k) (if on then status_skipped else status_revoked) ahead ∷ []
 
--- "points that a load puts behind write none"
+-- the held stop that is reached, by the history rule and the mark of the load in force
+abbrev pub held_stop_by : History → Option Point
+held_stop_by h = held_stop (route_by h) (standing_by h)
+
+-- "points that a load puts behind write none"; 02, Q-5: a load that ends a hold "status 4", with "the new journey's Q_EOJ_REACHED"
+abbrev pub load_changes : History → Call → List PointChange
+load_changes h c = hold_revoked (hold_ended (held_stop_by h) (route_by (c ∷ h))) (end_ahead (route_by (c ∷ h)).load (standing_by (c ∷ h)))
+
 unfoldable pub changes_by : History → Call → List PointChange
 changes_by h c = elim (role_of_call c) [
   | off ↦ []
-  | load ↦ []
-  | report ↦ changes_from (route_by h).load (standing_by h) (standing_by (c ∷ h)) (point_count (route_by h)) 0
+  | load ↦ load_changes h c
+  | report ↦ changes_from (route_by h) (standing_by h) (standing_by (c ∷ h)) (point_count (route_by h)) 0
   | other ↦ []
-  | skip t on ↦ skip_change (stop_named (route_by h) t) on (end_ahead (route_by h).load (standing_by h))
+  | skip t on ↦ skip_change (route_by h) (stop_named (route_by h) t) on (end_ahead (route_by h).load (standing_by h))
 ]
 
 -- ---- the packets of the call c, accepted after the history h
@@ -115,6 +129,7 @@ table_by h c = do
   event ← event_of c.event
   power_rows (state_by h) (kind_of event)
   state_row (state_by h) (kind_of event)
+  hold_row (held_stop_by h) (kind_of event)
   kind_rows h c
   row 16 (ltb (length c.memory) (length (joined (packets_by h c))))
 

@@ -1,5 +1,5 @@
 -- THE CLAIM (demand 3): one statement over every list of calls, refused ones included, on one fresh engine. It assumes nothing.
-use Rattle.std.specs.Prelude.{◌≡◌, ◌≢◌, ◌↔◌, ◌⊎◌, true, List, [], ◌∷◌, ◌++◌, map, ℕ, ◌≤◌, ◌<◌, length, drop, get_or, Option, Some, None}
+use Rattle.std.specs.Prelude.{◌≡◌, ◌≢◌, ◌↔◌, ◌⊎◌, true, List, [], ◌∷◌, ◌++◌, map, ℕ, ◌≤◌, ◌<◌, length, drop, get_or, Option, Some, None, is_some}
 use Rattle.wire.specs.Judged.Judged.{refuse, accept}
 use Rattle.engine_value.specs.Engine.{route_in, fresh, max_points}
 use Rattle.engine_value.specs.declared.Position.{Position}
@@ -29,9 +29,9 @@ use Rattle.call.specs.Call.{Outcome, step_of, conditions_in}
 use Rattle.call.specs.View.{shown_view}
 use Rattle.call.specs.declared.Shown.{Shown}
 use Rattle.whole_list.specs.Values.{History, event_of_call, route_by, report_at}
-use Rattle.whole_list.specs.Rules.{StandsBy, standing_by, conditions_by, values_by, JustReached, became_reached_by, state_by, request_by, upto, Engaged}
+use Rattle.whole_list.specs.Rules.{StandsBy, standing_by, conditions_by, values_by, JustReached, became_reached_by, AtHeldStop, state_by, request_by, upto, Engaged}
 use Rattle.whole_list.specs.Requests.{traction_by}
-use Rattle.whole_list.specs.Table.{table_by, written_by, answer_by}
+use Rattle.whole_list.specs.Table.{held_stop_by, table_by, written_by, answer_by}
 use Rattle.whole_list.specs.Calls.{engine_after, trace, history_of, last_answer, accepted_calls}
 use Rattle.whole_list.specs.Recorded.{packets_after, number_in, last_status, In}
 
@@ -100,6 +100,8 @@ pub record AsRuled (h : History) : Type 0 where
   pub stands : (k : ℕ) (s : Standing) → (standing_by h k ≡ s) ↔ StandsBy h k s
   -- "A point became reached at a report if the history rule has it so after, not before, that report", which is the last event of the history
   pub became : (became_reached_by h ≡ true) ↔ JustReached h
+  -- 02, Q-5: "a held stop is reached"
+  pub held : (is_some (held_stop_by h) ≡ true) ↔ AtHeldStop h
   -- condition 7 by its sentence (conditions/Sentences): what is not in the book has no zones
   pub zones : ZonesBooked (route_by h)
 

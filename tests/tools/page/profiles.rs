@@ -225,8 +225,10 @@ pub fn check(page: &Page) -> Checked<usize> {
     journey.check(&tried)?;
     check_offsets(page, &journey, &tried)?;
     point.check(&Tried { engine: &engine, inner: &[], lend: &lend_point })?;
-    let skip_alone = point.write(0x2F, &point.values(), &[]);
-    same(point.line, "bit 5 without bit 4: number", 9, refusal(&engine, &lend_point(&skip_alone), point.line)?)?;
+    for (map, bit) in [(0x2F, 5), (0x8F, 7)] {
+        let alone = lend_point(&point.write(map, &point.values(), &[]));
+        same(point.line, &format!("bit {bit} without bit 4: number"), 9, refusal(&engine, &alone, point.line)?)?;
+    }
     check_defaults(&record, &journey, &point)?;
     Ok(record.fields.len() + journey.fields.len() + point.fields.len())
 }

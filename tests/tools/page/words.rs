@@ -13,6 +13,8 @@ use std::collections::BTreeSet;
 
 /// The most characters of a line.
 const LINE: usize = 120;
+/// The highest number, and its place in the table is behind 6.
+const HELD: u8 = 20;
 const STANDINGS: [&str; 4] = ["not used", "targeted", "reached", "passed"];
 /// With no journey.
 const NO_CONDITION: u16 = 0x080;
@@ -90,6 +92,15 @@ fn check_standings(page: &Page) -> Checked<()> {
     Ok(())
 }
 
+fn numbers_of(packets: &[Vec<u8>]) -> String {
+    let numbers: Vec<String> = packets.iter().map(|packet| packet[0].to_string()).collect();
+    if numbers.is_empty() {
+        "none".into()
+    } else {
+        numbers.join(" ")
+    }
+}
+
 /// Where they stand after one report more at the reached stop, and the packets that it writes.
 fn check_creeps(page: &Page) -> Checked<()> {
     for row in page.table("7. Timing points", "Then at")? {
@@ -99,9 +110,7 @@ fn check_creeps(page: &Page) -> Checked<()> {
         play(&mut pair, &[Call::power_on(), two_points(), Call::position(17, 500, 40_000, 0)], row.line)?;
         let (_, packets) = play(&mut pair, &[report], row.line)?;
         check_two(&row, &pair)?;
-        let numbers: Vec<String> = packets.iter().map(|packet| packet[0].to_string()).collect();
-        let numbers = if numbers.is_empty() { "none".into() } else { numbers.join(" ") };
-        same(row.line, "packets", row.text("Packets")?, &numbers)?;
+        same(row.line, "packets", row.text("Packets")?, &numbers_of(&packets))?;
     }
     Ok(())
 }
@@ -110,6 +119,8 @@ fn check_creeps(page: &Page) -> Checked<()> {
 fn check_statuses(page: &Page) -> Checked<()> {
     let report = |offset, speed| Call::position(17, 500, offset, speed);
     let told = [
+        ("held", report(40_000, 0)),
+        ("hold revoked", two_points()),
         ("driver skip", Call::skip(7001)),
         ("skip revoked", Call::revoke(7001)),
         ("stopped", report(40_000, 0)),
@@ -119,13 +130,47 @@ fn check_statuses(page: &Page) -> Checked<()> {
     let rows = page.table("Packet 62", "Status")?;
     same(rows[0].line, "statuses", rows.len(), told.len())?;
     let mut pair = Pair::fresh();
-    play(&mut pair, &[Call::power_on(), two_points()], rows[0].line)?;
+    play(&mut pair, &[Call::power_on(), held_points(|_| {})], rows[0].line)?;
     for (meaning, call) in told {
         let Some(row) = rows.iter().find(|row| row.text("Meaning").is_ok_and(|text| text == meaning)) else {
             return wrong(rows[0].line, format!("no status '{meaning}'"));
         };
         let (_, packets) = play(&mut pair, &[call], row.line)?;
-        same(row.line, meaning, row.number("Status")?, read(&packets[0]).status.into())?;
+        let last = packets.iter().rfind(|packet| packet[0] == 62).map_or(-1, |packet| read(packet).status.into());
+        same(row.line, meaning, row.number("Status")?, last)?;
+    }
+    Ok(())
+}
+
+/// The two, the stop held, with another change.
+fn held_points(change: impl Fn(&mut Journey)) -> Call {
+    let mut journey = journey_of_two(true);
+    journey.points[0].held = true;
+    change(&mut journey);
+    load_of(journey)
+}
+
+/// What a load writes while a held stop is reached.
+fn check_holds(page: &Page) -> Checked<()> {
+    let first = |change: fn(&mut JourneyPoint)| held_points(move |journey| change(&mut journey.points[0]));
+    let loads = [
+        ("held", first(|_| {})),
+        ("held, and skipped by trackside", first(|point| point.skipped = true)),
+        ("held, in another country", held_points(|journey| journey.segments[0].0 = 18)),
+        ("a stop, not held", first(|point| point.held = false)),
+        ("skipped by trackside, not held", first(|point| (point.skipped, point.held) = (true, false))),
+        ("a passing point", first(|point| (point.stop, point.held) = (false, false))),
+        ("not there", held_points(|journey| drop(journey.points.remove(0)))),
+    ];
+    let rows = page.table("7. Timing points", "In the new journey")?;
+    same(rows[0].line, "journeys", rows.len(), loads.len())?;
+    for (row, (name, load)) in rows.iter().zip(loads) {
+        same(row.line, "in the new journey", row.text("In the new journey")?, name)?;
+        let mut pair = Pair::fresh();
+        let before = [Call::power_on(), held_points(|_| {}), Call::position(17, 500, 40_000, 0)];
+        play(&mut pair, &before, row.line)?;
+        let (_, packets) = play(&mut pair, &[load], row.line)?;
+        same(row.line, "packets", row.text("Packets")?, &numbers_of(&packets))?;
     }
     Ok(())
 }
@@ -157,18 +202,19 @@ fn check_loads(page: &Page) -> Checked<()> {
     Ok(())
 }
 
-/// The numbers of the places, put together, and the numbers that are explained, count up from 1.
+/// The numbers of the places, put together, count up from 1, with the last one behind 6; so do those that are explained.
 fn check_numbers(page: &Page) -> Checked<()> {
-    let mut last = 0;
+    let mut in_order = (1..=6).chain([HELD]).chain(7..HELD);
     for row in page.table("10. Numbers", "Place")? {
         for number in row.text("Numbers")?.split(' ') {
-            last += 1;
-            same(row.line, "number", number, &last.to_string())?;
-            let writes = if TURNED_DOWN.contains(&(last as u8)) { "packet 65" } else { "nothing" };
+            let next = in_order.next().unwrap_or(0);
+            same(row.line, "number", number, &next.to_string())?;
+            let writes = if TURNED_DOWN.contains(&next) { "packet 65" } else { "nothing" };
             same(row.line, "writes", row.text("Writes")?, writes)?;
         }
     }
-    same(1, "numbers", count_items(page, "## 10. Numbers", "- **")?, last)
+    same(1, "numbers not in the table", in_order.count(), 0)?;
+    same(1, "numbers", count_items(page, "## 10. Numbers", "- **")?, HELD.into())
 }
 
 /// Items that begin so count up from 1 without a gap; how many there are.
@@ -220,6 +266,7 @@ pub fn check(page: &Page, header: &str) -> Checked<usize> {
     check_reports(page)?;
     check_standings(page)?;
     check_creeps(page)?;
+    check_holds(page)?;
     check_statuses(page)?;
     check_loads(page)?;
     check_numbers(page)?;

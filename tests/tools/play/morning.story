@@ -1,4 +1,4 @@
-39 events. Below each, the unit's answer and the packets that it writes for the recorder.
+42 events. Below each, the unit's answer and the packets that it writes for the recorder.
 Distances are in cm, speeds in cm/s; AD is the ETCS mode automatic driving.
 
 line 37: power on
@@ -110,90 +110,111 @@ line 71: load Mixed Line
         65 profiles turned down: NID_C 17, NID_ATOTS 16384, date 0, seconds 0, counter 0, status 1
         [NID_C 17 NID_SP 500 offset 59980 speed 0 NID_OPERATIONAL 00012345]
 
-line 74: load Second Line
+line 83: load Held Line
     RE, AD requested; targeted: Shed
-    410011000001F40000EA4C0000000123450011002A23280000558C0300
-        65 journey taken: NID_C 17, NID_ATOTS 42, date 9000, seconds 21900, counter 3, status 0
+    410011000001F40000EA4C0000000123450011002A2328000055500300
+        65 journey taken: NID_C 17, NID_ATOTS 42, date 9000, seconds 21840, counter 3, status 0
         [NID_C 17 NID_SP 500 offset 59980 speed 0 NID_OPERATIONAL 00012345]
 
-line 75: position Depot 59980 speed 0
+line 84: position Depot 59980 speed 0
+    RE, AD requested; reached: Shed
+    3E0011000001F40000EA4C000000012345001100001B590905
+        62 Shed stopped: NID_C 17, NID_TP 7001, Q_EOJ_REACHED 1 (End of Journey ahead), alignment front, stopping data 5
+        [NID_C 17 NID_SP 500 offset 59980 speed 0 NID_OPERATIONAL 00012345]
+    3E0011000001F40000EA4C000000012345001100001B591900
+        62 Shed held: NID_C 17, NID_TP 7001, Q_EOJ_REACHED 1 (End of Journey ahead), alignment front, stopping data 0
+        [NID_C 17 NID_SP 500 offset 59980 speed 0 NID_OPERATIONAL 00012345]
+
+line 85: engage
+    refused by 20 (state): point Shed is reached, and the train is held there
+
+line 88: load Second Line
+    RE, AD requested; targeted: Shed
+    410011000001F40000EA4C0000000123450011002A23280000558C0400
+        65 journey taken: NID_C 17, NID_ATOTS 42, date 9000, seconds 21900, counter 4, status 0
+        [NID_C 17 NID_SP 500 offset 59980 speed 0 NID_OPERATIONAL 00012345]
+    3E0011000001F40000EA4C000000012345001100001B592100
+        62 Shed hold revoked: NID_C 17, NID_TP 7001, Q_EOJ_REACHED 1 (End of Journey ahead), alignment front, stopping data 0
+        [NID_C 17 NID_SP 500 offset 59980 speed 0 NID_OPERATIONAL 00012345]
+
+line 89: position Depot 59980 speed 0
     RE, AD requested; reached: Shed
     3E0011000001F40000EA4C000000012345001100001B590905
         62 Shed stopped: NID_C 17, NID_TP 7001, Q_EOJ_REACHED 1 (End of Journey ahead), alignment front, stopping data 5
         [NID_C 17 NID_SP 500 offset 59980 speed 0 NID_OPERATIONAL 00012345]
 
-line 78: engage
+line 92: engage
     RE, AD requested; reached: Shed
 
-line 79: mode AD
+line 93: mode AD
     EG (engaged), AD requested; reached: Shed
         EG: the driver may leave driving to the ATO, or take over by the lever at brake or by leaving AD
     440011000001F40000EA4C0000000123451FF5
         68 state EG: all nine conditions
         [NID_C 17 NID_SP 500 offset 59980 speed 0 NID_OPERATIONAL 00012345]
 
-line 80: position Depot 60500 speed 800
+line 94: position Depot 60500 speed 800
     EG, AD requested; passed: Shed; targeted: Bridge
     3E0011000001F40000EC54032000012345001100001B591100
         62 Shed departed: NID_C 17, NID_TP 7001, Q_EOJ_REACHED 1 (End of Journey ahead), alignment front, stopping data 0
         [NID_C 17 NID_SP 500 offset 60500 speed 800 NID_OPERATIONAL 00012345]
 
-line 81: position Depot 95000 speed 2500
+line 95: position Depot 95000 speed 2500
     EG, AD requested; passed: Bridge; targeted: Mill
     3E0011000001F40001731809C400012345001100001B5A0100
         62 Bridge passed: NID_C 17, NID_TP 7002, Q_EOJ_REACHED 1 (End of Journey ahead), alignment front, stopping data 0
         [NID_C 17 NID_SP 500 offset 95000 speed 2500 NID_OPERATIONAL 00012345]
 
-line 84: position Valley 61000 speed 2500
+line 98: position Valley 61000 speed 2500
     EG, AD requested; passed: Mill; targeted: Tunnel
     3E0011000001F50000EE4809C400012345001100001B5B0300
         62 Mill passed: NID_C 17, NID_TP 7003, Q_EOJ_REACHED 1 (End of Journey ahead), alignment middle, stopping data 0
         [NID_C 17 NID_SP 501 offset 61000 speed 2500 NID_OPERATIONAL 00012345]
 
-line 87: position Valley 100500 speed 2500
+line 101: position Valley 100500 speed 2500
     DE (disengaging), AD requested; targeted: Tunnel
         DE: the driver may take over by the lever at brake or by leaving AD
     440011000001F50001889409C40001234517F6
         68 state DE: lacking: 7 outside zones
         [NID_C 17 NID_SP 501 offset 100500 speed 2500 NID_OPERATIONAL 00012345]
 
-line 88: lever brake
+line 102: lever brake
     NA, AD not requested; targeted: Tunnel
     440011000001F50001889409C40001234517F2
         68 state NA: lacking: 7 outside zones
         [NID_C 17 NID_SP 501 offset 100500 speed 2500 NID_OPERATIONAL 00012345]
 
-line 89: position Valley 110000 speed 1000
+line 103: position Valley 110000 speed 1000
     AV, AD not requested; targeted: Tunnel
     440011000001F50001ADB003E8000123451FF3
         68 state AV: all nine conditions
         [NID_C 17 NID_SP 501 offset 110000 speed 1000 NID_OPERATIONAL 00012345]
 
-line 90: mode other
+line 104: mode other
     AV, AD not requested; targeted: Tunnel
 
-line 91: lever neutral
+line 105: lever neutral
     RE, AD requested; targeted: Tunnel
     440011000001F50001ADB003E8000123451FF4
         68 state RE: all nine conditions
         [NID_C 17 NID_SP 501 offset 110000 speed 1000 NID_OPERATIONAL 00012345]
 
-line 92: engage
+line 106: engage
     RE, AD requested; targeted: Tunnel
 
-line 93: mode AD
+line 107: mode AD
     EG, AD requested; targeted: Tunnel
     440011000001F50001ADB003E8000123451FF5
         68 state EG: all nine conditions
         [NID_C 17 NID_SP 501 offset 110000 speed 1000 NID_OPERATIONAL 00012345]
 
-line 96: skip Chapel
+line 110: skip Chapel
     EG, AD requested; targeted: Tunnel
     3E0011000001F50001ADB003E800012345001100001B5D2900
         62 Chapel skipped by the driver: NID_C 17, NID_TP 7005, Q_EOJ_REACHED 1 (End of Journey ahead), alignment front, stopping data 0
         [NID_C 17 NID_SP 501 offset 110000 speed 1000 NID_OPERATIONAL 00012345]
 
-line 97: position Valley 160000 speed 2500
+line 111: position Valley 160000 speed 2500
     EG, AD requested; passed: Tunnel, Chapel; targeted: Quay
     3E0011000001F50002710009C400012345001100001B5C0100
         62 Tunnel passed: NID_C 17, NID_TP 7004, Q_EOJ_REACHED 1 (End of Journey ahead), alignment front, stopping data 0
@@ -202,10 +223,10 @@ line 97: position Valley 160000 speed 2500
         62 Chapel passed: NID_C 17, NID_TP 7005, Q_EOJ_REACHED 1 (End of Journey ahead), alignment front, stopping data 0
         [NID_C 17 NID_SP 501 offset 160000 speed 2500 NID_OPERATIONAL 00012345]
 
-line 100: position Harbour 60000 speed 1200
+line 114: position Harbour 60000 speed 1200
     EG, AD requested; targeted: Quay
 
-line 101: position Harbour 90000 speed 0
+line 115: position Harbour 90000 speed 0
     NA, AD not requested; reached: Quay
     3E0011000001F600015F90000000012345001100001B5E0C0C
         62 Quay stopped: NID_C 17, NID_TP 7006, Q_EOJ_REACHED 0 (End of Journey reached or passed), alignment rear, stopping data 12
@@ -214,14 +235,14 @@ line 101: position Harbour 90000 speed 0
         68 state NA: lacking: 2 End of Journey not reached
         [NID_C 17 NID_SP 502 offset 90000 speed 0 NID_OPERATIONAL 00012345]
 
-line 102: mode other
+line 116: mode other
     NA, AD not requested; reached: Quay
 
-line 103: power off
+line 117: power off
     NP (no power), AD not requested
         NP: the driver may drive by hand; the unit takes no part
     4400000000000000FFFFFF0000FFFFFFFF0800
         68 state NP: lacking: 0 ETCS conditions, 1 no emergency brake, 2 End of Journey not reached, 3 last point not passed, 4 profiles to the target, 5 no inconsistency, 6 located in the journey, 8 data valid
         [NID_C 0 NID_SP 0 offset undefined speed 0 NID_OPERATIONAL FFFFFFFF]
 
-38 events accepted, 1 refused; the independent model answers the same
+40 events accepted, 2 refused; the independent model answers the same

@@ -1,4 +1,4 @@
-79 events. Below each, the unit's answer and the packets that it writes for the recorder.
+90 events. Below each, the unit's answer and the packets that it writes for the recorder.
 Distances are in cm, speeds in cm/s; AD is the ETCS mode automatic driving.
 
 line 126: length 20000
@@ -375,30 +375,95 @@ line 201: load Day Twice
         65 profiles turned down: NID_C 1024, NID_ATOTS 16384, date 0, seconds 0, counter 0, status 1
         [NID_C 17 NID_SP 500 offset undefined speed 100 NID_OPERATIONAL FFFFFFFF]
 
-line 202: fault
-    FA (failure), AD not requested; no point left
+line 210: position Depot 59900 speed 0
+    NA, AD not requested; no point left
+    440011000001F40000E9FC0000FFFFFFFF0D02
+        68 state NA: lacking: 0 ETCS conditions, 1 no emergency brake, 2 End of Journey not reached, 3 last point not passed, 5 no inconsistency, 8 data valid
+        [NID_C 17 NID_SP 500 offset 59900 speed 0 NID_OPERATIONAL FFFFFFFF]
+
+line 211: load Held Line
+    NA, AD not requested; targeted: Shed
+    410011000001F40000E9FC0000FFFFFFFF001140002328000054600200
+        65 journey taken: NID_C 17, NID_ATOTS 16384, date 9000, seconds 21600, counter 2, status 0
+        [NID_C 17 NID_SP 500 offset 59900 speed 0 NID_OPERATIONAL FFFFFFFF]
+    440011000001F40000E9FC0000FFFFFFFF0DC2
+        68 state NA: lacking: 0 ETCS conditions, 1 no emergency brake, 5 no inconsistency, 8 data valid
+        [NID_C 17 NID_SP 500 offset 59900 speed 0 NID_OPERATIONAL FFFFFFFF]
+
+line 212: reports all
+    RE (ready), AD requested; targeted: Shed
+        RE: the driver may drive by hand, or press engage
+    440011000001F40000E9FC0000FFFFFFFF1FF4
+        68 state RE: all nine conditions
+        [NID_C 17 NID_SP 500 offset 59900 speed 0 NID_OPERATIONAL FFFFFFFF]
+
+line 213: engage
+    RE, AD requested; targeted: Shed
+
+line 214: position Depot 59900 speed 0
+    RE, AD requested; reached: Shed
+    3E0011000001F40000E9FC0000FFFFFFFF001100001B590900
+        62 Shed stopped: NID_C 17, NID_TP 7001, Q_EOJ_REACHED 1 (End of Journey ahead), alignment front, stopping data 0
+        [NID_C 17 NID_SP 500 offset 59900 speed 0 NID_OPERATIONAL FFFFFFFF]
+    3E0011000001F40000E9FC0000FFFFFFFF001100001B591900
+        62 Shed held: NID_C 17, NID_TP 7001, Q_EOJ_REACHED 1 (End of Journey ahead), alignment front, stopping data 0
+        [NID_C 17 NID_SP 500 offset 59900 speed 0 NID_OPERATIONAL FFFFFFFF]
+
+line 215: engage
+    refused by 20 (state): point Shed is reached, and the train is held there
+
+line 216: load Held Twice
+    refused by 8 (book): the segment of record Depot stands twice in the book
+    410011000001F40000E9FC0000FFFFFFFF001140000000000000000001
+        65 profiles turned down: NID_C 17, NID_ATOTS 16384, date 0, seconds 0, counter 0, status 1
+        [NID_C 17 NID_SP 500 offset 59900 speed 0 NID_OPERATIONAL FFFFFFFF]
+
+line 217: engage
+    refused by 20 (state): point Shed is reached, and the train is held there
+
+line 218: mode AD
+    EG (engaged), AD requested; reached: Shed
+        EG: the driver may leave driving to the ATO, or take over by the lever at brake or by leaving AD
+    440011000001F40000E9FC0000FFFFFFFF1FF5
+        68 state EG: all nine conditions
+        [NID_C 17 NID_SP 500 offset 59900 speed 0 NID_OPERATIONAL FFFFFFFF]
+
+line 219: engage
+    refused by 6 (state): an engage press is taken in RE alone, the state is EG
+
+line 220: load Day Line
+    EG, AD requested; targeted: Shed
+    410011000001F40000E9FC0000FFFFFFFF001140002328000054600100
+        65 journey taken: NID_C 17, NID_ATOTS 16384, date 9000, seconds 21600, counter 1, status 0
+        [NID_C 17 NID_SP 500 offset 59900 speed 0 NID_OPERATIONAL FFFFFFFF]
+    3E0011000001F40000E9FC0000FFFFFFFF001100001B592100
+        62 Shed hold revoked: NID_C 17, NID_TP 7001, Q_EOJ_REACHED 1 (End of Journey ahead), alignment front, stopping data 0
+        [NID_C 17 NID_SP 500 offset 59900 speed 0 NID_OPERATIONAL FFFFFFFF]
+
+line 221: fault
+    FA (failure), AD not requested; targeted: Shed
         FA: the driver may drive by hand; only power off is left to the unit
-    440011000001F400FFFFFF0064FFFFFFFF0907
-        68 state FA: lacking: 0 ETCS conditions, 1 no emergency brake, 2 End of Journey not reached, 3 last point not passed, 5 no inconsistency, 6 located in the journey, 8 data valid
-        [NID_C 17 NID_SP 500 offset undefined speed 100 NID_OPERATIONAL FFFFFFFF]
+    440011000001F40000E9FC0000FFFFFFFF1FF7
+        68 state FA: all nine conditions
+        [NID_C 17 NID_SP 500 offset 59900 speed 0 NID_OPERATIONAL FFFFFFFF]
 
-line 203: load Day B1
+line 222: load Day B1
     refused by 5 (power): there is a fault: only power off is taken
 
-line 204: traction 0
+line 223: traction 0
     refused by 5 (power): there is a fault: only power off is taken
 
-line 205: power on
+line 224: power on
     refused by 4 (power): power is on already, the state is FA
 
-line 206: power off
+line 225: power off
     NP (no power), AD not requested
         NP: the driver may drive by hand; the unit takes no part
     4400000000000000FFFFFF0000FFFFFFFF0800
         68 state NP: lacking: 0 ETCS conditions, 1 no emergency brake, 2 End of Journey not reached, 3 last point not passed, 4 profiles to the target, 5 no inconsistency, 6 located in the journey, 8 data valid
         [NID_C 0 NID_SP 0 offset undefined speed 0 NID_OPERATIONAL FFFFFFFF]
 
-line 207: power off
+line 226: power off
     refused by 3 (power): there is no power: only power on is taken
 
-12 events accepted, 67 refused; the independent model answers the same
+19 events accepted, 71 refused; the independent model answers the same

@@ -1,7 +1,7 @@
 -- Each exit has gone through the rows before it.
-use Rattle.std.proofs.Common.{◌≡◌, ◌∙◌, sym, refl, ap, ap₂, subst, rules}
+use Rattle.std.proofs.Common.{◌≡◌, ◌∙◌, sym, refl, ap, subst, rules}
 use Rattle.wire.specs.Judged.Judged.{accept}
-use Rattle.state_codes.specs.Numbers.{state_rows}
+use Rattle.hold.specs.Hold.{rows_of_state}
 use Rattle.event.specs.Kinds.{off, report, skip, other, kind_of, role_of}
 use Rattle.call.specs.Call as model
 use Rattle.effects.specs.View.{effect_view, Beside}
@@ -18,7 +18,7 @@ occurs c =
     record {
       engine = c.new-o.ensures.engine;
       read = ap accept event ∙ c.in_ok-v.ensures;
-      allowed = c.in_ok-state_rows.ensures ∙ ap₂ state_rows c.from.ensures (c.kind.ensures ∙ ap kind_of (sym event));
+      allowed = c.in_ok-rows_of_state.ensures ∙ ap (rows_of_state c.args.e.now) (c.kind.ensures ∙ ap kind_of (sym event));
     }
 
 pub returns-in_err-v : goal.returns-in_err-v
@@ -27,12 +27,12 @@ returns-in_err-v c =
     let k = call a.event.now a.journey.now a.book.now a.out.now in
     refused_by a.e.now k c.from_residual.result c.in_err-v.field-0.0 (search rules) (unread a.e.now k _ c.in_err-v.ensures)
 
-pub returns-in_err-state_rows : goal.returns-in_err-state_rows
-returns-in_err-state_rows c =
+pub returns-in_err-rows_of_state : goal.returns-in_err-rows_of_state
+returns-in_err-rows_of_state c =
     let a = c.args in
     let k = call a.event.now a.journey.now a.book.now a.out.now in
-    refused_by a.e.now k c.from_residual-in_err-state_rows.result c.in_err-state_rows.field-0.0 (search rules)
-    (not_allowed a.e.now k c.in_ok-v.v c.in_ok-v.ensures _ (c.in_err-state_rows.ensures ∙ ap₂ state_rows c.from.ensures c.kind.ensures))
+    refused_by a.e.now k c.from_residual-in_err-rows_of_state.result c.in_err-rows_of_state.field-0.0 (search rules)
+    (not_allowed a.e.now k c.in_ok-v.v c.in_ok-v.ensures _ (c.in_err-rows_of_state.ensures ∙ ap (rows_of_state a.e.now) c.kind.ensures))
 
 pub returns-in_err-f-in-Report : goal.returns-in_err-f-in-Report
 returns-in_err-f-in-Report c =
@@ -54,7 +54,7 @@ returns-in_err-f-in-Skip c =
 pub returns-in-Load : goal.returns-in-Load
 returns-in-Load c =
     let event = c.new-o.ensures.event in
-    c.load.ensures c.args.event.now c.in_ok-v.ensures (c.in_ok-state_rows.ensures ∙ ap₂ state_rows c.from.ensures c.kind.ensures) (c.in-Load.ensures.role ∙ ap role_of event)
+    c.load.ensures c.args.event.now c.in_ok-v.ensures (c.in_ok-rows_of_state.ensures ∙ ap (rows_of_state c.args.e.now) c.kind.ensures) (c.in-Load.ensures.role ∙ ap role_of event)
 
 -- so is that of another event
 judged : (c : After-judge) → Occurs c.args.e.now (call c.args.event.now c.args.journey.now c.args.book.now c.args.out.now) c.new-o.result
