@@ -112,7 +112,7 @@
 #define HOLLWERN_POINT_STOP 16
 #define HOLLWERN_POINT_SKIPPED 32 /* by trackside; with STOP only */
 #define HOLLWERN_POINT_END 64     /* End of Journey */
-#define HOLLWERN_POINT_HELD 128   /* by trackside; with STOP only */
+#define HOLLWERN_POINT_HELD 128   /* by the dispatcher; with STOP only */
 
 /* A journey's points and packet 62: what of the train counts at the point. */
 #define HOLLWERN_ALIGNMENT_FRONT 0

@@ -1,68 +1,36 @@
 -- The held stop that is reached, by a progress and by the points.
-use Prim.Native.Nat.{ℕ, zero, suc, ◌<◌, ◌≤◌}
+use Prim.Native.Nat.{ℕ, ◌<◌}
 use mathlib.Core.Path.{◌≡◌, refl, sym, ◌∙◌, ap}
-use mathlib.Core.Logic.{◌⊎◌, inl, inr}
 use mathlib.Core.List.{List, [], ◌∷◌}
 use mathlib.Core.Bool.{Bool, true, false, ◌&&◌, false≢true}
 use native.Mathlib.Omega.{arith}
 use lib.Dec.{eqb}
-use lib.ListN.{length, get_or, take, get_or-eq_default}
+use lib.ListN.{length, get_or, take}
 use borrow.Author.Tests.{eq-eqb, eqb-true}
-use Rattle.std.proofs.lemmas.Bool.{cases_lt}
 use Rattle.std.proofs.lemmas.List.{get_or-take, length-take}
+use Rattle.std.proofs.lemmas.List.Elements.{All-from_get_or, recursion_from_All}
+use Rattle.std.proofs.lemmas.List.Folds.{list_any_none}
 use Rattle.std.specs.Prelude.{Option, Some, None, is_some, option_map}
 use Rattle.std.specs.List.{find}
-use Rattle.wire.specs.Lists.{any, tabulate}
-use Rattle.wire.proofs.ListLaws.{and_left, and_right, or-false}
+use Rattle.wire.specs.Lists.{All}
+use Rattle.wire.proofs.ListLaws.{and_left, and_right, any_false, all-at, tabulate-at, tabulate-length}
 use Rattle.engine_value.specs.Engine.{Route, blank_point}
 use Rattle.engine_value.specs.declared.Point.{Point}
 use Rattle.engine_value.specs.declared.Progress.{Progress}
 use Rattle.position.specs.Position.{point, point_count, indices}
 use Rattle.position.specs.Standing.{standing, is_reached}
 use Rattle.position.specs.declared.Standing.{Standing}
-use Rattle.position.specs.declared.Standing.TheVariants.{Unused, Targeted, Reached, Passed}
-use Rattle.position.proofs.Laws.{standing-at, reached-only}
+use Rattle.position.specs.declared.Standing.TheVariants.{Reached}
+use Rattle.position.proofs.Laws.{standing-at, reached_is, reached-only}
+use Rattle.position.proofs.Sentences.{found_hit, hit_found, some_found}
 use Rattle.hold.specs.Hold.{held_stop, keeps_hold}
 
--- ---- a search over f 0, f 1 and so on
-
-module _ (test : ℕ → Bool) where
-  found_none : (n : ℕ) (f : ℕ → ℕ) → ((i : ℕ) → i < n → test (f i) ≡ false) → find test (tabulate n f) ≡ None
-  found_none zero f e = refl
-  found_none (suc n) f e = rw (e 0 (omega arith)) (found_none n (λ k. f (suc k)) (λ i l. e (suc i) (omega arith)))
-
-  found_at_lem : (n : ℕ) (f : ℕ → ℕ) (k : ℕ) → k < n → test (f k) ≡ true → ((i : ℕ) → i < k → test (f i) ≡ false) → find test (tabulate n f) ≡ Some (f k)
-  found_at_lem zero f k l h e = absurd (omega arith)
-  found_at_lem (suc n) f zero l h e = rw h refl
-  found_at_lem (suc n) f (suc k) l h e =
-      rw (e 0 (omega arith)) (found_at_lem n (λ k. f (suc k)) k (omega arith) h (λ i m. e (suc i) (omega arith)))
-
-  found_there : (n : ℕ) (f : ℕ → ℕ) (x : ℕ) → find test (tabulate n f) ≡ Some x → (k : ℕ) × (k < n) × (x ≡ f k) × (test (f k) ≡ true)
-  found_there zero f x e = cc
-  found_there (suc n) f x e = go (test (f 0)) refl (found_there n (λ k. f (suc k)) x)
-    where
-      go : (b : Bool) → test (f 0) ≡ b
-          → (find test (tabulate n (λ k. f (suc k))) ≡ Some x → (k : ℕ) × (k < n) × (x ≡ f (suc k)) × (test (f (suc k)) ≡ true))
-          → (k : ℕ) × (k < suc n) × (x ≡ f k) × (test (f k) ≡ true)
-      go true q ih = let z : Some (f 0) ≡ Some x = rw q at e in (0, omega arith, cc, q)
-      go false q ih = let (k, l, s, t) = ih (rw q at e) in (suc k, omega arith, s, t)
-
-found_same : (s t : ℕ → Bool) (n : ℕ) (f : ℕ → ℕ) → ((i : ℕ) → i < n → s (f i) ≡ t (f i)) → find s (tabulate n f) ≡ find t (tabulate n f)
-found_same s t zero f e = refl
-found_same s t (suc n) f e = go (t (f 0)) refl (found_same s t n (λ k. f (suc k)) (λ i l. e (suc i) (omega arith)))
-  where
-    go : (b : Bool) → t (f 0) ≡ b → find s (tabulate n (λ k. f (suc k))) ≡ find t (tabulate n (λ k. f (suc k)))
-        → find s (tabulate (suc n) f) ≡ find t (tabulate (suc n) f)
-    go true q ih = rw (e 0 (omega arith), q) refl
-    go false q ih = rw (e 0 (omega arith), q) ih
+-- two tests that agree on each element find the same
+found_same : (f g : ℕ → Bool) (l : List ℕ) → All (λ k. f k ≡ g k) l → find f l ≡ find g l
+found_same f g [] a = refl
+found_same f g (x ∷ l) a = rw (a.0, found_same f g l a.1)
 
 -- ---- the held stop
-
-reached_is : (s : Standing) → is_reached s ≡ true → s ≡ Reached
-reached_is Unused e = absurd (false≢true e)
-reached_is Targeted e = absurd (false≢true e)
-reached_is Reached e = refl
-reached_is Passed e = absurd (false≢true e)
 
 module _ (j : Route) where
   abbrev pub marked : ℕ → Bool
@@ -71,35 +39,11 @@ module _ (j : Route) where
   abbrev test : (ℕ → Standing) → ℕ → Bool
   test s k = is_reached (s k) && marked k
 
-  not_test : (p : Progress) (k : ℕ) → (k ≡ p.next → p.reached ≡ true → marked k ≡ true → ⊥) → test (standing p) k ≡ false
-  not_test p k no_hit = go (test (standing p) k) refl
-    where
-      go : (b : Bool) → test (standing p) k ≡ b → test (standing p) k ≡ false
-      go true e =
-          let h = reached-only p k (reached_is (standing p k) (and_left (is_reached (standing p k)) _ e)) in
-          absurd (no_hit h.0 h.1 (and_right (is_reached (standing p k)) _ e))
-      go false e = e
+  index_at : (k : ℕ) → k < point_count j → get_or (indices j) k 0 ≡ k
+  index_at k l = tabulate-at (point_count j) (λ i. i) k 0 l
 
-  -- by a progress: that of its point, where it is reached, one of the journey's, and held
-  pub held_there : (p : Progress) → p.reached ≡ true → p.next < point_count j → marked p.next ≡ true → held_stop j (standing p) ≡ Some (point j p.next)
-  unfolding held_stop
-  held_there p r l h =
-      ap (option_map (point j))
-      (found_at_lem (test (standing p)) (point_count j) (λ k. k) p.next l (rw (standing-at p r, h) refl)
-      (λ i m. not_test p i (λ e r h. omega arith)))
-
-  pub none_held : (p : Progress) → (p.reached ≡ true → p.next < point_count j → marked p.next ≡ true → ⊥) → held_stop j (standing p) ≡ None
-  unfolding held_stop
-  none_held p no_hit =
-      ap (option_map (point j))
-      (found_none (test (standing p)) (point_count j) (λ k. k) (λ i l. not_test p i (λ e r h. no_hit r (omega arith) (rw e at h))))
-
-  -- it goes by the points of the journey alone
-  pub held_same : (s t : ℕ → Standing) → ((k : ℕ) → k < point_count j → s k ≡ t k) → held_stop j s ≡ held_stop j t
-  unfolding held_stop
-  held_same s t e =
-      ap (option_map (point j))
-      (found_same (test s) (test t) (point_count j) (λ k. k) (λ i l. ap (λ x. is_reached x && marked i) (e i l)))
+  indices_are : length (indices j) ≡ point_count j
+  indices_are = tabulate-length (point_count j) (λ i. i)
 
   -- it is one of them, reached and held
   pub held_is : (s : ℕ → Standing) (p : Point) → held_stop j s ≡ Some p
@@ -111,39 +55,53 @@ module _ (j : Route) where
           → (k : ℕ) × (k < point_count j) × (p ≡ point j k) × (s k ≡ Reached) × (marked k ≡ true)
       go None q e = cc
       go (Some x) q e =
-          let (k, l, z, t) = found_there (test s) (point_count j) (λ k. k) x q in
+          let (k, h) = found_hit (test s) 0 (indices j) (ap is_some q) in
+          let l : k < point_count j = omega (arith, indices_are, h.there) in
+          let z : x ≡ k = let w : Some x ≡ Some (get_or (indices j) k 0) = sym q ∙ hit_found (test s) 0 (indices j) k h in cc (index_at k l) in
+          let t : test s k ≡ true = rw (index_at k l) at h.holds in
           let w : point j x ≡ p = cc in
           (k, l, sym w ∙ ap (point j) z, reached_is (s k) (and_left (is_reached (s k)) _ t), and_right (is_reached (s k)) _ t)
 
   -- there is one where any is so
   pub held_some : (s : ℕ → Standing) (k : ℕ) → k < point_count j → s k ≡ Reached → marked k ≡ true → is_some (held_stop j s) ≡ true
   unfolding held_stop
-  held_some s k l r h = go (find (test s) (indices j)) refl
+  held_some s k l r h = go (find (test s) (indices j)) (some_found (test s) 0 (indices j) k (omega (arith, indices_are)) (rw (index_at k l, r, h) refl))
     where
-      none_found : (n : ℕ) (f : ℕ → ℕ) (i : ℕ) → i < n → test s (f i) ≡ true → find (test s) (tabulate n f) ≡ None → ⊥
-      none_found zero f i m t e = omega arith
-      none_found (suc n) f i m t e = by i m t (test s (f 0)) refl (none_found n (λ k. f (suc k)))
-        where
-          by : (i : ℕ) → i < suc n → test s (f i) ≡ true → (b : Bool) → test s (f 0) ≡ b
-              → ((i : ℕ) → i < n → test s (f (suc i)) ≡ true → find (test s) (tabulate n (λ k. f (suc k))) ≡ None → ⊥) → ⊥
-          by i m t true q ih = let z : Some (f 0) ≡ None = rw q at e in cc
-          by zero m t false q ih = false≢true (sym q ∙ t)
-          by (suc i) m t false q ih = ih i (omega arith) t (rw q at e)
-
-      go : (o : Option ℕ) → find (test s) (indices j) ≡ o → is_some (option_map (point j) o) ≡ true
+      go : (o : Option ℕ) → is_some o ≡ true → is_some (option_map (point j) o) ≡ true
+      go None e = e
       go (Some x) e = refl
-      go None e = absurd (none_found (point_count j) (λ k. k) k l (rw (r, h) refl) e)
+
+  -- by a progress: that of its point, where it is reached, one of the journey's, and held
+  pub held_there : (p : Progress) → p.reached ≡ true → p.next < point_count j → marked p.next ≡ true → held_stop j (standing p) ≡ Some (point j p.next)
+  held_there p r l h = go (held_stop j (standing p)) refl (held_some (standing p) p.next l (standing-at p r) h)
+    where
+      go : (o : Option Point) → held_stop j (standing p) ≡ o → is_some o ≡ true → o ≡ Some (point j p.next)
+      go None q e = absurd (false≢true e)
+      go (Some x) q e = let (k, m, w, s, t) = held_is (standing p) x q in ap Some (w ∙ ap (point j) (reached-only p k s).0)
+
+  pub none_held : (p : Progress) → (p.reached ≡ true → p.next < point_count j → marked p.next ≡ true → ⊥) → held_stop j (standing p) ≡ None
+  none_held p no_hit = go (held_stop j (standing p)) refl
+    where
+      go : (o : Option Point) → held_stop j (standing p) ≡ o → o ≡ None
+      go None q = refl
+      go (Some x) q =
+          let (k, l, w, s, m) = held_is (standing p) x q in
+          let h = reached-only p k s in
+          absurd (no_hit h.1 (omega (arith, h.0, l)) (rw h.0 at m))
+
+  -- it goes by the points of the journey alone
+  pub held_same : (s t : ℕ → Standing) → ((k : ℕ) → k < point_count j → s k ≡ t k) → held_stop j s ≡ held_stop j t
+  unfolding held_stop
+  held_same s t e =
+      ap (option_map (point j)) (found_same (test s) (test t) (indices j)
+      (recursion_from_All same (indices j) (All-from_get_or same (indices j) 0 (λ i m.
+      let l : i < point_count j = omega (arith, indices_are) in
+      rw (index_at i l) (ap (λ x. is_reached x && marked i) (e i l))))))
+    where
+      same : ℕ → Type 0
+      same k = test s k ≡ test t k
 
 -- ---- the hold that a journey keeps
-
-none_so : (f : Point → Bool) (l : List Point) → ((i : ℕ) → i < length l → f (get_or l i blank_point) ≡ false) → any f l ≡ false
-none_so f [] e = refl
-none_so f (x ∷ l) e = rw (e 0 (omega arith)) (none_so f l (λ i m. e (suc i) (omega arith)))
-
-so_none : (f : Point → Bool) (l : List Point) → any f l ≡ false → (i : ℕ) → i < length l → f (get_or l i blank_point) ≡ false
-so_none f [] e i m = absurd (omega arith)
-so_none f (x ∷ l) e zero m = (or-false (f x) (any f l) e).0
-so_none f (x ∷ l) e (suc i) m = so_none f l (or-false (f x) (any f l) e).1 i (omega arith)
 
 module _ (j : Route) (t : ℕ) where
   abbrev keeping : Point → Bool
@@ -154,23 +112,27 @@ module _ (j : Route) (t : ℕ) where
 
   -- "has its NID_TP unheld or lacks it"
   pub not_kept : NotKept → keeps_hold j t ≡ false
-  not_kept n = none_so keeping (take (point_count j) j.points) (λ i m.
+  not_kept n = list_any_none keeping (take (point_count j) j.points)
+      (All-from_get_or (λ p. keeping p ≡ false) (take (point_count j) j.points) blank_point (λ i m.
       let l : i < point_count j = omega (arith, length-take (point_count j) j.points) in
-      rw (get_or-take (point_count j) j.points i blank_point l) (go i l (eqb (point j i).nidtp t) refl))
+      rw (get_or-take (point_count j) j.points i blank_point l) (go i l (eqb (point j i).nidtp t) refl)))
     where
       go : (i : ℕ) → i < point_count j → (b : Bool) → eqb (point j i).nidtp t ≡ b → keeping (point j i) ≡ false
       go i l true q = rw (q, n i l (eqb-true _ _ q)) refl
       go i l false q = rw q refl
 
+  blank_not : keeping blank_point ≡ false
+  blank_not = go (eqb 0 t)
+    where
+      go : (b : Bool) → (b && false) ≡ false
+      go true = refl
+      go false = refl
+
   pub kept_not : keeps_hold j t ≡ false → NotKept
-  kept_not e i l q = there (cases_lt i (length j.points))
+  kept_not e i l q =
+      go (point j i).held refl (rw (get_or-take (point_count j) j.points i blank_point l)
+      at (all-at (λ p. keeping p ≡ false) blank_point blank_not (take (point_count j) j.points) i (any_false keeping _ e)))
     where
       go : (b : Bool) → (point j i).held ≡ b → keeping (point j i) ≡ false → b ≡ false
       go true h k = absurd (false≢true (sym k ∙ rw (eq-eqb _ _ q, h) refl))
       go false h k = refl
-
-      there : (i < length j.points) ⊎ (length j.points ≤ i) → (point j i).held ≡ false
-      there (inl m) =
-          let k : i < length (take (point_count j) j.points) = omega (arith, length-take (point_count j) j.points) in
-          go (point j i).held refl (rw (get_or-take (point_count j) j.points i blank_point l) at (so_none keeping (take (point_count j) j.points) e i k))
-      there (inr m) = rw (get_or-eq_default j.points blank_point m) refl

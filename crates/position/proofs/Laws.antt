@@ -1,7 +1,7 @@
 -- Where a point stands, by a progress; a stop that is found is a point of the journey.
 use Prim.Native.Nat.{ℕ, ◌<◌}
 use mathlib.Core.Path.{◌≡◌, refl}
-use mathlib.Core.Bool.{Bool, true, false}
+use mathlib.Core.Bool.{Bool, true, false, false≢true}
 use native.Mathlib.Omega.{arith}
 use lib.Dec.{eqb, ltb}
 use borrow.Author.Tests.{eq-eqb, ne_eqb, lt-ltb, le-ltb, eqb-true}
@@ -10,9 +10,10 @@ use Rattle.std.proofs.lemmas.List.{length-take}
 use Rattle.std.proofs.lemmas.List.Quantifiers.{position-Some}
 use Rattle.engine_value.specs.Engine.{Route, progress, blank_point}
 use Rattle.engine_value.specs.declared.Progress.{Progress}
+use Rattle.position.specs.declared.Standing.{Standing}
 use Rattle.position.specs.declared.Standing.TheVariants.{Unused, Targeted, Reached, Passed}
 use Rattle.position.specs.Position.{point_count}
-use Rattle.position.specs.Standing.{standing}
+use Rattle.position.specs.Standing.{standing, is_reached}
 use Rattle.position.specs.Skips.{is_stop, stop_named}
 
 pub stop_below : (j : Route) (t k : ℕ) → stop_named j t ≡ Some k → k < point_count j
@@ -35,6 +36,12 @@ standing-reached k = rw (le-ltb k k (omega arith), eq-eqb k k refl)
 
 pub standing-targeted : (k : ℕ) → standing (progress k false) k ≡ Targeted
 standing-targeted k = rw (le-ltb k k (omega arith), eq-eqb k k refl)
+
+pub reached_is : (s : Standing) → is_reached s ≡ true → s ≡ Reached
+reached_is Unused e = absurd (false≢true e)
+reached_is Targeted e = absurd (false≢true e)
+reached_is Reached e = refl
+reached_is Passed e = absurd (false≢true e)
 
 pub reached-only : (p : Progress) (k : ℕ) → standing p k ≡ Reached → (k ≡ p.next) × (p.reached ≡ true)
 reached-only p k e = go _ refl _ refl _ refl

@@ -40,15 +40,23 @@ module _ {X : Type 0} (f : X → Bool) (d : X) (l : List X) where
   place_hit : position_or_len f l < length l → Hit (position_or_len f l)
   place_hit h = record { there = h; holds = passes_at_first f l d h; none_before = λ i q. fails_before_first f l i d q }
 
-  hit_found : (k : ℕ) → Hit k → find f l ≡ Some (get_or l k d)
+  pub hit_found : (k : ℕ) → Hit k → find f l ≡ Some (get_or l k d)
   hit_found k h = find_at f l ∙ ap (slice_get l) (hit_place k h) ∙ slice_get-get_or l k d h.there
 
-  found_hit : is_some (find f l) ≡ true → (k : ℕ) × Hit k
+  pub found_hit : is_some (find f l) ≡ true → (k : ℕ) × Hit k
   found_hit e = go (cases_lt (position_or_len f l) (length l))
     where
       go : (position_or_len f l < length l) ⊎ (length l ≤ position_or_len f l) → (k : ℕ) × Hit k
       go (inl h) = (position_or_len f l, place_hit h)
       go (inr h) = absurd (false≢true (sym (ap is_some (find_at f l ∙ slice_get_past l _ h)) ∙ e))
+
+  -- where any passes
+  pub some_found : (k : ℕ) → k < length l → f (get_or l k d) ≡ true → is_some (find f l) ≡ true
+  some_found k q t = go (cases_lt (position_or_len f l) (length l))
+    where
+      go : (position_or_len f l < length l) ⊎ (length l ≤ position_or_len f l) → is_some (find f l) ≡ true
+      go (inl h) = ap is_some (hit_found (position_or_len f l) (place_hit h))
+      go (inr h) = absurd (false≢true (sym (fails_before_first f l k d (omega arith)) ∙ t))
 
 -- ---- the position
 

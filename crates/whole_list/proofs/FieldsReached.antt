@@ -9,6 +9,7 @@ use Rattle.wire.proofs.ListLaws.{and_left, and_right}
 use Rattle.position.specs.Standing.{is_reached}
 use Rattle.position.specs.declared.Standing.{Standing}
 use Rattle.position.specs.declared.Standing.TheVariants.{Unused, Targeted, Reached, Passed}
+use Rattle.position.proofs.Laws.{reached_is}
 use Rattle.whole_list.specs.Rules.{some_below}
 
 pub same_bool_lem : (a b : Bool) → (a ≡ true → b ≡ true) → (b ≡ true → a ≡ true) → a ≡ b
@@ -38,12 +39,6 @@ some_one (suc n) f k l e = go (eq-or-lt_of_le (le_of_suc-le-suc l)) (λ q. some_
     go (inl q) r = rw (← q, e)
     go (inr q) r = rw (r q) (or_true (f n))
 
-reached_so : (s : Standing) → is_reached s ≡ true → s ≡ Reached
-reached_so Unused e = absurd (false≢true e)
-reached_so Targeted e = absurd (false≢true e)
-reached_so Reached e = refl
-reached_so Passed e = absurd (false≢true e)
-
 not-reached : (s : Standing) → (s ≡ Reached → ⊥) → not (is_reached s) ≡ true
 not-reached Unused f = refl
 not-reached Targeted f = refl
@@ -58,7 +53,7 @@ newly n after before = (there, back)
     there : some_below n (λ k. is_reached (after k) && not (is_reached (before k))) ≡ true → (k : ℕ) × (k < n) × (after k ≡ Reached) × (before k ≡ Reached → ⊥)
     there e =
         let (k, l, t) = some_witness n (λ k. is_reached (after k) && not (is_reached (before k))) e in
-        (k, l, reached_so (after k) (and_left (is_reached (after k)) _ t), λ q. false≢true (sym (ap (λ s. not (is_reached s)) q) ∙ and_right (is_reached (after k)) _ t))
+        (k, l, reached_is (after k) (and_left (is_reached (after k)) _ t), λ q. false≢true (sym (ap (λ s. not (is_reached s)) q) ∙ and_right (is_reached (after k)) _ t))
 
     back : (k : ℕ) × (k < n) × (after k ≡ Reached) × (before k ≡ Reached → ⊥) → some_below n (λ k. is_reached (after k) && not (is_reached (before k))) ≡ true
     back (k, l, e, f) =
