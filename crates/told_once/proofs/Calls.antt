@@ -24,6 +24,7 @@ use Rattle.whole_list.proofs.Recorded.{memory_read}
 use Rattle.whole_list.proofs.Fields.{progress_run, engine_of, in-range}
 use Rattle.whole_list.proofs.FieldsStep.{run_kept, route_kept, progress_new}
 use Rattle.whole_list.proofs.WholeList.{outcome_if, step_by_rules, kept}
+use Rattle.whole_list.specs.Recorded.{timing_points}
 use Rattle.told_once.specs.Recording.{Told, goes_on, goes_on_if, recording_from, told_in}
 use Rattle.told_once.specs.ToldOnce.{told_since}
 use Rattle.told_once.proofs.Story.{Story, begins}
@@ -60,7 +61,7 @@ module _ (h : History) (c : Call) where
 
 after_call : (h : History) (c : Call) (l : List (List ℕ)) → StoryBy h (told_in l)
     → StoryBy (c ∷ h) (told_in (goes_on (role_of_call c) l (bytes_of_each (packets_by h c))))
-unfolding route_by behind_at_load reports_since told_in
+unfolding route_by behind_at_load reports_since timing_points told_in
 after_call h c l s = go (role_of_call c) refl (known (event_of_call c)).role
   where
     written : List (List ℕ)
@@ -111,7 +112,7 @@ all_calls (c ∷ calls) e h l q s =
     all_calls calls _ _ _ n.0 n.1
 
 first_story : StoryBy [] (told_in [])
-unfolding route_by behind_at_load reports_since progress_run run told_in
+unfolding route_by behind_at_load reports_since progress_run run timing_points told_in
 first_story = begins (route_by []) 0
 
 pub story : (calls : List Call) → StoryBy (history_of calls) (told_since calls)

@@ -2,12 +2,13 @@
 use mathlib.Core.Path.{refl}
 use Rattle.packets.specs.Packets.{judged_packet, packet_of}
 use Rattle.whole_list.proofs.Computed.{worked}
+use Rattle.whole_list.specs.Recorded.{timing_points}
 use Rattle.told_once.specs.Recording.{recording_from, told_in}
 use Rattle.told_once.specs.ToldOnce.{last_stops}
 use Rattle.told_once.specs.Example.{Example}
 
 pub example : Example
-unfolding worked judged_packet packet_of recording_from told_in last_stops
+unfolding worked judged_packet packet_of timing_points recording_from told_in last_stops
 example = record {
   stops = refl;
   stops_there = refl;

@@ -1,7 +1,7 @@
 -- A position report carries the story on: by what it changes, from the progress before it to the one after.
 use Rattle.std.specs.Prelude.{if◌then◌else◌}
 use mathlib.Core.Path.{◌≡◌, refl, sym, ◌∙◌, ap, subst}
-use mathlib.Core.Bool.{Bool, true, false, ◌||◌}
+use mathlib.Core.Bool.{Bool, true, false}
 use mathlib.Core.List.{List, [], ◌∷◌, ◌++◌, map, append-nil, append_assoc}
 use Prim.Native.Nat.{ℕ, zero, suc, ◌+◌, ◌-◌, ◌≤◌, ◌<◌}
 use native.Mathlib.Omega.{arith}
@@ -15,12 +15,8 @@ use Rattle.timing.specs.Distance.{Report, leaves}
 use Rattle.timing.specs.Report.{departs, first_looked, reported, became_reached}
 use Rattle.timing.specs.Changes.{Change, change, status_passed, status_stopped, status_departed, status_held, passings, when, stopped_at, report_changes}
 use Rattle.timing.proofs.Steps.{InRange, following-is, looked_range, reported_stays, reported_departs, reported_looks}
-use Rattle.told_once.specs.Recording.{Told, stops, passes}
+use Rattle.told_once.specs.Recording.{counts, Told}
 use Rattle.told_once.proofs.Story.{tell, Story, passing, stopping, departing}
-
--- the packets 62 that are looked at
-abbrev pub counts : Told → Bool
-counts t = passes t || stops t
 
 -- of what a report changes: all but that a held stop becomes reached
 abbrev pub told_changes : Route → Report → Progress → List Change

@@ -1,17 +1,14 @@
 -- The recording since the load in force, and what its packets 62 of status 0, 1 and 2 tell.
-use Rattle.std.specs.Prelude.{Bool, ◌||◌, List, [], ◌∷◌, ◌++◌, ℕ, eqb}
-use Rattle.wire.specs.Judged.{Judged}
-use Rattle.wire.specs.Judged.Judged.{refuse, accept}
+use Rattle.std.specs.Prelude.{Bool, ◌||◌, List, [], ◌∷◌, ◌++◌, map, ℕ, eqb}
+use Rattle.wire.specs.Lists.{those}
 use Rattle.engine_value.specs.Engine.{fresh}
 use Rattle.event.specs.Kinds.{Role, off, load, report, other, skip}
-use Rattle.packets.specs.Packets.{packet_of}
 use Rattle.packets.specs.declared.TimingPoint.{TimingPoint}
-use Rattle.packets.specs.declared.Packet.{Packet}
-use Rattle.timing.specs.Changes.{status_passed, status_stopped, status_departed, when}
+use Rattle.timing.specs.Changes.{status_passed, status_stopped, status_departed}
 use Rattle.call_values.specs.Call.{Call, Answer, refused, accepted}
 use Rattle.whole_list.specs.Values.{role_of_call}
 use Rattle.whole_list.specs.Calls.{Done, trace}
-use Rattle.whole_list.specs.Recorded.{recorded_by}
+use Rattle.whole_list.specs.Recorded.{recorded_by, timing_points}
 
 -- ---- the recording: the packets in the calls' memories
 
@@ -62,14 +59,9 @@ passes t = point_passes t || departs t
 abbrev pub told_of : TimingPoint → Told
 told_of p = record { name = record { nidc = p.nidc; nidtp = p.nidtp }; status = p.status }
 
--- of bytes as the packet reader takes them; the other packets tell nothing of it
-abbrev pub told_by : Judged Packet → List Told
-told_by (refuse n) = []
-told_by (accept (Packet.TimingPoint p)) = when (passes (told_of p) || stops (told_of p)) (told_of p)
-told_by (accept (Packet.JpReceived p)) = []
-told_by (accept (Packet.AtoStatus p)) = []
-told_by (accept (Packet.TractionBrake p)) = []
+-- the packets 62 that are looked at: of status 0, 1 and 2
+abbrev pub counts : Told → Bool
+counts t = passes t || stops t
 
 unfoldable pub told_in : List (List ℕ) → List Told
-told_in [] = []
-told_in (packet ∷ l) = told_by (packet_of packet) ++ told_in l
+told_in packets = those counts (map told_of (timing_points packets))

@@ -3,8 +3,7 @@ use Rattle.std.specs.Prelude.{Some}
 use mathlib.Core.Path.{◌≡◌, refl, sym, ◌∙◌, ap, subst}
 use mathlib.Core.Logic.{◌↔◌, inl}
 use mathlib.Core.Bool.{Bool, true, false}
-use mathlib.Core.List.Memᴰ
-use mathlib.Core.List.{List, [], ◌∷◌, ◌++◌, map, append_assoc, append-nil, Memᴰ}
+use mathlib.Core.List.{List, [], ◌∷◌, ◌++◌, map, append_assoc, append-nil}
 use Prim.Native.Nat.{ℕ, ◌<◌}
 use native.Mathlib.Omega.{arith}
 use Rattle.wire.specs.Judged.{Judged}
@@ -46,7 +45,8 @@ use Rattle.whole_list.proofs.Fields.{progress_run, in-range, stands_at}
 use Rattle.whole_list.proofs.FieldsStep.{run_kept, route_kept, position_new, progress_new}
 use Rattle.whole_list.proofs.Engaged.{stands_exactly}
 use Rattle.whole_list.proofs.Readable.{packets_fit, written_as}
-use Rattle.whole_list.proofs.Passed.{by_steps, step_change, timing_among, told_by, Told, where_written, one_of_written, each-told}
+use Rattle.whole_list.proofs.ChangeKinds.{by_steps}
+use Rattle.whole_list.proofs.Passed.{timing_among, told_by, Told, where_written, one_of_written, each-told}
 use Rattle.whole_list.proofs.WholeList.{judged_next}
 
 -- where the steps leave a point, and where the history rule has it
@@ -167,8 +167,7 @@ module _ (h : History) (c : Call) (k : ℕ) (rests : Rests h k) (keeps : Keeps h
   none_there : (x : Position) → event_of_call c ≡ PositionReport x → (q : TimingPoint) → In (Packet.TimingPoint q) (packets_by h c) → ⊥
   none_there x e q i =
       let (d, w, z) = timing_among h c q i in
-      let (a, m, i, s) = step_change c h x e d w in
-      Memᴰ.not-nil (subst (Memᴰ a) (no_change x e) m)
+      subst (In d) (by_steps c h x e ∙ ap (map (change_in (route_by h))) (no_change x e)) w
 
 -- ---- a list of calls
 

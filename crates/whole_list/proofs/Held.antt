@@ -1,7 +1,6 @@
 -- Held stops, over every list of calls.
 use Rattle.std.specs.Prelude.{if◌then◌else◌, Option, Some, None, is_some}
 use mathlib.Core.Path.{◌≡◌, refl, sym, ◌∙◌, ap, subst}
-use mathlib.Core.Logic.{◌⊎◌, inl, inr}
 use mathlib.Core.Bool.{Bool, true, false, ◌&&◌}
 use mathlib.Core.List.{List, [], ◌∷◌, ◌++◌, map, append_assoc, map-append}
 use Prim.Native.Nat.{ℕ, ◌<◌}
@@ -14,31 +13,30 @@ use Rattle.engine_value.specs.Engine.{Route}
 use Rattle.engine_value.specs.declared.Point.{Point}
 use Rattle.engine_value.specs.declared.Position.{Position}
 use Rattle.engine_value.specs.declared.Progress.{Progress}
-use Rattle.event.specs.Kinds.{Role, off, load, report, other, skip, kind_of}
+use Rattle.event.specs.Kinds.{kind_of}
 use Rattle.event.specs.declared.Event.TheVariants.{Press, PositionReport}
-use Rattle.event.proofs.Known.{OfRole, known, press_of}
+use Rattle.event.proofs.Known.{press_of}
 use Rattle.packets.specs.Packets.{value_bytes, packet_bytes}
 use Rattle.packets.specs.declared.Packet.{Packet}
 use Rattle.position.specs.Position.{point, point_count}
-use Rattle.position.specs.Skips.{stop_named}
 use Rattle.position.specs.Standing.{standing}
 use Rattle.position.specs.declared.Standing.TheVariants.{Reached}
 use Rattle.position.proofs.Laws.{reached-only}
 use Rattle.timing.specs.Report.{reported, became_reached}
-use Rattle.timing.specs.Changes.{Change, change, when, status_stopped, status_held, status_hold_revoked, report_changes}
+use Rattle.timing.specs.Changes.{change, when, status_stopped, status_held, status_hold_revoked}
 use Rattle.timing.proofs.Rule.{became_reached_lem}
-use Rattle.timing.proofs.Changes.{recorded_held, status_most, changes_held}
+use Rattle.timing.proofs.Changes.{recorded_held, changes_held}
 use Rattle.conditions.specs.Conditions.{end_ahead}
 use Rattle.state_codes.specs.Numbers.{power_rows, state_row}
 use Rattle.hold.specs.Hold.{hold_row, keeps_hold, hold_ended}
 use Rattle.hold.proofs.Laws.{held_there, held_is, not_kept, kept_not}
 use Rattle.engagement.proofs.Engaged.{press-in}
-use Rattle.call_values.specs.Packets.{PointChange, point_change, hold_revoked, header, timing_point_of, timing_point, received, jp_received, ato_status, status_due, packets_of}
+use Rattle.call_values.specs.Packets.{PointChange, hold_revoked, header, timing_point_of, timing_point, received, jp_received, ato_status, status_due, packets_of}
 use Rattle.call_values.specs.Call.{Call}
 use Rattle.call.specs.Packets.{change_in}
-use Rattle.whole_list.specs.Values.{History, event_of_call, role_of_call, position_by, route_by, report_at}
+use Rattle.whole_list.specs.Values.{History, event_of_call, position_by, route_by, report_at}
 use Rattle.whole_list.specs.Rules.{HeldBy, standing_by}
-use Rattle.whole_list.specs.Table.{held_stop_by, load_changes, changes_by, skip_change, head_of_call, status_by, own_by, packets_by, table_by, packets_if, written_by}
+use Rattle.whole_list.specs.Table.{held_stop_by, changes_by, head_of_call, status_by, own_by, packets_by, table_by, packets_if, written_by}
 use Rattle.whole_list.specs.Calls.{history_of}
 use Rattle.whole_list.specs.Recorded.{number_in, In}
 use Rattle.whole_list.specs.WholeList.{bytes_of_each}
@@ -47,9 +45,9 @@ use Rattle.whole_list.proofs.Decoded.{route-in}
 use Rattle.whole_list.proofs.Fields.{progress_run, in-range, stands_at, end_ext}
 use Rattle.whole_list.proofs.FieldsStep.{route_kept, progress_new, held_is_by}
 use Rattle.whole_list.proofs.Recorded.{bytes-append}
-use Rattle.whole_list.proofs.Readable.{written_fit, read_as}
 use Rattle.whole_list.proofs.Engaged.{held_there as at_held, there_held}
-use Rattle.whole_list.proofs.Passed.{in_map, member, by_steps, timing_among, told_accepted}
+use Rattle.whole_list.proofs.ChangeKinds.{member, by_steps, Kind, of_report, of_hold, of_driver, which, report_early, driver_late}
+use Rattle.whole_list.proofs.Points.{Change62, change_of}
 use Rattle.whole_list.proofs.WholeList.{judged_next}
 use Rattle.whole_list.proofs.Creeping.{stands-by}
 use Rattle.whole_list.proofs.TurnedDown.{loaded-has}
@@ -151,84 +149,9 @@ module _ (h : History) (c : Call) (k : ℕ) (v : BecomesHeld h c k) where
             ∙ ap (λ y. bytes_of_each before ++ (bytes62 (c ∷ h) (point (route_by h) k) status_stopped ∷ y ∷ bytes_of_each after)) (told_so status_held),
       )
 
--- ---- what a packet 62 of a call is
-
--- of an accepted call, and of one of its changes
-record Change62 (h : History) (c : Call) (packet : List ℕ) (status : ℕ) : Type 0 where
-  accepted : table_by h c ≡ accept tt
-  change : PointChange
-  one_of_them : In change (changes_by h c)
-  status_is : change.status ≡ status
-  bytes : packet ≡ packet_bytes (timing_point (route_by (c ∷ h)) (position_by (c ∷ h)) change)
-
-change_of : (h : History) (c : Call) (packet : List ℕ) (status : ℕ) → In packet (bytes_of_each (written_by h c)) → Is62 packet status → Change62 h c packet status
-unfolding timing_point
-change_of h c packet status i t =
-    let a = read_as packet (written_by h c) (written_fit h c) i in
-    let same : a.packet ≡ Packet.TimingPoint t.told = cc (a.read, t.read) in
-    let (accepted, among) = told_accepted h c t.told (subst (λ (p : Packet). In p (written_by h c)) same a.one_of_them) in
-    let (d, k, z) = timing_among h c t.told among in
-    let s : t.told.status ≡ d.status = cc in
-    record { accepted = accepted; change = d; one_of_them = k; status_is = sym s ∙ t.status_is; bytes = a.is_it ∙ ap packet_bytes (same ∙ z) }
-
--- ---- the changes of status 3 and 4, by the role of the event
+-- ---- status 4, the hold that a load ends
 
 module _ (h : History) (c : Call) where
-  -- of a driver skip
-  skip_status : (f : Option ℕ) (on x : Bool) (d : PointChange) → In d (skip_change (route_by h) f on x) → (d.status ≡ 5) ⊎ (d.status ≡ 6)
-  skip_status None on x d i = absurd i
-  skip_status (Some k) true x d (inl e) = inl (ap (λ (y : PointChange). y.status) e)
-  skip_status (Some k) true x d (inr i) = absurd i
-  skip_status (Some k) false x d (inl e) = inr (ap (λ (y : PointChange). y.status) e)
-  skip_status (Some k) false x d (inr i) = absurd i
-
-  -- of a report it is one of the steps'
-  record Reports (d : PointChange) : Type 0 where
-    position : Position
-    is_report_lem : event_of_call c ≡ PositionReport position
-    change : Change
-    one_of_them : In change (report_changes (route_by h) (report_at (c ∷ h)) (progress_run h))
-    is : d ≡ change_in (route_by h) change
-
-  -- of a load it is the hold that ends
-  record Ends (d : PointChange) : Type 0 where
-    is_load_lem : role_of_call c ≡ load
-    stop : Point
-    ended : hold_ended (held_stop_by h) (route_by (c ∷ h)) ≡ Some stop
-    is : d ≡ point_change stop status_hold_revoked (end_ahead (route_by (c ∷ h)).load (standing_by (c ∷ h)))
-
-  ends_in : (o : Option Point) (x : Bool) (d : PointChange) → In d (hold_revoked o x) → (p : Point) × (o ≡ Some p) × (d ≡ point_change p status_hold_revoked x)
-  ends_in None x d i = absurd i
-  ends_in (Some p) x d (inl e) = (p, refl, e)
-  ends_in (Some p) x d (inr i) = absurd i
-
-  which : (d : PointChange) → In d (changes_by h c) → d.status ≡ status_held ⊎ d.status ≡ status_hold_revoked → Reports d ⊎ Ends d
-  unfolding changes_by
-  which d i s = go (role_of_call c) refl (known (event_of_call c)).role
-    where
-      none_there : {A : Type 0} → changes_by h c ≡ [] → A
-      none_there z = absurd (subst (In d) z i)
-
-      no_skip : (d.status ≡ status_held) ⊎ (d.status ≡ status_hold_revoked) → (d.status ≡ 5) ⊎ (d.status ≡ 6) → ⊥
-      no_skip (inl a) (inl b) = omega arith
-      no_skip (inl a) (inr b) = omega arith
-      no_skip (inr a) (inl b) = omega arith
-      no_skip (inr a) (inr b) = omega arith
-
-      go : (r : Role) → role_of_call c ≡ r → OfRole r (event_of_call c) → Reports d ⊎ Ends d
-      go off q k = none_there (rw (q, changes_by))
-      go load q k =
-          let z : changes_by h c ≡ load_changes h c = rw (q, changes_by) in
-          let (p, o, e) = ends_in _ _ d (subst (In d) z i) in
-          inr (record { is_load_lem = q; stop = p; ended = o; is = e })
-      go report q k =
-          let (a, m, e) = in_map (change_in (route_by h)) d (report_changes (route_by h) (report_at (c ∷ h)) (progress_run h)) (subst (In d) (by_steps c h k.0 k.1) i) in
-          inl (record { position = k.0; is_report_lem = k.1; change = a; one_of_them = m; is = e })
-      go other q k = none_there (rw (q, changes_by))
-      go (skip t on) q k =
-          let z : changes_by h c ≡ skip_change (route_by h) (stop_named (route_by h) t) on (end_ahead (route_by h).load (standing_by h)) = rw (q, changes_by) in
-          absurd (no_skip s (skip_status (stop_named (route_by h) t) on _ d (subst (In d) z i)))
-
   -- a stop whose hold ends is held, reached, and not kept
   ended_is : (p : Point) → hold_ended (held_stop_by h) (route_by (c ∷ h)) ≡ Some p
       → (k : ℕ) × HeldBy h k × (p ≡ point (route_by h) k) × (keeps_hold (route_by (c ∷ h)) p.nidtp ≡ false)
@@ -253,14 +176,15 @@ module _ (h : History) (c : Call) where
 
 held_alone : (h : History) (c : Call) (packet : List ℕ) → In packet (bytes_of_each (written_by h c)) → Is62 packet status_held
     → (k : ℕ) × BecomesHeld h c k × (packet ≡ bytes62 (c ∷ h) (point (route_by h) k) status_held)
-held_alone h c packet i t = go (which h c w.change w.one_of_them (inl w.status_is))
+held_alone h c packet i t = go (which h c w.change w.one_of_them)
   where
     w : Change62 h c packet status_held
     w = change_of h c packet status_held i t
 
-    go : Reports h c w.change ⊎ Ends h c w.change → (k : ℕ) × BecomesHeld h c k × (packet ≡ bytes62 (c ∷ h) (point (route_by h) k) status_held)
-    go (inr e) = let s : w.change.status ≡ 4 = ap (λ (d : PointChange). d.status) e.is in absurd (omega (arith, w.status_is))
-    go (inl r) =
+    go : Kind h c w.change → (k : ℕ) × BecomesHeld h c k × (packet ≡ bytes62 (c ∷ h) (point (route_by h) k) status_held)
+    go (of_hold e) = let s : w.change.status ≡ 4 = ap (λ (d : PointChange). d.status) e.is in absurd (omega (arith, w.status_is))
+    go (of_driver b) = absurd (omega (arith, w.status_is, driver_late w.change.status b))
+    go (of_report r) =
         let j = route_by h in
         let at = report_at (c ∷ h) in
         let p = progress_run h in
@@ -293,16 +217,15 @@ held_alone h c packet i t = go (which h c w.change w.one_of_them (inl w.status_i
 revoked_alone : (h : History) (c : Call) (packet : List ℕ) → In packet (bytes_of_each (written_by h c)) → Is62 packet status_hold_revoked
     → (k : ℕ) × HoldEnds h c k × (packet ≡ bytes62 (c ∷ h) (point (route_by h) k) status_hold_revoked)
 unfolding timing_point
-revoked_alone h c packet i t = go (which h c w.change w.one_of_them (inr w.status_is))
+revoked_alone h c packet i t = go (which h c w.change w.one_of_them)
   where
     w : Change62 h c packet status_hold_revoked
     w = change_of h c packet status_hold_revoked i t
 
-    go : Reports h c w.change ⊎ Ends h c w.change → (k : ℕ) × HoldEnds h c k × (packet ≡ bytes62 (c ∷ h) (point (route_by h) k) status_hold_revoked)
-    go (inl r) =
-        let s : r.change.status ≡ 4 = sym (ap (λ (d : PointChange). d.status) r.is) ∙ w.status_is in
-        absurd (omega (arith, status_most (route_by h) (report_at (c ∷ h)) (progress_run h) r.change (member r.change _ r.one_of_them)))
-    go (inr e) =
+    go : Kind h c w.change → (k : ℕ) × HoldEnds h c k × (packet ≡ bytes62 (c ∷ h) (point (route_by h) k) status_hold_revoked)
+    go (of_report r) = absurd (omega (arith, w.status_is, report_early h c w.change r))
+    go (of_driver b) = absurd (omega (arith, w.status_is, driver_late w.change.status b))
+    go (of_hold e) =
         let (k, held, is_point, kept) = ended_is h c e.stop e.ended in (
           k,
           record {

@@ -13,7 +13,9 @@ pub mod TableChanges
 pub mod TableRows
 pub mod Engaged
 pub mod Shown
+pub mod ChangeKinds
 pub mod Passed
+pub mod Points
 pub mod WholeList
 pub mod Creeping
 pub mod RowNumbers

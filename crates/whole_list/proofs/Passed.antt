@@ -12,10 +12,7 @@ use Rattle.wire.specs.Judged.{Judged}
 use Rattle.wire.specs.Judged.Judged.{refuse, accept}
 use Rattle.wire.specs.Refusals.{turns_down}
 use Rattle.engine_value.specs.Engine.{Route}
-use Rattle.engine_value.specs.declared.Point.{Point}
 use Rattle.engine_value.specs.declared.Position.{Position}
-use Rattle.event.specs.Kinds.{Role, off, load, report, other, skip}
-use Rattle.event.proofs.Known.{OfRole, known}
 use Rattle.event.specs.declared.Event.TheVariants as kind
 use Rattle.packets.specs.Layouts.{kind65, kind_size}
 use Rattle.packets.specs.Packets.{packet_of}
@@ -25,17 +22,14 @@ use Rattle.packets.specs.declared.Requested.{Requested}
 use Rattle.packets.specs.declared.Packet.{Packet}
 use Rattle.position.specs.Position.{point}
 use Rattle.timing.specs.Changes.{Change, status_passed, status_held, when, report_changes}
-use Rattle.position.specs.Skips.{stop_named}
 use Rattle.timing.proofs.Changes.{Behind, recorded_behind, index_below}
 use Rattle.journey.specs.declared.Head.{Head}
-use Rattle.conditions.specs.Conditions.{end_ahead}
-use Rattle.call_values.specs.Packets.{PointChange, hold_revoked, timing_point, jp_received, traction_brake, traction_brakes, ato_status, status_due, received, packets_of, jp_turned_down, packets_refused}
-use Rattle.call.specs.Packets.{change_in}
+use Rattle.call_values.specs.Packets.{PointChange, timing_point, jp_received, traction_brake, traction_brakes, ato_status, status_due, received, packets_of, jp_turned_down, packets_refused}
 use Rattle.call_values.specs.Call.{Call}
 use Rattle.call.specs.Call.{step_of}
-use Rattle.whole_list.specs.Values.{History, event_of_call, position_by, route_by, report_at, role_of_call}
-use Rattle.whole_list.specs.Table.{load_changes, skip_change, changes_by, head_of_call, own_by, status_by, packets_by, table_by, packets_if, written_by}
-use Rattle.whole_list.specs.Rules.{standing_by, state_by}
+use Rattle.whole_list.specs.Values.{History, event_of_call, position_by, route_by, report_at}
+use Rattle.whole_list.specs.Table.{changes_by, head_of_call, own_by, status_by, packets_by, table_by, packets_if, written_by}
+use Rattle.whole_list.specs.Rules.{state_by}
 use Rattle.traction.specs.Requests.{written_content}
 use Rattle.whole_list.specs.Requests.{traction_by}
 use Rattle.whole_list.specs.Calls.{engine_after, history_of}
@@ -43,68 +37,18 @@ use Rattle.whole_list.specs.Recorded.{In}
 use Rattle.whole_list.specs.WholeList.{bytes_of_each, JudgedByTable, WrittenAt, Each62, TrulyPassed, NothingAhead}
 use Rattle.whole_list.proofs.Requests.{in_left, in_right, in-append}
 use Rattle.whole_list.proofs.Fields.{progress_run, in-range}
-use Rattle.whole_list.proofs.FieldsStep.{route_kept, position_new, changes_is}
+use Rattle.whole_list.proofs.FieldsStep.{route_kept, position_new}
 use Rattle.whole_list.proofs.Readable.{written_fit, read_as}
+use Rattle.whole_list.proofs.ChangeKinds.{member, in_map, Reports, Kind, of_report, of_hold, of_driver, which, driver_late}
 
-pub member : {A : Type 0} (x : A) (l : List A) → In x l → Memᴰ x l
-member x [] i = absurd i
-member x (y ∷ l) (inl e) = Memᴰ.head e
-member x (y ∷ l) (inr i) = Memᴰ.tail (member x l i)
-
-pub in_map : {A B : Type 0} (f : A → B) (y : B) (l : List A) → In y (map f l) → (x : A) × In x l × (y ≡ f x)
-in_map f y [] i = absurd i
-in_map f y (x ∷ l) (inl e) = (x, inl refl, e)
-in_map f y (x ∷ l) (inr i) = let r = in_map f y l i in (r.0, inr r.1, r.2)
-
--- ---- a history that ends with a position report
-
-module _ (c : Call) (h : History) (x : Position) (e : event_of_call c ≡ kind.PositionReport x) where
-  -- the changes by the rules are those of the steps
-  pub by_steps : changes_by h c ≡ map (change_in (route_by h)) (report_changes (route_by h) (report_at (c ∷ h)) (progress_run h))
-  unfolding changes_by
-  by_steps = rw (e, changes_by) (changes_is c h x e)
-
-  pub step_change : (d : PointChange) → In d (changes_by h c)
-      → (a : Change) × Memᴰ a (report_changes (route_by h) (report_at (c ∷ h)) (progress_run h)) × (d.point ≡ point (route_by h) a.index) × (d.status ≡ a.status)
-  step_change d i =
-      let l = report_changes (route_by h) (report_at (c ∷ h)) (progress_run h) in
-      let (a, k, z) = in_map (change_in (route_by h)) d l (subst (In d) by_steps i) in
-      (a, member a l k, ap (λ (y : PointChange). y.point) z, ap (λ (y : PointChange). y.status) z)
-
--- ---- the changes that a packet 62 of status 0 to 3 tells of
-
-module _ (j : Route) where
-  skip_no : (f : Option ℕ) (on x : Bool) (d : PointChange) → In d (skip_change j f on x) → d.status ≤ status_held → ⊥
-  skip_no None on x d i s = i
-  skip_no (Some k) true x d (inl e) s = let z : d.status ≡ 5 = ap (λ (c : PointChange). c.status) e in omega arith
-  skip_no (Some k) true x d (inr i) s = i
-  skip_no (Some k) false x d (inl e) s = let z : d.status ≡ 6 = ap (λ (c : PointChange). c.status) e in omega arith
-  skip_no (Some k) false x d (inr i) s = i
-
-ended_no : (o : Option Point) (x : Bool) (d : PointChange) → In d (hold_revoked o x) → d.status ≤ status_held → ⊥
-ended_no None x d i s = i
-ended_no (Some p) x d (inl e) s = let z : d.status ≡ 4 = ap (λ (c : PointChange). c.status) e in omega arith
-ended_no (Some p) x d (inr i) s = i
-
--- such a change is of a position report
-module _ (h : History) (c : Call) (d : PointChange) (i : In d (changes_by h c)) (s : d.status ≤ status_held) where
-  at_report : (x : Position) × (event_of_call c ≡ kind.PositionReport x)
-  unfolding changes_by
-  at_report = go (role_of_call c) refl (known (event_of_call c)).role
-    where
-      none_there : {A : Type 0} → changes_by h c ≡ [] → A
-      none_there z = absurd (subst (In d) z i)
-
-      go : (r : Role) → role_of_call c ≡ r → OfRole r (event_of_call c) → (x : Position) × (event_of_call c ≡ kind.PositionReport x)
-      go off q k = none_there (rw (q, changes_by))
-      go load q k =
-          let z : changes_by h c ≡ load_changes h c = rw (q, changes_by) in
-          absurd (ended_no _ _ d (subst (In d) z i) s)
-      go report q k = k
-      go other q k = none_there (rw (q, changes_by))
-      go (skip t on) q k =
-          let z : changes_by h c ≡ skip_change (route_by h) (stop_named (route_by h) t) on (end_ahead (route_by h).load (standing_by h)) = rw (q, changes_by) in
-          absurd (skip_no (route_by h) (stop_named (route_by h) t) on _ d (subst (In d) z i) s)
+-- a change of status 0 to 3 is of a position report
+reported : (h : History) (c : Call) (d : PointChange) → In d (changes_by h c) → d.status ≤ status_held → Reports h c d
+reported h c d i s = go (which h c d i)
+  where
+    go : Kind h c d → Reports h c d
+    go (of_report r) = r
+    go (of_hold e) = let four : d.status ≡ 4 = ap (λ (d : PointChange). d.status) e.is in absurd (omega arith)
+    go (of_driver b) = absurd (omega (arith, s, driver_late d.status b))
 
 -- ---- the packets
 
@@ -158,23 +102,21 @@ timing_among h c p i = first (in-append (Packet.TimingPoint p) (received (route_
     first (inr q) = second (in-append (Packet.TimingPoint p) (map (timing_point (route_by (c ∷ h)) (position_by (c ∷ h))) (changes_by h c)) _ q)
 
 -- and each change is told by one
-in_mapped : {A B : Type 0} (f : A → B) (x : A) (l : List A) → In x l → In (f x) (map f l)
+pub in_mapped : {A B : Type 0} (f : A → B) (x : A) (l : List A) → In x l → In (f x) (map f l)
 in_mapped f x [] i = absurd i
 in_mapped f x (y ∷ l) (inl e) = inl (ap f e)
 in_mapped f x (y ∷ l) (inr i) = inr (in_mapped f x l i)
 
+pub in_packets : (h : History) (c : Call) (d : PointChange) → In d (changes_by h c) → In (timing_point (route_by (c ∷ h)) (position_by (c ∷ h)) d) (packets_by h c)
+unfolding packets_by packets_of
+in_packets h c d i =
+    let packet = timing_point (route_by (c ∷ h)) (position_by (c ∷ h)) in
+    in_right _ (received (route_by (c ∷ h)) (position_by (c ∷ h)) (head_of_call c)) _ (in_left _ (map packet (changes_by h c)) _ (in_mapped packet d (changes_by h c) i))
+
 pub told_by : (h : History) (c : Call) (d : PointChange) → In d (changes_by h c)
     → (p : TimingPoint) × In (Packet.TimingPoint p) (packets_by h c) × (p.status ≡ d.status) × (p.nidtp ≡ d.point.nidtp)
-unfolding packets_by packets_of timing_point
-told_by h c d i = (_, among, refl, refl)
-  where
-    j : Route
-    j = route_by (c ∷ h)
-
-    among : In (timing_point j (position_by (c ∷ h)) d) (packets_by h c)
-    among =
-        in_right _ (received j (position_by (c ∷ h)) (head_of_call c)) _
-        (in_left _ (map (timing_point j (position_by (c ∷ h))) (changes_by h c)) _ (in_mapped (timing_point j (position_by (c ∷ h))) d (changes_by h c) i))
+unfolding timing_point
+told_by h c d i = (_, in_packets h c d i, refl, refl)
 
 -- what a packet 62 of status 0 to 3 stands for: a change of the steps, at a position report
 pub record Told (h : History) (c : Call) (packet : List ℕ) (p : TimingPoint) : Type 0 where
@@ -188,20 +130,19 @@ pub record Told (h : History) (c : Call) (packet : List ℕ) (p : TimingPoint) :
 module _ (h : History) (c : Call) (packet : List ℕ) (p : TimingPoint) (e : packet_of packet ≡ accept (Packet.TimingPoint p)) (s : p.status ≤ status_held) where
   -- of the change d, by its values
   told_of : (d : PointChange) → In d (changes_by h c) → p.status ≡ d.status → p.nidtp ≡ d.point.nidtp → Told h c packet p
-  told_of d i status name = step (at_report h c d i (omega (arith, status, s)))
-    where
-      step : (x : Position) × (event_of_call c ≡ kind.PositionReport x) → Told h c packet p
-      step (x, r) = made (step_change c h x r d i)
-        where
-          made : (a : Change) × Memᴰ a (report_changes (route_by h) (report_at (c ∷ h)) (progress_run h)) × (d.point ≡ point (route_by h) a.index) × (d.status ≡ a.status) → Told h c packet p
-          made (a, m, point_is, status_is) = record {
-            position = x;
-            is_report_lem = r;
-            change = a;
-            one_of_them = m;
-            status_is = sym (status ∙ status_is);
-            its_name = λ q f. let y : q ≡ p = cc (e, f) in ap (λ (t : TimingPoint). t.nidtp) y ∙ name ∙ ap (λ (o : Point). o.nidtp) point_is ∙ ap (λ j. (point j a.index).nidtp) (sym (route_kept c h x r));
-          }
+  told_of d i status name =
+      let r = reported h c d i (omega (arith, status, s)) in
+      record {
+        position = r.position;
+        is_report_lem = r.is_report_lem;
+        change = r.change;
+        one_of_them = member r.change _ r.one_of_them;
+        status_is = sym (status ∙ ap (λ (y : PointChange). y.status) r.is);
+        its_name = λ q f.
+            let y : q ≡ p = cc (e, f) in
+            ap (λ (t : TimingPoint). t.nidtp) y ∙ name ∙ ap (λ (y : PointChange). y.point.nidtp) r.is
+            ∙ ap (λ j. (point j r.change.index).nidtp) (sym (route_kept c h r.position r.is_report_lem));
+      }
 
   told : In (Packet.TimingPoint p) (packets_by h c) → Told h c packet p
   told i =

@@ -1,6 +1,11 @@
 -- What stands recorded: the packets at the front of a call's memory, as that call left it.
-use Rattle.std.specs.Prelude.{List, [], ◌∷◌, ◌⊎◌, ◌≡◌, ℕ, take, get_or, eqb, if◌then◌else◌, Option, Some}
-use Rattle.packets.specs.Packets.{cut_packets}
+use Rattle.std.specs.Prelude.{List, [], ◌∷◌, ◌⊎◌, ◌≡◌, ℕ, take, get_or, eqb, if◌then◌else◌, Option, Some, None}
+use Rattle.std.specs.List.{filter_map}
+use Rattle.wire.specs.Judged.{Judged}
+use Rattle.wire.specs.Judged.Judged.{refuse, accept}
+use Rattle.packets.specs.Packets.{packet_of, cut_packets}
+use Rattle.packets.specs.declared.TimingPoint.{TimingPoint}
+use Rattle.packets.specs.declared.Packet.{Packet}
 use Rattle.call_values.specs.Call.{Answer, bytes_written}
 use Rattle.whole_list.specs.Calls.{Done}
 
@@ -13,6 +18,17 @@ recorded_by d = packets_after d.answer d.memory
 
 abbrev pub number_in : List ℕ → ℕ
 number_in p = get_or p 0 0
+
+-- the packets 62 of a list, as the packet reader gives them
+abbrev pub timing_point_in : Judged Packet → Option TimingPoint
+timing_point_in (refuse n) = None
+timing_point_in (accept (Packet.TimingPoint p)) = Some p
+timing_point_in (accept (Packet.JpReceived p)) = None
+timing_point_in (accept (Packet.AtoStatus p)) = None
+timing_point_in (accept (Packet.TractionBrake p)) = None
+
+unfoldable pub timing_points : List (List ℕ) → List TimingPoint
+timing_points l = filter_map (λ packet. timing_point_in (packet_of packet)) l
 
 -- the last packet 68 of a list, else the one before it
 unfoldable pub newest : Option (List ℕ) → List (List ℕ) → Option (List ℕ)
