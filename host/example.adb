@@ -13,6 +13,9 @@ procedure Example is
       16#13#, 0, 0, 16#1B#, 16#59#, 0, 16#43#, 0, 0, 16#1B#, 16#5A#, 0);
    --  The same journey, with the train held at 7001: byte 16 is that point's map.
    Held : constant Byte_Array := Journey (0 .. 15) & (Journey (16) or Point_Held) & Journey (17 .. 27);
+   --  The same, with 7002 as a stop that trackside skips: byte 22 is its map.
+   Skipping : constant Byte_Array :=
+     Journey (0 .. 21) & (Journey (22) or Point_Stop or Point_Skipped) & Journey (23 .. 27);
    Book : constant Byte_Array :=
      (16#0F#, 0, 17, 0, 0, 16#01#, 16#F4#, 0, 16#01#, 16#86#, 16#A0#, 2,
       0, 0, 16#1B#, 16#59#, 0, 0, 16#9C#, 16#40#, 0, 150, 0, 0, 16#1B#, 16#5A#, 0, 16#01#, 16#5F#, 16#90#, 0, 0);
@@ -142,12 +145,14 @@ begin
    Call ((1 => Kind_Load), Held);         --  the train is to be held: 7001 is targeted again
    Position (39_900, 0);                  --  reached again, and held: packets 62 with status 1 and 3
    Call ((1 => Kind_Press));              --  refused by 20
-   Call ((1 => Kind_Load));               --  held no longer: a packet 62 with status 4 behind 65
+   Call ((1 => Kind_Load), Skipping);     --  held no longer, 7002 skipped: status 4 and 7 behind 65
    Position (39_900, 0);
    Call ((1 => Kind_Press));              --  taken
    Position (40_150, 50);                 --  a creep within R 150: still reached
    Position (40_151, 50);                 --  beyond R: departed
    Position (90_001, 50);                 --  P6: 7002 is passed
    Show;
+   --  7002 is skipped no longer: a packet 62 with status 8, though it is put behind
+   Call ((1 => Kind_Load));
    Show_Damaged_Packets;
 end Example;

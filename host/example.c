@@ -9,8 +9,9 @@ static const uint8_t journey[] = {0x1A, 0, 0, 0, 0, 0, 0, 0, 1, 0, 17, 0, 0, 0x0
                                   0x13, 0, 0, 0x1B, 0x59, 0, 0x43, 0, 0, 0x1B, 0x5A, 0};
 static const uint8_t book[] = {0x0F, 0, 17, 0, 0, 0x01, 0xF4, 0, 0x01, 0x86, 0xA0, 2,
                                0, 0, 0x1B, 0x59, 0, 0, 0x9C, 0x40, 0, 150, 0, 0, 0x1B, 0x5A, 0, 0x01, 0x5F, 0x90, 0, 0};
-/* The same journey, with the train held at 7001: byte 16 is that point's map. */
-static uint8_t held[sizeof journey];
+/* The same journey, with the train held at 7001: byte 16 is that point's map; and with 7002 as a stop that trackside
+ * skips: byte 22 is its map. */
+static uint8_t held[sizeof journey], skipping[sizeof journey];
 static hollwern_engine engine;
 static uint8_t out[HOLLWERN_BYTES_MOST];
 
@@ -99,6 +100,8 @@ int main(void) {
     }
     memcpy(held, journey, sizeof held);
     held[16] |= HOLLWERN_POINT_HELD;
+    memcpy(skipping, journey, sizeof skipping);
+    skipping[22] |= HOLLWERN_POINT_STOP | HOLLWERN_POINT_SKIPPED;
     hollwern_fresh(&engine);
     call_kind(HOLLWERN_KIND_POWER_ON);
     call_kind(HOLLWERN_KIND_POWER_ON); /* once more: refused */
@@ -119,13 +122,14 @@ int main(void) {
     call_lending(load, 1, held, sizeof held);           /* the train is to be held: 7001 is targeted again */
     position(39900, 0);                                 /* reached again, and held: packets 62 with status 1 and 3 */
     call_kind(HOLLWERN_KIND_PRESS);                     /* refused by 20 */
-    call(load, 1);                                      /* held no longer: a packet 62 with status 4 behind 65 */
+    call_lending(load, 1, skipping, sizeof skipping);   /* held no longer, 7002 skipped: status 4 and 7 behind 65 */
     position(39900, 0);
     call_kind(HOLLWERN_KIND_PRESS); /* taken */
     position(40150, 50); /* a creep within R 150: still reached */
     position(40151, 50); /* beyond R: departed */
     position(90001, 50); /* P6: 7002 is passed */
     show();
+    call(load, 1); /* 7002 is skipped no longer: a packet 62 with status 8, though it is put behind */
     damaged_packets();
     return 0;
 }

@@ -118,12 +118,15 @@ fn main() {
     call_lending(&mut e, &[KIND_LOAD], &held); // the train is to be held: 7001 is targeted again
     position(&mut e, 39_900, 0); // reached again, and held: packets 62 with status 1 and 3
     call(&mut e, &[KIND_PRESS]); // refused by 20
-    call(&mut e, &[KIND_LOAD]); // held no longer: a packet 62 with status 4 behind 65
+    let mut skipping = JOURNEY;
+    skipping[22] |= POINT_STOP | POINT_SKIPPED; // the map of 7002
+    call_lending(&mut e, &[KIND_LOAD], &skipping); // held no longer, 7002 skipped: status 4 and 7 behind 65
     position(&mut e, 39_900, 0);
     call(&mut e, &[KIND_PRESS]); // taken
     position(&mut e, 40_150, 50); // a creep within R 150: still reached
     position(&mut e, 40_151, 50); // beyond R: departed
     position(&mut e, 90_001, 50); // P6: 7002 is passed
     show(&e);
+    call(&mut e, &[KIND_LOAD]); // 7002 is skipped no longer: a packet 62 with status 8, though it is put behind
     damaged_packets();
 }

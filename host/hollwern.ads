@@ -9,14 +9,14 @@ private with System;
 package Hollwern is
    --  The version of these declarations; Linked_Version tells that of the archive. They must be equal.
    Version_Major : constant := 2;
-   Version_Minor : constant := 1;
+   Version_Minor : constant := 2;
    Version_Patch : constant := 0;
    Version : constant := Version_Major * 65_536 + Version_Minor * 256 + Version_Patch;
 
    --  Bytes of an engine.
    Engine_Size : constant := 3_460;
    --  No event writes more bytes than this.
-   Bytes_Most : constant := 1_644;
+   Bytes_Most : constant := 1_673;
    --  The most points of a journey.
    Points_Most : constant := 64;
    --  The most segments of a journey.
@@ -137,6 +137,8 @@ package Hollwern is
    Status_Hold_Revoked : constant := 4;
    Status_Skipped : constant := 5;
    Status_Revoked : constant := 6;
+   Status_Trackside_Skip : constant := 7;
+   Status_Trackside_Revoked : constant := 8;
 
    --  Status in packet 65: of a load that is accepted, and of one that 7 to 12 refuse.
    Jp_Accepted : constant := 0;

@@ -37,14 +37,14 @@
 
 /* The version of these declarations; hollwern_version tells that of the archive. They must be equal. */
 #define HOLLWERN_VERSION_MAJOR 2
-#define HOLLWERN_VERSION_MINOR 1
+#define HOLLWERN_VERSION_MINOR 2
 #define HOLLWERN_VERSION_PATCH 0
 #define HOLLWERN_VERSION (HOLLWERN_VERSION_MAJOR * 65536 + HOLLWERN_VERSION_MINOR * 256 + HOLLWERN_VERSION_PATCH)
 
 /* Bytes of an engine; its alignment is 4. */
 #define HOLLWERN_ENGINE_SIZE 3460
 /* No event writes more bytes than this. */
-#define HOLLWERN_BYTES_MOST 1644
+#define HOLLWERN_BYTES_MOST 1673
 /* The most points and segments of a journey, records of a book, points and zones of a record; and so the most bytes of
  * a journey and of a book that is not refused. */
 #define HOLLWERN_POINTS_MOST 64
@@ -157,10 +157,12 @@
 #define HOLLWERN_STATUS_PASSED 0
 #define HOLLWERN_STATUS_STOPPED 1
 #define HOLLWERN_STATUS_DEPARTED 2
-#define HOLLWERN_STATUS_HELD 3         /* behind that of STOPPED, where the stop is held */
-#define HOLLWERN_STATUS_HOLD_REVOKED 4 /* by a load, while the held stop was reached */
-#define HOLLWERN_STATUS_SKIPPED 5      /* by the driver */
-#define HOLLWERN_STATUS_REVOKED 6      /* the driver's skip */
+#define HOLLWERN_STATUS_HELD 3              /* behind that of STOPPED, where the stop is held */
+#define HOLLWERN_STATUS_HOLD_REVOKED 4      /* by a load, while the held stop was reached */
+#define HOLLWERN_STATUS_SKIPPED 5           /* by the driver */
+#define HOLLWERN_STATUS_REVOKED 6           /* the driver's skip */
+#define HOLLWERN_STATUS_TRACKSIDE_SKIP 7    /* by a load, where the journey before had the point unskipped */
+#define HOLLWERN_STATUS_TRACKSIDE_REVOKED 8 /* by a load, where the journey before had it skipped */
 
 /* Status in packet 65. */
 #define HOLLWERN_JP_ACCEPTED 0

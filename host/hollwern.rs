@@ -10,14 +10,14 @@ compile_error!("hollwern.rs: libhollwern.a is for x86-64 Linux only");
 
 /// The version of these declarations; `version` tells that of the archive. They must be equal.
 pub const VERSION_MAJOR: u32 = 2;
-pub const VERSION_MINOR: u32 = 1;
+pub const VERSION_MINOR: u32 = 2;
 pub const VERSION_PATCH: u32 = 0;
 pub const VERSION: u32 = VERSION_MAJOR * 65_536 + VERSION_MINOR * 256 + VERSION_PATCH;
 
 /// Bytes of an engine.
 pub const ENGINE_SIZE: usize = 3_460;
 /// No event writes more bytes than this.
-pub const BYTES_MOST: usize = 1_644;
+pub const BYTES_MOST: usize = 1_673;
 /// The most points of a journey.
 pub const POINTS_MOST: usize = 64;
 /// The most segments of a journey.
@@ -138,6 +138,8 @@ pub const STATUS_HELD: u8 = 3;
 pub const STATUS_HOLD_REVOKED: u8 = 4;
 pub const STATUS_SKIPPED: u8 = 5;
 pub const STATUS_REVOKED: u8 = 6;
+pub const STATUS_TRACKSIDE_SKIP: u8 = 7;
+pub const STATUS_TRACKSIDE_REVOKED: u8 = 8;
 
 // Status in packet 65: of a load that is accepted, and of one that 7 to 12 refuse.
 pub const JP_ACCEPTED: u8 = 0;

@@ -78,6 +78,9 @@ impl Coverage {
                 self.count_creeps(call.event[0], before, after, bytes);
                 self.count_traction(call.event[0], before, after, bytes);
                 self.count_holds(call.event[0], before, after);
+                if call.event[0] == LOAD {
+                    self.count_trackside(before, after);
+                }
             }
         }
         self.just_turned_down = answer.is_err_and(|refused| TURNED_DOWN.contains(&refused.number));
@@ -223,6 +226,51 @@ impl Coverage {
         note("hold kept, put behind", behind);
         note("no hold ended, stop not held", was.reached && old.is_none());
         self.hold_kept = keeps.is_some();
+    }
+
+    /// Trackside skips that a load gives and takes back, by document 02: each point in both journeys, as it was
+    /// and as it is.
+    fn count_trackside(&mut self, before: &Engine, after: &Engine) {
+        let (was, now) = (&before.now, &after.now);
+        let (old, new) = (before.route.points(), after.route.points());
+        let in_both = |k: usize| Some((old.iter().position(|point| point.nidtp == new[k].nidtp)?, k));
+        let mut changed: Vec<(usize, usize)> = (0..new.len()).filter_map(in_both).collect();
+        changed.retain(|&(i, k)| old[i].skipped != new[k].skipped);
+        let some = was.loaded && !changed.is_empty();
+        // the model keeps the points of the journey before power off
+        let first = !was.loaded && !changed.is_empty();
+        *self.situations.entry("first journey, other skips before power off").or_default() += usize::from(first);
+        if !was.loaded {
+            changed.clear();
+        }
+        let any = |holds: &dyn Fn(&Point, &Point) -> bool| changed.iter().any(|&(i, k)| holds(&old[i], &new[k]));
+        let at = |holds: &dyn Fn(usize, usize) -> bool| changed.iter().any(|&(i, k)| holds(i, k));
+        let nidc = |engine: &Engine, point: &Point| engine.route.segments()[usize::from(point.segment)].nidc;
+        let (gained, lost) = (any(&|_, point| point.skipped), any(&|point, _| point.skipped));
+        let ended = held_stop(before).filter(|point| !after.route.holds(point.nidtp));
+        let placed = usize::from(after.route.placed_points);
+        let mut note = |name, holds: bool| *self.situations.entry(name).or_default() += usize::from(holds);
+        note("trackside skip gained", gained);
+        note("trackside skip lost", lost);
+        note("trackside skips gained and lost", gained && lost);
+        note("trackside skips in another order", changed.windows(2).any(|pair| pair[0].0 > pair[1].0));
+        note("trackside skip, at another index", at(&|i, k| i != k));
+        note("trackside skip, in another country", any(&|old, new| nidc(before, old) != nidc(after, new)));
+        note("trackside skip, alignment another", any(&|old, new| old.alignment != new.alignment));
+        note("trackside skip, put behind", at(&|_, k| k < usize::from(now.first)));
+        note("trackside skip, not placed", at(&|_, k| k >= placed));
+        note("trackside skip gained, was a passing point", any(&|point, _| !point.stop));
+        note("trackside skip lost, is a passing point", any(&|_, point| !point.stop));
+        note("trackside skip gained, driver skipped it", at(&|i, k| new[k].skipped && was.skips >> i & 1 == 1));
+        note("trackside skip lost, driver skipped it", at(&|i, _| old[i].skipped && was.skips >> i & 1 == 1));
+        note("trackside skip gained at a reached stop", at(&|i, _| was.reached && i == usize::from(was.first)));
+        note("hold ended, other skips changed", ended.is_some_and(|held| any(&|_, point| point.nidtp != held.nidtp)));
+        note("trackside skip, End of Journey behind", some && after.route.end < now.first);
+        note("trackside skip in EG", some && was.state == EG);
+        note("trackside skip with a press pending", some && now.press);
+        note("trackside skip, one turned down before", some && self.just_turned_down);
+        note("trackside skips, ten and more", changed.len() >= 10);
+        note("trackside skip, 68 behind", some && (was.state, was.conditions) != (now.state, now.conditions));
     }
 
     /// Loads that are turned down, by document 02.

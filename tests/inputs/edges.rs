@@ -6,6 +6,7 @@ use crate::faults::good_events;
 use crate::held::held_stops;
 use crate::profiles::{base, ending, greatest_values, one_segment, p_journey, passing, record, stop};
 use crate::script::{Script, Start, STARTS};
+use crate::trackside::trackside_skips;
 use crate::trials::all_trials;
 use crate::turned_down::loads_turned_down;
 use model::calls::Call;
@@ -373,7 +374,7 @@ fn odd_input(script: &mut Script) {
 
 pub fn all_edges() -> Vec<Call> {
     let mut script = Script::default();
-    let cases: [fn(&mut Script); 24] = [
+    let cases: [fn(&mut Script); 25] = [
         trials_p,
         kinds_in_states,
         pairs_of_events,
@@ -397,6 +398,7 @@ pub fn all_edges() -> Vec<Call> {
         odd_input,
         loads_turned_down,
         held_stops,
+        trackside_skips,
         |script| script.calls.extend(all_trials().into_iter().map(|trial| trial.call)),
     ];
     cases.iter().for_each(|case| case(&mut script));

@@ -150,7 +150,7 @@ fn complete(random: &mut Random, mut journey: Journey, mut book: Vec<Record>) ->
     Profiles { journey, book, ..Profiles::default() }
 }
 
-/// The journey in force once more, with a change or two.
+/// The journey of the last good load once more, with a change or two.
 pub fn rewrite(random: &mut Random, profiles: &mut Profiles, engine: &Engine) {
     for _ in 0..random.below(3) {
         rewrite_once(random, profiles, engine);
@@ -162,9 +162,9 @@ fn rewrite_once(random: &mut Random, profiles: &mut Profiles, engine: &Engine) {
     let first = usize::from(engine.now.first).min(profiles.journey.points.len() - 1);
     let any = if random.chance(70) { first } else { random.below(profiles.journey.points.len()) };
     let point = &mut profiles.journey.points[any];
-    match random.below(12) {
+    match random.below(15) {
         0 if point.stop => point.skipped = !point.skipped,
-        1 => (point.stop, point.skipped, point.held) = (!point.stop, false, false),
+        1 => (point.stop, point.skipped, point.held) = (!point.stop, !point.stop && random.chance(40), false),
         2 => point.alignment = random.pick(&[None, Some(0), Some(1), Some(2)]),
         3 => move_end(random, profiles),
         4 => drop_first_point(profiles),
@@ -175,7 +175,34 @@ fn rewrite_once(random: &mut Random, profiles: &mut Profiles, engine: &Engine) {
         }
         8 | 9 if point.stop => point.held = !point.held,
         10 => move_country(profiles, any),
+        11 | 12 => change_skips(random, profiles),
+        13 => {
+            swap_names(random, profiles);
+            change_skips(random, profiles);
+        }
         _ => profiles.journey.operational = Some(random.next() as u32),
+    }
+}
+
+/// About half of the stops are skipped, or skipped no longer.
+fn change_skips(random: &mut Random, profiles: &mut Profiles) {
+    for point in profiles.journey.points.iter_mut().filter(|point| point.stop) {
+        point.skipped ^= random.chance(50);
+    }
+}
+
+/// Two points change their names, in the journey and in the book.
+fn swap_names(random: &mut Random, profiles: &mut Profiles) {
+    let points = &mut profiles.journey.points;
+    let (one, other) = (random.below(points.len()), random.below(points.len()));
+    let (first, second) = (points[one].nidtp, points[other].nidtp);
+    (points[one].nidtp, points[other].nidtp) = (second, first);
+    for point in profiles.book.iter_mut().flat_map(|record| &mut record.points) {
+        point.nidtp = match point.nidtp {
+            name if name == first => second,
+            name if name == second => first,
+            name => name,
+        };
     }
 }
 

@@ -13,5 +13,6 @@ mod random;
 pub mod rows;
 mod script;
 pub mod sizes;
+mod trackside;
 pub mod trials;
 mod turned_down;

@@ -13,7 +13,7 @@ use model::packets::TractionBrake;
 struct Generator {
     random: Random,
     engine: Engine,
-    /// The profiles of the last good load.
+    /// The profiles of the last good load, also of one before power off.
     profiles: Profiles,
     /// How often a traction request comes in EG and DE, in percent.
     requests: usize,
@@ -249,7 +249,7 @@ impl Generator {
     }
 
     fn load(&mut self) -> Call {
-        let mut profiles = if self.random.chance(45) && self.engine.now.loaded {
+        let mut profiles = if self.random.chance(45) {
             let mut profiles = self.profiles.clone();
             rewrite(&mut self.random, &mut profiles, &self.engine);
             profiles

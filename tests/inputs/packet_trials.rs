@@ -195,6 +195,17 @@ fn hold_revoked() -> Packet {
     told_of_the_stop([0, 2, 4, 0])
 }
 
+/// It gained the trackside skip, aligned to the middle, the End of Journey ahead: info 1 + 2 × 1 + 8 × 7 is 3B
+/// hexadecimal.
+fn trackside_skip() -> Packet {
+    told_of_the_stop([1, 1, 7, 0])
+}
+
+/// It lost it, the End of Journey passed: info 8 × 8 is 40 hexadecimal.
+fn trackside_revoked() -> Packet {
+    told_of_the_stop([0, 0, 8, 0])
+}
+
 fn told_of_the_stop(bytes: [u8; 4]) -> Packet {
     let header = Header { nidc: 17, nidsp: 500, offset: 39_900, speed: 0, operational: u32::MAX };
     timing_point(header, 17, 7001, bytes)
@@ -225,6 +236,8 @@ fn written() -> Vec<PacketTrial> {
         whole("62 at its ends", greatest()),
         whole("62 held", held()),
         whole("62 hold revoked", hold_revoked()),
+        whole("62 skipped by trackside", trackside_skip()),
+        whole("62 trackside skip revoked", trackside_revoked()),
         // status 1 is 08, 127 is 7F
         whole("62 stopping data", point(0, [0, 0, 1, 127])),
         // 1,024 is 0400, 16,384 is 4000, 32,767 is 7FFF
@@ -279,6 +292,8 @@ fn out_of_range() -> Vec<PacketTrial> {
         beyond("62 stopping data 1, status 0", point(0, [0, 0, 0, 1])),
         beyond("62 stopping data 1, status 3", point(0, [0, 0, 3, 1])),
         beyond("62 stopping data 1, status 4", point(0, [0, 0, 4, 1])),
+        beyond("62 stopping data 1, status 7", point(0, [0, 0, 7, 1])),
+        beyond("62 stopping data 1, status 8", point(0, [0, 0, 8, 1])),
         beyond("65 NID_C 1025", received(1025, 0, 0, 0)),
         beyond("65 NID_ATOTS 16385", received(0, 16_385, 0, 0)),
         beyond("65 date 32768", received(0, 0, 32_768, 0)),
@@ -311,6 +326,8 @@ fn read_back() -> Vec<PacketTrial> {
         back("62 at its ends", greatest()),
         back("62 held", held()),
         back("62 hold revoked", hold_revoked()),
+        back("62 skipped by trackside", trackside_skip()),
+        back("62 trackside skip revoked", trackside_revoked()),
         back("65 at its ends", received(1024, 16_384, 32_767, 0)),
         back("65 turned down", turned_down()),
         back("65 status 1 at its ends", received(1024, 16_384, 32_767, 1)),

@@ -57,6 +57,11 @@ pub fn held(point: JourneyPoint) -> JourneyPoint {
     JourneyPoint { held: true, ..point }
 }
 
+/// A stop that trackside skips.
+pub fn skipped(point: JourneyPoint) -> JourneyPoint {
+    JourneyPoint { skipped: true, ..point }
+}
+
 pub fn ending(point: JourneyPoint) -> JourneyPoint {
     JourneyPoint { end: true, ..point }
 }

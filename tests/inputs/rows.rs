@@ -97,11 +97,14 @@ fn skips(ready: &[Call]) -> Vec<Row> {
 
 fn loads(ready: &[Call], largest: Profiles) -> Vec<Row> {
     let cut = Profiles { book_cut: 1, ..largest.clone() };
+    let mut skipped = largest.clone();
+    skipped.journey.points.iter_mut().for_each(|point| point.skipped = true);
     let small = |segments| profiles(segments, 16, segments);
     vec![
         load("refused: largest book cut by a byte", ready, &cut),
         load("largest load, journey order", &on(), &largest),
         load("largest load, reverse order", &on(), &reversed(largest)),
+        load("largest load, 64 trackside skips", ready, &skipped),
         load("load of 1 segment, 16 points", &on(), &small(1)),
         load("load of 2 segments, 16 points", &on(), &small(2)),
         load("load of 4 segments, 16 points", &on(), &small(4)),

@@ -151,10 +151,12 @@ enum Changes {
         point: u8,
         status: u8,
     },
-    /// The old journey's stop at which the train is held no longer, if there is one.
+    /// The old journey's stop at which the train is held no longer, if there is one; which points' trackside skips are
+    /// others than in the old journey.
     Load {
         stamp: Stamp,
         revoked: Option<Revoked>,
+        trackside: Trackside,
     },
     Traction(TractionBrake),
 }
@@ -165,6 +167,42 @@ struct Revoked {
     nidc: u16,
     nidtp: u32,
     alignment: u8,
+}
+
+/// A bit for each point of the new journey: those that gained the trackside skip, and those that lost it.
+#[derive(Clone, Copy)]
+struct Trackside {
+    gained: u64,
+    lost: u64,
+}
+
+impl Trackside {
+    /// The points of the new journey that the old one names too, by NID_TP alone.
+    fn between(old: &Route, new: &Route) -> Trackside {
+        let mut skips = Trackside { gained: 0, lost: 0 };
+        for (k, point) in new.points().iter().enumerate() {
+            let before = old.points().iter().find(|before| before.nidtp == point.nidtp);
+            match before.map(|before| (before.skipped, point.skipped)) {
+                Some((false, true)) => skips.gained |= 1 << k,
+                Some((true, false)) => skips.lost |= 1 << k,
+                _ => {}
+            }
+        }
+        skips
+    }
+
+    /// The status that packet 62 has of the point, if it writes one.
+    fn status(&self, k: u8) -> Option<u8> {
+        match (self.gained >> k & 1, self.lost >> k & 1) {
+            (1, _) => Some(7),
+            (_, 1) => Some(8),
+            _ => None,
+        }
+    }
+
+    fn count(&self) -> usize {
+        (self.gained | self.lost).count_ones() as usize
+    }
 }
 
 impl Changes {
@@ -179,7 +217,9 @@ impl Changes {
                 SIZE_62 * (usize::from(to - from) + usize::from(reached) + usize::from(held))
             }
             Changes::Driver { .. } => SIZE_62,
-            Changes::Load { revoked, .. } => SIZE_65 + if revoked.is_some() { SIZE_62 } else { 0 },
+            Changes::Load { revoked, trackside, .. } => {
+                SIZE_65 + SIZE_62 * (usize::from(revoked.is_some()) + trackside.count())
+            }
             Changes::Traction(_) => SIZE_61,
         }
     }
@@ -238,7 +278,8 @@ impl Engine {
         let mut now = self.now;
         now.take_load(&route);
         now.settle(Event::Load, &route, false);
-        let changes = Changes::Load { stamp, revoked: self.revoked_by(&route) };
+        let (revoked, trackside) = (self.revoked_by(&route), self.trackside_by(&route));
+        let changes = Changes::Load { stamp, revoked, trackside };
         let answer = finish(&self.now, &now, &route, changes, out)?;
         self.now = now;
         self.route = route;
@@ -250,6 +291,12 @@ impl Engine {
         let &Point { segment, nidtp, alignment, .. } = self.now.held_stop(&self.route)?;
         let nidc = self.route.segments()[usize::from(segment)].nidc;
         (!next.holds(nidtp)).then_some(Revoked { nidc, nidtp, alignment })
+    }
+
+    /// The trackside skips that the new journey gives and takes back; a first journey does neither.
+    fn trackside_by(&self, next: &Route) -> Trackside {
+        let old = if self.now.loaded { &self.route } else { &Route::EMPTY };
+        Trackside::between(old, next)
     }
 
     /// Where each point of the journey stands.
@@ -555,12 +602,20 @@ fn put_points(now: &Now, route: &Route, changes: Changes, put: &mut impl FnMut(C
                 put(point_content(route, to, to < route.end, 3));
             }
         }
-        Changes::Load { revoked: Some(Revoked { nidc, nidtp, alignment }), .. } => {
-            let q_eoj_reached = u8::from(now.end_not_reached(route));
-            put(Content::Point { nidc, nidtp, q_eoj_reached, alignment, status: 4, stopping: 0 });
+        Changes::Load { revoked, trackside, .. } => {
+            let end_not_reached = now.end_not_reached(route);
+            if let Some(Revoked { nidc, nidtp, alignment }) = revoked {
+                let q_eoj_reached = u8::from(end_not_reached);
+                put(Content::Point { nidc, nidtp, q_eoj_reached, alignment, status: 4, stopping: 0 });
+            }
+            for k in 0..route.points().len() as u8 {
+                if let Some(status) = trackside.status(k) {
+                    put(point_content(route, k, end_not_reached, status));
+                }
+            }
         }
         Changes::Driver { point, status } => put(point_content(route, point, now.end_not_reached(route), status)),
-        Changes::None | Changes::Load { .. } | Changes::Traction(_) => {}
+        Changes::None | Changes::Traction(_) => {}
     }
 }
 

@@ -1,5 +1,5 @@
-//! Document 01, "Packets": 62, 65 and 68, and document 02's 61, its status 1 of 65 and statuses 3 and 4 of
-//! 62, written and read one at a time.
+//! Document 01, "Packets": 62, 65 and 68, and document 02's 61, its status 1 of 65 and statuses 3, 4, 7
+//! and 8 of 62, written and read one at a time.
 
 use crate::numbers::{within, Numbers};
 

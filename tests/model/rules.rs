@@ -1,6 +1,7 @@
 //! The history rule and the engagement rule of document 01, with the departure, the range, the packet of a load that is
-//! turned down and held stops of document 02 (Q-3, Q-1, Q-4, Q-5), read literally over the accepted events, and the States
-//! rows run over the conditions that follow from them. Nothing here looks at an engine, but for the comparison at the end.
+//! turned down, held stops and trackside skips of document 02 (Q-3, Q-1, Q-4, Q-5, Q-6), read literally over the
+//! accepted events, and the States rows run over the conditions that follow from them. Nothing here looks at an engine,
+//! but for the comparison at the end.
 
 use crate::calls::Call;
 use crate::engine::{Engine, Refused, Standing, AV, CO, DE, EG, FA, NA, NP, RE};
@@ -276,6 +277,20 @@ fn range_after(had: Option<u8>, request: i8) -> u8 {
     had.filter(|&range| range_holds(range, size)).unwrap_or_else(lowest)
 }
 
+/// "Someone holding both journeys can foretell which points the list names, in what order and with which status": each
+/// point of the new one whose NID_TP is in both, in the new one's order, with 7 where it gained the trackside skip and 8
+/// where it lost it.
+fn foretold<'a>(old: &'a Journey, new: &'a Journey) -> impl Iterator<Item = (&'a JourneyPoint, u8)> {
+    new.points.iter().filter_map(|point| {
+        let before = old.points.iter().find(|before| before.nidtp == point.nidtp)?;
+        match (before.skipped, point.skipped) {
+            (false, true) => Some((point, 7)),
+            (true, false) => Some((point, 8)),
+            _ => None,
+        }
+    })
+}
+
 /// The status that a packet 62 has.
 fn status(packet: &[u8]) -> Option<u8> {
     (packet[0] == 62).then(|| packet[23] / 8)
@@ -405,7 +420,7 @@ impl Rules {
     }
 
     /// Of the packets of the last accepted call: 61 stands among them just where it is due, with the event's bytes, and
-    /// so do those of a stop that is held or held no longer.
+    /// so do those of a stop that is held or held no longer, and of trackside skips.
     pub fn check_packets(&self, call: &Call, packets: &[&[u8]]) -> Result<(), String> {
         let due = if self.traction_due() { vec![&call.event[2..]] } else { vec![] };
         let written: Vec<&[u8]> = packets.iter().filter(|packet| packet[0] == 61).map(|packet| &packet[17..]).collect();
@@ -413,7 +428,8 @@ impl Rules {
             return Err(format!("packet 61: by the rules with {due:02X?}, written with {written:02X?}"));
         }
         self.check_held(packets)?;
-        self.check_revoked(packets)
+        self.check_revoked(packets)?;
+        self.check_trackside(packets)
     }
 
     /// "When a held stop becomes reached, packet 62 with status 3 follows the one with status 1": the same but for the
@@ -462,6 +478,38 @@ impl Rules {
             Ok(())
         } else {
             Err(format!("status 4: by the rules {:02X?}, written {packets:02X?}", self.revoked()))
+        }
+    }
+
+    /// "On an accepted load, each point whose NID_TP is in both journeys and that gained the trackside skip writes
+    /// packet 62 with status 7, and each that lost it status 8. They carry the new point's fields, .. in the new
+    /// journey's order. A first journey writes neither."
+    fn trackside(&self) -> Vec<Vec<u8>> {
+        let [.., before, last] = &self.moments[..] else { return Vec::new() };
+        let (Some(old), Some(new), Event::Load) = (&before.values.load, &last.values.load, last.event) else {
+            return Vec::new();
+        };
+        let fields = |(point, status): (&JourneyPoint, u8)| {
+            let (nidc, _) = new.journey.segments[usize::from(point.segment)];
+            let info = last.q_eoj_reached() + 2 * point.alignment.unwrap_or(0) + 8 * status;
+            [&nidc.to_be_bytes()[..], &point.nidtp.to_be_bytes(), &[info, 0]].concat()
+        };
+        foretold(&old.journey, &new.journey).map(fields).collect()
+    }
+
+    /// Of the packets of the last accepted call: those of status 7 and 8 are the ones foretold; they stand behind 65,
+    /// or behind the one of status 4 where that is due, and are headed as 65 is.
+    fn check_trackside(&self, packets: &[&[u8]]) -> Result<(), String> {
+        let due = self.trackside();
+        let first = if self.revoked().is_some() { 2 } else { 1 };
+        let tells = |k: &usize| matches!(status(packets[*k]), Some(7 | 8));
+        let written: Vec<usize> = (0..packets.len()).filter(tells).collect();
+        let places: Vec<usize> = (first..first + due.len()).collect();
+        let as_due = |(&k, due): (&usize, &Vec<u8>)| packets[k][1..17] == packets[0][1..17] && packets[k][17..] == *due;
+        if written == places && written.iter().zip(&due).all(as_due) {
+            Ok(())
+        } else {
+            Err(format!("statuses 7 and 8: by the rules {due:02X?}, written {packets:02X?}"))
         }
     }
 

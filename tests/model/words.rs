@@ -32,8 +32,8 @@ pub const STATUSES: [&str; 9] = [
     "hold revoked",
     "skipped by the driver",
     "driver skip revoked",
-    "status 7",
-    "status 8",
+    "skipped by trackside",
+    "trackside skip revoked",
 ];
 /// Status of a load in packet 65.
 pub const LOADS: [&str; 2] = ["journey taken", "profiles turned down"];

@@ -20,7 +20,7 @@ const EDGE: f64 = 7.0;
 const SEGMENTS: f64 = 88.0;
 
 /// What packet 62 tells, at its point, by its status.
-const TOLD: [&str; 7] = ["passed", "stopped", "departed", "held", "released", "skip", "revoked"];
+const TOLD: [&str; 9] = ["passed", "stopped", "departed", "held", "revoked", "skip", "revoked", "skipped", "revoked"];
 
 pub struct Journey<'a> {
     panels: Vec<Option<Panel<'a>>>,
@@ -321,7 +321,11 @@ pub fn draw_status(svg: &mut Svg, status: u8, x: f64, y: f64) {
             svg.line("cross", (x - 4.0, y - 4.0), (x + 4.0, y + 4.0));
             svg.line("cross", (x - 4.0, y + 4.0), (x + 4.0, y - 4.0));
         }
-        _ => svg.circle("ring", x, y, 4.5),
+        6 => svg.circle("ring", x, y, 4.5),
+        _ => {
+            let corners = [(x, y - 5.5), (x + 5.5, y), (x, y + 5.5), (x - 5.5, y)];
+            svg.polygon(if status == 7 { "mark trackside" } else { "ring" }, &corners);
+        }
     }
 }
 

@@ -10,9 +10,20 @@ pub const MOST: usize = 10;
 /// So many kinds of recordings are told or drawn at most.
 pub const SHOWN: usize = 40;
 
-/// What may be recorded of a point, by the status in packet 62; the last is that none of the first three was.
-const KINDS: [&str; 6] = ["passed", "stopped", "departed", "held", "hold revoked", "never passed, stopped or departed"];
-const NEVER: usize = 5;
+/// What may be recorded of a point, driver skips aside; the last is that none of the first three was.
+const KINDS: [&str; 8] = [
+    "passed",
+    "stopped",
+    "departed",
+    "held",
+    "hold revoked",
+    "skipped by trackside",
+    "trackside skip revoked",
+    "never passed, stopped or departed",
+];
+const NEVER: usize = 7;
+/// The status in packet 62 of each but the last.
+const RECORDED: [u8; NEVER] = [0, 1, 2, 3, 4, 7, 8];
 /// So many statuses tell where a point stands.
 const STANDS: usize = 3;
 
@@ -22,8 +33,8 @@ pub struct Outcome([u64; NEVER]);
 
 impl Outcome {
     pub fn note(&mut self, point: usize, status: u8) {
-        if let Some(points) = self.0.get_mut(usize::from(status)) {
-            *points |= 1 << point;
+        if let Some(kind) = RECORDED.iter().position(|&recorded| recorded == status) {
+            self.0[kind] |= 1 << point;
         }
     }
 

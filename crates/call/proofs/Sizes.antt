@@ -1,4 +1,4 @@
--- No call writes more than 1,644 bytes, whatever engine it finds: with so much memory 16 does not come.
+-- No call writes more than 1,673 bytes, whatever engine it finds: with so much memory 16 does not come.
 use Rattle.std.specs.Prelude.{if◌then◌else◌}
 use Prim.Native.Nat.{ℕ, zero, suc, ◌+◌, ◌-◌, ◌*◌, ◌≤◌}
 use mathlib.Core.Path.{◌≡◌, refl, sym, ap, subst, ◌∙◌}
@@ -41,11 +41,13 @@ use Rattle.traction.specs.Requests.{written_content}
 use Rattle.traction.specs.View.{remembered_in}
 use Rattle.traction.proofs.Laws.{not_written}
 use Rattle.hold.specs.Hold.{held_stop_in, hold_ended}
+use Rattle.trackside.specs.Trackside.{trackside_changes}
+use Rattle.trackside.proofs.Laws.{told_most}
 use Rattle.call.specs.Packets.{change_in, changes_in, own_packets}
 use Rattle.look_up.specs.LookUp.{position_after, look_up}
 use Rattle.look_up.specs.declared.LookedUp.{LookedUp}
 use Rattle.call_values.specs.Rows.{offset_beyond, same_bool}
-use Rattle.call.specs.Effect.{Effect, effect_as, effect, train_with, values_only, position_effect, reported_in, load_effect, skip_effect, skipped_in, loaded_in}
+use Rattle.call.specs.Effect.{Effect, effect_as, effect, train_with, values_only, position_effect, reported_in, load_effect, skip_effect, skipped_in, progress_loaded, loaded_in}
 use Rattle.call_values.specs.Call.{Call, bytes_written}
 use Rattle.call_values.proofs.Laws.{refused_fits}
 use Rattle.call.specs.Call.{Step, status_in, step_by, judged, outcome_of, step_of}
@@ -123,7 +125,7 @@ effect_bytes f = load_bytes f.loaded + 25 * (ended f.hold_ended + length f.chang
 
 abbrev Small : Judged Effect → Type 0
 Small (refuse n) = Unit {0}
-Small (accept f) = effect_bytes f ≤ 1625
+Small (accept f) = effect_bytes f ≤ 1654
 
 small_row : (n : ℕ) (b : Bool) (f : Effect) → Small (accept f) → Small (then_judge (row n b) (λ a. accept f))
 small_row n true f h = tt
@@ -138,9 +140,15 @@ small-load : (e : Engine) (c : Carried) (x : Judged LoadValue) → Small (then_j
 small-load e c (refuse n) = tt
 small-load e c (accept l) = go (hold_ended (held_stop_in e) l.route)
   where
-    go : (o : Option Point) → 29 + 25 * (ended o + 0) ≤ 1625
-    go None = omega arith
-    go (Some p) = omega arith
+    told : List Change
+    told = trackside_changes (route_in e) l.route (progress_loaded e c l.route)
+
+    few : length told ≤ 64
+    few = told_most (route_in e) l.route (λ k s. change k s (progress_loaded e c l.route))
+
+    go : (o : Option Point) → 29 + 25 * (ended o + length told) ≤ 1654
+    go None = omega (arith, few)
+    go (Some p) = omega (arith, few)
 
 small-report : (e : Engine) (c : Carried) (l : LookedUp) → length (changes_of (route_in e) e.progress l.report) ≤ 65 → Small (position_effect e c l)
 unfolding position_effect
@@ -202,19 +210,19 @@ own_none e event m q =
 
 -- all but packet 68
 with_own : (e : Engine) (journey book : List ℕ) (event : Event) (f : Effect) (m : Engine) → effect e journey book event ≡ accept f
-    → effect_bytes f + length (joined (own_packets e event m)) ≤ 1625
+    → effect_bytes f + length (joined (own_packets e event m)) ≤ 1654
 with_own e journey book event f m q = go (carried event).traction refl (traction-of event)
   where
-    go : (o : Option TractionRequest) → (carried event).traction ≡ o → OfTraction o event → effect_bytes f + length (joined (own_packets e event m)) ≤ 1625
+    go : (o : Option TractionRequest) → (carried event).traction ≡ o → OfTraction o event → effect_bytes f + length (joined (own_packets e event m)) ≤ 1654
     go None p k =
-        let h : effect_bytes f ≤ 1625 = subst Small q (small e journey book event) in
+        let h : effect_bytes f ≤ 1654 = subst Small q (small e journey book event) in
         omega (arith, h, own_none e event m p)
     go (Some x) p k =
         let z = request-small e journey book x f (subst (λ (v : Event). effect e journey book v ≡ accept f) k q) in
         omega (arith, z, size_61 (route_in m) m.train.position (written_content (state_at e.control.state) event (remembered_in e.traction) (remembered_in m.traction)))
 
 -- "16 shorter than this event's packets"
-pub bytes_most : (e : Engine) (journey book : List ℕ) (event : Event) (f : Effect) → effect e journey book event ≡ accept f → length (joined (step_by e event f).packets) ≤ 1644
+pub bytes_most : (e : Engine) (journey book : List ℕ) (event : Event) (f : Effect) → effect e journey book event ≡ accept f → length (joined (step_by e event f).packets) ≤ 1673
 unfolding packets_of
 bytes_most e journey book event f q =
     let m = (step_by e event f).engine in
@@ -232,16 +240,16 @@ bytes_most e journey book event f q =
     omega (arith, h, a, b, d, size_65 j x f.loaded, size_62s j x changes, n, size_68 j x due (status_in m).state (status_in m).conditions)
 
 -- with so much memory that row does not refuse
-pub row_16 : (e : Engine) (journey book memory : List ℕ) (event : Event) (f : Effect) → effect e journey book event ≡ accept f → 1644 ≤ length memory
+pub row_16 : (e : Engine) (journey book memory : List ℕ) (event : Event) (f : Effect) → effect e journey book event ≡ accept f → 1673 ≤ length memory
     → row 16 (ltb (length memory) (length (joined (step_by e event f).packets))) ≡ accept tt
 row_16 e journey book memory event f q h = rw (le-ltb (length memory) (length (joined (step_by e event f).packets)) (omega (arith, bytes_most e journey book event f q)))
 
 -- every call, accepted or refused, writes no more
-pub call_bytes_most : (e : Engine) (c : Call) → bytes_written (step_of e c).answer ≤ 1644
+pub call_bytes_most : (e : Engine) (c : Call) → bytes_written (step_of e c).answer ≤ 1673
 unfolding step_of outcome_of
 call_bytes_most e c = go (judged e c) refl
   where
-    go : (j : Judged Step) → judged e c ≡ j → bytes_written (outcome_of e c.memory j).answer ≤ 1644
+    go : (j : Judged Step) → judged e c ≡ j → bytes_written (outcome_of e c.memory j).answer ≤ 1673
     go (refuse n) q = omega (arith, (refused_fits (route_in e) e.train.position n (length c.memory)).1)
     go (accept s) q =
         let t = taken e c s q in

@@ -148,6 +148,15 @@ holding = record {
 abbrev pub at_hold : ℕ → Progress → Engine
 at_hold s p = engine holding skips (train 10000 0 400) p (inputs 0 0 31) (control s false true)
 
+-- the first journey, with 7001 and 7004 skipped by trackside, and 7002 not
+abbrev pub reskipped : Route
+reskipped = record {
+  load = journey.load;
+  points = point_at 7001 10000 0 true true ∷ point_at 7002 20000 0 true false ∷ point_at 7003 30000 0 false false ∷ point_at 7004 40000 0 true true
+      ∷ point_at 7005 50000 0 true false ∷ [];
+  segments = segment ∷ [];
+}
+
 abbrev pub passed_by : Route
 passed_by = record {
   load = record { operational = 0x12345678; valid = true; ending = 0; point_count = 1; segment_count = 1 };
@@ -336,6 +345,16 @@ pub record Anchors : Type 0 where
       ≡ packet65 (header 10000 0 0x9ABCDEF0) ∷ packet62 (header 10000 0 0x9ABCDEF0) 7001 1 4 ∷ []
   pub load_ends_all : (step_by (at_hold 4 (progress 0 true)) Load (loaded_in (at_hold 4 (progress 0 true)) (carried Load) (loading_of passed_by))).packets
       ≡ packet65 (header 10000 0 0x12345678) ∷ packet62 (header 10000 0 0x12345678) 7001 0 4 ∷ packet68 (header 10000 0 0x12345678) 2 499 ∷ []
+  -- 02, Q-6: "each point whose NID_TP is in both journeys and that gained the trackside skip .. status 7, and each that lost it status 8", "also where the load
+  -- puts it behind": 7001 is; "A first journey writes neither"; a driver skip, that of 7004, is none
+  pub skips_told : (loaded_in under_way (carried Load) (loading_of reskipped)).changes
+      ≡ change 0 7 (progress 1 false) ∷ change 1 8 (progress 1 false) ∷ change 3 7 (progress 1 false) ∷ []
+  pub first_skips : (loaded_in unloaded (carried Load) (loading_of reskipped)).changes ≡ []
+  pub driver_skips : map (λ (j : Route). (loaded_in under_way (carried Load) (loading_of j)).changes) (journey ∷ another ∷ []) ≡ [] ∷ [] ∷ []
+  -- they "come after any status 4", that of 7001, "in the new journey's order"
+  pub skips_written : (step_by (at_hold 4 (progress 0 true)) Load (loaded_in (at_hold 4 (progress 0 true)) (carried Load) (loading_of reskipped))).packets
+      ≡ packet65 (header 10000 0 0x12345678) ∷ packet62 (header 10000 0 0x12345678) 7001 1 4 ∷ packet62 (header 10000 0 0x12345678) 7001 1 7
+      ∷ packet62 (header 10000 0 0x12345678) 7002 1 8 ∷ packet62 (header 10000 0 0x12345678) 7004 1 7 ∷ []
   -- "EG: .. else not O or not T: DE", by the conditions after the points moved: the End of Journey is passed
   pub end_in_EG : does engaged (PositionReport (at 30001 9)) >>= judge engaged (PositionReport (at 30001 9)) (replicate 44 0)
       ≡ accept (record {

@@ -20,6 +20,7 @@ use Rattle.timing.specs.Changes.{Change, change, changes_of, status_skipped, sta
 use Rattle.timing.specs.declared.Reported.{Reported}
 use Rattle.call_values.specs.Rows.{offset_beyond, same_bool}
 use Rattle.hold.specs.Hold.{held_stop_in, hold_ended}
+use Rattle.trackside.specs.Trackside.{trackside_changes}
 use Rattle.look_up.specs.LookUp.{look_up}
 use Rattle.look_up.specs.declared.LookedUp.{LookedUp}
 
@@ -87,18 +88,22 @@ position_effect e c l = do
   row 13 (offset_beyond l.segment (train_with e c).position)
   accept (reported_in e c l.report)
 
--- "Load, judged on the new journey and book with no driver skip"; "points that a load puts behind write none"
+-- "Load, judged on the new journey and book with no driver skip"
+abbrev pub progress_loaded : Engine → Carried → Route → Progress
+progress_loaded e c j = progress (target j (train_with e c).position (train_with e c).length) false
+
+-- that it puts a point behind changes nothing of it; 02, Q-6: a trackside skip gained or lost does
 abbrev pub loaded_in : Engine → Carried → LoadValue → Effect
 loaded_in e c l =
     record {
       journey = replaced l.route;
       train = train_with e c;
-      progress = progress (target l.route (train_with e c).position (train_with e c).length) false;
+      progress = progress_loaded e c l.route;
       inputs = inputs_with e c;
       control = e.control;
       loaded = Some l.head;
       hold_ended = hold_ended (held_stop_in e) l.route;
-      changes = [];
+      changes = trackside_changes (route_in e) l.route (progress_loaded e c l.route);
       reached = false;
     }
 

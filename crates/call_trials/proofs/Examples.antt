@@ -2,7 +2,7 @@
 use mathlib.Core.Path.{refl}
 use Rattle.call.proofs.Computed.{computed}
 use Rattle.call_trials.specs.Engines.{on, failed, started, ready, pressed, driving, degraded, stopped, near_b, ended, before_hold, at_hold}
-use Rattle.call_trials.specs.Examples.{Refused, RefusedLoads, TurnedDown, Held, RefusedLater, States, Conditions, Points, Loads, Requests}
+use Rattle.call_trials.specs.Examples.{Refused, RefusedLoads, TurnedDown, Held, Trackside, RefusedLater, States, Conditions, Points, Loads, Requests}
 
 pub refused : Refused
 unfolding computed on failed started ready driving
@@ -135,6 +135,28 @@ held = record {
   fault_there = record { answer = refl; memory = refl };
   bytes_49 = refl;
   bytes_53 = refl;
+}
+
+pub trackside : Trackside
+unfolding computed on ready near_b ended
+trackside = record {
+  given = record { answer = refl; memory = refl };
+  back = record { answer = refl; memory = refl };
+  again = record { answer = refl; memory = refl };
+  stop = record { answer = refl; memory = refl };
+  unplaced = record { answer = refl; memory = refl };
+  behind = record { answer = refl; memory = refl };
+  ended_before = record { answer = refl; memory = refl };
+  renewed = record { answer = refl; memory = refl };
+  moved = record { answer = refl; memory = refl };
+  first = record { answer = refl; memory = refl };
+  first_again = record { answer = refl; memory = refl };
+  driver_skip = record { answer = refl; memory = refl };
+  driver_skip_too = record { answer = refl; memory = refl };
+  driver_skip_lost = record { answer = refl; memory = refl };
+  turned_down_there = refl;
+  turned_down_before = record { answer = refl; memory = refl };
+  bytes_78 = refl;
 }
 
 pub refused_later : RefusedLater

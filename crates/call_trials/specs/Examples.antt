@@ -1,12 +1,12 @@
 -- Calls over one journey: what they answer, the packets in their memory, and what the table of numbers refuses. The values are those of the
 -- independent model (tests/model), looked over against documents 01 and 02.
-use Rattle.std.specs.Prelude.{ℕ, ◌≡◌, List, [], ◌∷◌, ◌++◌, map, true, false, drop, take, set, replicate}
+use Rattle.std.specs.Prelude.{ℕ, ◌≡◌, List, [], ◌∷◌, ◌++◌, ◌+◌, map, true, false, drop, take, set, replicate}
 use Rattle.engine_value.specs.Engine.{fresh}
 use Rattle.position.specs.declared.Standing.TheVariants.{Unused, Targeted, Passed}
 use Rattle.call_values.specs.Call.{Call, refused}
 use Rattle.call.specs.Call.{Outcome, step_of}
 use Rattle.call.specs.Trials.{plain, loads, after_each, answered, Gives, power_on, configured, reports, press, mode, lever, train_length, skip, revoke}
-use Rattle.call_trials.specs.Journey.{journey, first_as, without_first, journey_held, book, book_with_c, short_records}
+use Rattle.call_trials.specs.Journey.{journey, first_as, without_first, journey_held, journey_skips, journey_moved, book, book_with_c, short_records}
 use Rattle.call_trials.specs.Calls.{power_off, fault, in_a, in_b, in_c, in_d, undefined, nowhere, report, load, requested, traction, others, lending, Refuses, TurnsDown, answers_to, standings, packet, plain_packet, point, received, not_received}
 use Rattle.call_trials.specs.Engines.{on, failed, started, ready, pressed, driving, degraded, stopped, near_b, ended, before_hold, at_hold}
 
@@ -175,7 +175,8 @@ pub record Held : Type 0 where
       ++ packet 62 (in_a 19900 0) (point 17 7001 0x21 0x00))
   pub skipped : Gives (step_of at_hold (loads (first_as 0x3B) book)) 4 true
       (packet 65 (in_a 19900 0) (received 17)
-      ++ packet 62 (in_a 19900 0) (point 17 7001 0x21 0x00))
+      ++ (packet 62 (in_a 19900 0) (point 17 7001 0x21 0x00)
+      ++ packet 62 (in_a 19900 0) (point 17 7001 0x39 0x00)))
   pub lacking : Gives (step_of at_hold (loads without_first book)) 4 true
       (packet 65 (in_a 19900 0) (received 17)
       ++ packet 62 (in_a 19900 0) (point 17 7001 0x21 0x00))
@@ -186,7 +187,9 @@ pub record Held : Type 0 where
   pub kept_again : Gives (step_of (after_each at_hold (loads journey_held book ∷ press ∷ [])) (report (in_a 19900 0))) 4 true
       (packet 62 (in_a 19900 0) (point 17 7001 0x09 0x55)
       ++ packet 62 (in_a 19900 0) (point 17 7001 0x19 0x00))
-  pub kept_skipped : Gives (step_of at_hold (loads (first_as 0xBB) book)) 4 true (packet 65 (in_a 19900 0) (received 17))
+  pub kept_skipped : Gives (step_of at_hold (loads (first_as 0xBB) book)) 4 true
+      (packet 65 (in_a 19900 0) (received 17)
+      ++ packet 62 (in_a 19900 0) (point 17 7001 0x39 0x00))
   -- profiles turned down, power off and a fault end no hold
   pub turned_down_there : TurnsDown at_hold (loads [] book) 9 (packet 65 (in_a 19900 0) (not_received 17))
   pub off_there : Gives (step_of at_hold power_off) 0 false (plain_packet 68 nowhere (0x08 ∷ 0x00 ∷ []))
@@ -194,6 +197,66 @@ pub record Held : Type 0 where
   -- "16 shorter than this event's packets": two packets 62 have 50 bytes; 65 and 62 have 54
   pub bytes_49 : Refuses before_hold (lending 49 (report (in_a 19850 0))) 16
   pub bytes_53 : Refuses at_hold (lending 53 load) 16
+
+-- ---- 02, Q-6: skips by the trackside
+
+-- 7002 gains the skip, 7003 loses it: status 7 and 8, with Q_EOJ_REACHED q
+abbrev pub both_told : List ℕ → ℕ → List ℕ
+both_told x q = packet 62 x (point 17 7002 (0x3A + q) 0x00) ++ packet 62 x (point 17 7003 (0x44 + q) 0x00)
+
+pub record Trackside : Type 0 where
+  -- "each point whose NID_TP is in both journeys and that gained the trackside skip writes packet 62 with status 7, and each that lost it status 8": a passing
+  -- point that becomes a skipped stop, and a skipped stop that becomes one, with stopping data 0. And back
+  pub given : Gives (step_of ready (loads journey_skips book)) 4 true (packet 65 (in_a 10000 0) (received 17) ++ both_told (in_a 10000 0) 1)
+  pub back : Gives (step_of (after_each ready (loads journey_skips book ∷ [])) load) 4 true
+      (packet 65 (in_a 10000 0) (received 17)
+      ++ (packet 62 (in_a 10000 0) (point 17 7002 0x43 0x00)
+      ++ packet 62 (in_a 10000 0) (point 17 7003 0x3D 0x00)))
+  pub again : Gives (step_of (after_each ready (loads journey_skips book ∷ [])) (loads journey_skips book)) 4 true (packet 65 (in_a 10000 0) (received 17))
+  -- a stop, with stopping data in the journey; one that is not placed
+  pub stop : Gives (step_of ready (loads (first_as 0x3B) book)) 4 true
+      (packet 65 (in_a 10000 0) (received 17)
+      ++ packet 62 (in_a 10000 0) (point 17 7001 0x39 0x00))
+  pub unplaced : Gives (step_of ready (loads (set journey 69 0x33) book)) 4 true
+      (packet 65 (in_a 10000 0) (received 17)
+      ++ packet 62 (in_a 10000 0) (point 34 7006 0x39 0x00))
+  -- "also where the load puts it behind"; Q_EOJ_REACHED of the new journey after the load: all but 7006 are behind
+  pub behind : Gives (step_of (after_each near_b (report (in_b 80000 1) ∷ [])) (loads journey_skips book)) 1 false
+      (packet 65 (in_b 80000 1) (received 34) ++ both_told (in_b 80000 1) 0)
+  -- the End of Journey is reached before the load, and after it none is
+  pub ended_before : Gives (step_of ended (loads journey_skips book)) 1 false
+      (packet 65 (in_b 11000 0) (received 34)
+      ++ (both_told (in_b 11000 0) 1
+      ++ packet 68 (in_b 11000 0) (0x0D ∷ 0xC1 ∷ [])))
+  -- "the new point's fields", and the header after the load: NID_OPERATIONAL 12345679, 7002 rear
+  pub renewed : Gives (step_of ready (loads (set (set journey_skips 47 0x02) 4 0x79) book)) 4 true
+      (65 ∷ (in_a 10000 0 ++ (0x12 ∷ 0x34 ∷ 0x56 ∷ 0x79 ∷ received 17))
+      ++ (62 ∷ (in_a 10000 0 ++ (0x12 ∷ 0x34 ∷ 0x56 ∷ 0x79 ∷ point 17 7002 0x3D 0x00))
+      ++ (62 ∷ (in_a 10000 0 ++ (0x12 ∷ 0x34 ∷ 0x56 ∷ 0x79 ∷ point 17 7003 0x45 0x00)))))
+  -- now in C, in the other country, behind the others
+  pub moved : Gives (step_of ready (loads journey_moved book)) 4 true
+      (packet 65 (in_a 10000 0) (received 17)
+      ++ packet 62 (in_a 10000 0) (point 34 7001 0x39 0x00))
+  -- "A first journey writes neither", also the first after power off
+  pub first : Gives (step_of on (loads journey_skips book)) 1 false
+      (packet 65 nowhere (received 1024)
+      ++ packet 68 nowhere (0x09 ∷ 0xC1 ∷ []))
+  pub first_again : Gives (step_of (after_each ready (power_off ∷ power_on ∷ [])) (loads journey_skips book)) 1 false
+      (packet 65 nowhere (received 1024)
+      ++ packet 68 nowhere (0x09 ∷ 0xC1 ∷ []))
+  -- a driver skip does not count: neither 7001 nor 7003 has the trackside skip by it, or loses it with it
+  pub driver_skip : Gives (step_of (after_each ready (skip 7001 ∷ [])) (loads (first_as 0x3B) book)) 4 true
+      (packet 65 (in_a 10000 0) (received 17)
+      ++ packet 62 (in_a 10000 0) (point 17 7001 0x39 0x00))
+  pub driver_skip_too : Gives (step_of (after_each ready (skip 7003 ∷ [])) (loads journey_skips book)) 4 true
+      (packet 65 (in_a 10000 0) (received 17) ++ both_told (in_a 10000 0) 1)
+  pub driver_skip_lost : Gives (step_of (after_each ready (skip 7001 ∷ [])) load) 4 true (packet 65 (in_a 10000 0) (received 17))
+  -- profiles turned down tell of none; the old journey is the one in force
+  pub turned_down_there : TurnsDown ready (loads (set journey_skips 74 0x03) book) 11 (packet 65 (in_a 10000 0) (not_received 17))
+  pub turned_down_before : Gives (step_of (after_each ready (loads [] book ∷ [])) (loads journey_skips book)) 4 true
+      (packet 65 (in_a 10000 0) (received 17) ++ both_told (in_a 10000 0) 1)
+  -- "16 shorter than this event's packets": 65 and two 62 have 79 bytes
+  pub bytes_78 : Refuses ready (lending 78 (loads journey_skips book)) 16
 
 -- ---- Numbers 13 to 16: position, skip, output
 

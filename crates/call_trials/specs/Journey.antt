@@ -87,6 +87,14 @@ first_as m = set journey 34 m
 abbrev pub without_first : List ℕ
 without_first = take 33 journey ++ (0x05 ∷ drop 41 journey)
 
+-- 02, Q-6: 7002 is a stop that trackside skips, 7003 a passing point
+abbrev pub journey_skips : List ℕ
+journey_skips = set (set journey 41 0x37) 48 0x07
+
+-- 7001 as the last point, in C, skipped by trackside
+abbrev pub journey_moved : List ℕ
+journey_moved = take 33 journey ++ (0x06 ∷ (drop 41 journey ++ (0x33 ∷ 0x00 ∷ 0x00 ∷ 0x1B ∷ 0x59 ∷ 0x02 ∷ [])))
+
 -- 02, Q-5: 7001 is held
 abbrev pub journey_held : List ℕ
 journey_held = first_as 0x9B

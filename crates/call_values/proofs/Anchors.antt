@@ -12,6 +12,7 @@ anchors = record {
   header_without = refl;
   points = refl;
   held = refl;
+  trackside = refl;
   hold_revoked_lem = refl;
   received_at = refl;
   received_none = refl;

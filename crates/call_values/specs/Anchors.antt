@@ -84,6 +84,9 @@ pub record Anchors : Type 0 where
   -- 02, Q-5: status 3 has the fields of status 1, but "stopping data 0 unless status 1"; status 4 those of the old point, which the journey need not have
   pub held : map (timing_point route (at 17 500 39900)) (point_change stop_7002 1 true ∷ point_change stop_7002 3 true ∷ [])
       ≡ packet62 22 7002 1 1 1 66 ∷ packet62 22 7002 1 1 3 0 ∷ []
+  -- Q-6: 7 and 8, with stopping data 0
+  pub trackside : map (timing_point route (at 17 500 39900)) (point_change stop_7001 7 true ∷ point_change stop_7002 8 false ∷ [])
+      ≡ packet62 21 7001 1 2 7 0 ∷ packet62 22 7002 0 1 8 0 ∷ []
   pub hold_revoked_lem : map (timing_point route (at 17 500 39900)) (hold_revoked (Some (stop_point 7009 99 2 77)) true ++ hold_revoked (Some stop_7001) false ++ hold_revoked None true)
       ≡ packet62 99 7009 1 2 4 0 ∷ packet62 21 7001 0 2 4 0 ∷ []
   -- "65 on an accepted load: NID_C (1,024 unless the position is known), NID_ATOTS, date, seconds, counter, status 0": within the length and beyond it;

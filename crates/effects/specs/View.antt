@@ -1,13 +1,17 @@
 -- What the code's answers stand for.
-use Rattle.std.specs.Prelude.{ℕ, ◌≡◌, Bool, false, ◌&&◌, if◌then◌else◌}
+use Rattle.std.specs.Prelude.{ℕ, ◌≡◌, ◌++◌, Bool, false, ◌&&◌, if◌then◌else◌}
 use Rattle.std.specs.Prelude.{Some, None, is_some, option_map}
-use Rattle.engine_value.specs.Engine.{progress}
+use Rattle.wire.specs.Lists.{tabulate}
+use Rattle.engine_value.specs.Engine.{Route, max_points, route_in, progress}
 use Rattle.engine_value.specs.View.{route_view}
 use Rattle.engine_value.specs.declared.Engine.{Engine}
 use Rattle.timing.specs.declared.Reported.{Reported}
 use Rattle.conditions.specs.declared.RouteConditions.{RouteConditions}
+use Rattle.hold.specs.Hold.{held_stop_in, hold_ended}
+use Rattle.trackside.specs.View.{status_at}
 use Rattle.look_up.specs.LookUp.{route_conditions_in}
-use Rattle.event_packets.specs.View.{changes_view}
+use Rattle.event_packets.specs.View.{told_hold, told_view, changes_view}
+use Rattle.event_packets.specs.declared.Told.{Told}
 use Rattle.packets.specs.declared.PointStatus.{PointStatus}
 use Rattle.event_packets.specs.declared.Changes.{Changes}
 use Rattle.event_packets.specs.declared.Received.{Received}
@@ -34,8 +38,8 @@ effect_view f =
       inputs = f.inputs;
       control = f.control;
       loaded = option_map (λ (r : Received). r.head) f.received;
-      hold_ended = f.hold_ended;
-      changes = changes_view f.changes;
+      hold_ended = told_hold f.told;
+      changes = told_view f.progress f.told ++ changes_view f.changes;
       reached = is_some f.changes.last;
     }
 
@@ -58,6 +62,11 @@ reported_changes k t held =
       held = if t.reached && held then Some (record { index = t.progress.next; status = PointStatus.Held; after = t.progress }) else None;
     }
 
+-- what a load of the journey j tells of the journey before it
+pub record TellsOf (e : Engine) (j : Route) (t : Told) : Type 0 where
+  pub hold : t.hold_ended ≡ hold_ended (held_stop_in e) j
+  pub skips : t.statuses ≡ tabulate max_points (status_at (route_in e) j)
+
 -- the groups of an engine as they are
 abbrev pub unchanged : Engine → RouteConditions → Effect
 unchanged e after =
@@ -68,7 +77,7 @@ unchanged e after =
       inputs = e.inputs;
       control = e.control;
       received = None;
-      hold_ended = None;
+      told = None;
       changes = no_changes;
       after = after;
     }

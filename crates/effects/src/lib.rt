@@ -3,19 +3,18 @@
 
 ghost use Rattle.std.specs.Prelude.{◌≡◌, ℕ, IfOk};
 ghost use Rattle.wire.specs.View.{judged_by};
+ghost use Rattle.engine_value.specs.View.{route_view};
 ghost use Rattle.engine_value.specs.declared.Engine as engine;
 ghost use Rattle.event.specs.Kinds.{other, report, skip, load, role_of, carried};
 ghost use Rattle.call_values.specs.Rows.{offset_beyond};
 ghost use Rattle.call.specs.Effect.{route_after, train_with, inputs_with, values_only, power_off, position_effect, loaded_in, skip_effect};
 ghost use Rattle.route.specs.View.{loaded_view};
-ghost use Rattle.effects.specs.View.{reported_changes, unchanged, journey_view, effect_view, Beside};
+ghost use Rattle.effects.specs.View.{reported_changes, unchanged, journey_view, effect_view, Beside, TellsOf};
 
 use conditions::RouteConditions;
-use engine_value::{
-    Control, Engine, Inputs, Load, Point, Position, Progress, Route, Train, UNDEFINED,
-};
+use engine_value::{Control, Engine, Inputs, Load, Position, Progress, Route, Train, UNDEFINED};
 use event::Event;
-use event_packets::{Change, Changes, Received};
+use event_packets::{Change, Changes, Received, Told};
 use look_up::Occurrence;
 use packets::PointStatus;
 use position::{Named, Place};
@@ -45,7 +44,7 @@ impl<'a> JourneyAfter<'a> {
     }
 }
 
-// The groups with the event's values, the packet 65 of a journey that was loaded, the stop whose hold that ended, the points that changed, and
+// The groups with the event's values, the packet 65 of a journey that was loaded, what it tells of the journey before it, the points that changed, and
 // conditions 4, 6 and 7 after it.
 // `Beside` is said of it in the contracts: as its ghost field it would need the engine here, lent, and nothing could be stored there meanwhile.
 #[derive(Clone, Copy)]
@@ -56,7 +55,7 @@ pub struct Effect<'a> {
     pub inputs: Inputs,
     pub control: Control,
     pub received: Option<Received>,
-    pub hold_ended: Option<Point>,
+    pub told: Option<&'a Told>,
     pub changes: Changes,
     pub after: RouteConditions,
 }
@@ -81,7 +80,7 @@ fn unchanged<'a>(e: &Engine, after: RouteConditions) -> Effect<'a>
         inputs: e.inputs,
         control: e.control,
         received: None,
-        hold_ended: None,
+        told: None,
         changes: NO_CHANGES,
         after,
     }
@@ -173,7 +172,7 @@ fn changes_of(index: u8, t: Reported, held: bool) -> Changes
 }
 
 // A position report.
-#[tactic(auto, unfolding(call::specs::Effect::position_effect), using(crate::proofs::Laws::report_changes, crate::proofs::Laws::then_some))]
+#[tactic(auto, unfolding(call::specs::Effect::position_effect), using(crate::proofs::Laws::then_some))]
 pub fn report<'a>(o: &Occurrence) -> Result<Effect<'a>, Refusal>
     ensures effect { judged_by effect_view result ≡ position_effect o.now.engine.now (carried o.now.event) o.now.looked }
     ensures beside { role_of o.now.event ≡ report → IfOk result (λ f. Beside o.now.engine.now f) }
@@ -251,7 +250,7 @@ pub fn power_off<'a>() -> Effect<'a>
         inputs: Inputs::default(),
         control: Control::default(),
         received: None,
-        hold_ended: None,
+        told: None,
         changes: NO_CHANGES,
         after,
     }
@@ -259,10 +258,20 @@ pub fn power_off<'a>() -> Effect<'a>
 
 // ---- the load
 
+// What a load of that journey tells of the one before it.
+pub fn told(e: &Engine, j: Route) -> Told
+    ensures { TellsOf e.now (route_view j.entry) result }
+{
+    Told {
+        hold_ended: hold::hold_ended(e, j),
+        statuses: trackside::compare(e.route(), j),
+    }
+}
+
 // A load, judged on the new journey with no driver skip.
-#[tactic(auto, unfolding(timing::specs::Changes::passings), using(crate::proofs::Laws::carries_load))]
-pub fn load<'a>(o: &Occurrence, l: &'a Loaded) -> Effect<'a>
-    ensures effect { role_of o.now.event ≡ load → effect_view result ≡ loaded_in o.now.engine.now (carried o.now.event) (loaded_view l.now) }
+#[tactic(auto, unfolding(timing::specs::Changes::passings), using(crate::proofs::Laws::carries_load, crate::proofs::Laws::load_changes))]
+pub fn load<'a>(o: &Occurrence, l: &'a Loaded, told: &'a Told) -> Effect<'a>
+    ensures effect { role_of o.now.event ≡ load → TellsOf o.now.engine.now (loaded_view l.now).route told.now → effect_view result ≡ loaded_in o.now.engine.now (carried o.now.event) (loaded_view l.now) }
     ensures beside { Beside o.now.engine.now result }
 {
     let e = o.engine;
@@ -281,7 +290,7 @@ pub fn load<'a>(o: &Occurrence, l: &'a Loaded) -> Effect<'a>
         journey: JourneyAfter::Replaced(j),
         progress,
         received: Some(received),
-        hold_ended: hold::hold_ended(e, j),
+        told: Some(told),
         ..unchanged(e, after)
     }
 }

@@ -1,5 +1,6 @@
 -- A call by the rows that it goes through, and its outcome.
-use Rattle.std.proofs.Common.{ℕ, ◌+◌, ◌≤◌, ◌≡◌, refl, sym, ap, ◌∙◌, List, ◌++◌, length, drop, Result, Err, arith}
+use Rattle.std.proofs.Common.{ℕ, ◌+◌, ◌≤◌, ◌≡◌, refl, sym, ap, ◌∙◌, List, ◌++◌, length, drop, Result, Ok, Err, arith}
+use Rattle.std.specs.Result.{IsErrAnd}
 use lib.Seq.{sets, sets-eq}
 use Rattle.wire.specs.Judged.{Judged, then_judge}
 use Rattle.wire.specs.Judged.Judged.{refuse, accept}
@@ -25,6 +26,11 @@ use Rattle.event_packets.specs.View.{packets_view}
 use Rattle.judge.specs.View.{engine_after, step_view}
 use Rattle.judge.specs.declared.Judgement.{Judgement}
 use Rattle.engine.specs.View.{answer_of, taken_of, Takes, take_of}
+
+-- an error that `?` hands on is the same
+pub err_is : {A : Type 0} (r : Result A Refusal) (x : Refusal) → IsErrAnd r (λ y. y ≡ x) → r ≡ Err x
+err_is (Ok a) x h = absurd h
+err_is (Err y) x h = ap Err h
 
 -- ---- an outcome
 

@@ -105,7 +105,8 @@ fn loaded(e: &mut Engine, event: Event, l: &Loaded, out: &mut [u8]) -> Result<Ac
     ensures { (bytes journey book : List ℕ) → accept event ≡ event_of bytes → accept tt ≡ rows_of_state e.old (kind_of event) → load ≡ role_of event → accept (loaded_view l.now) ≡ load_of journey book → Takes (take_of e.old (call bytes journey book out.old)) e.new (judged result) out.new }
 {
     let o = Occurrence::new(e, event);
-    let t = judge::judge(&o, &effects::load(&o, l), out.len())?;
+    let told = effects::told(e, l.route());
+    let t = judge::judge(&o, &effects::load(&o, l, &told), out.len())?;
     Ok(accept(e, &t, out))
 }
 

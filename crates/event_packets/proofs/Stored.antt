@@ -2,29 +2,32 @@
 use Rattle.std.proofs.Common.{ℕ, zero, suc, ◌+◌, ◌-◌, ◌*◌, ◌≤◌, ◌<◌, ◌≡◌, refl, sym, ap, ◌∙◌, List, [], ◌∷◌, ◌++◌, map, length, arith, append_assoc, min, Option, Some, None, Bool, true, false, inl, inr}
 use Rattle.std.specs.Prelude.{option_map}
 use mathlib.Core.List.{map-append, append-nil}
-use lib.ListN.{take, drop, set, length-append, length-map, length-drop, drop_of_length-le}
+use lib.ListN.{take, drop, set, get_or, length-append, length-map, length-drop, drop_of_length-le}
 use lib.Seq.{sets, take_all}
 use mir.Val.{bool_byte}
 use Rattle.std.specs.Option.{is_some}
 use Rattle.std.specs.Bool.{then_some}
 use Rattle.std.proofs.lemmas.Bool.{cases_lt}
-use Rattle.std.proofs.lemmas.List.{take_min, drop_min}
+use Rattle.std.proofs.lemmas.List.{take_min, drop_min, drop_more}
 use Rattle.std.proofs.Math.Nat.{min-eq_left, min-eq_right}
 use Rattle.wire.proofs.NumberLaws.{sets_more, sets_past}
 use Rattle.engine_value.specs.Engine.{route_in, progress}
 use Rattle.engine_value.specs.declared.Point.{Point}
+use Rattle.engine_value.specs.declared.Progress.{Progress}
 use Rattle.engine_value.specs.declared.Engine.{Engine}
 use Rattle.packets.specs.Packets.{packet_bytes, joined, size_of}
 use Rattle.packets.proofs.PacketLaws.{length-packet_bytes, joined-append}
 use Rattle.packets.specs.declared.Packet.{Packet}
 use Rattle.packets.specs.declared.Requested.{Requested}
+use Rattle.packets.specs.declared.PointStatus.{PointStatus}
 use Rattle.status_word.specs.declared.OperationalConditions.{OperationalConditions}
 use Rattle.timing.specs.Changes.{Change, change, passings, status_passed, when}
 use Rattle.position.specs.Standing.{standing}
 use Rattle.conditions.specs.Conditions.{end_ahead}
 use Rattle.call.specs.Packets.{change_in, changes_in}
 use Rattle.call_values.specs.Packets.{Status, hold_revoked, timing_point, traction_brake, traction_brakes, ato_status, status_due, country, received, in_order, packets_of, jp_received}
-use Rattle.event_packets.specs.View.{listed, change_view, changes_view, jp_received_view, revoked_packet, packets62, packets_view, Put}
+use Rattle.trackside.specs.View.{change_of, changes_from}
+use Rattle.event_packets.specs.View.{listed, change_view, told_hold, told_view, changes_view, jp_received_view, revoked_packet, packets62, packets_view, Put}
 use Rattle.event_packets.specs.declared.Received.{Received}
 use Rattle.event_packets.specs.declared.Change as code
 use Rattle.event_packets.specs.declared.Writes.{Writes}
@@ -68,7 +71,7 @@ module _ (e : Engine) where
   -- "16 shorter than this event's packets": their size, with nothing written yet
   pub size_in : (w : Writes)
       → 29 * bool_byte (is_some w.received)
-      + 25 * (bool_byte (is_some w.hold_ended) + (bool_byte (is_some w.changes.first) + (w.changes.to - w.changes.from) + (bool_byte (is_some w.changes.last) + bool_byte (is_some w.changes.held)))) + 22 * bool_byte (is_some w.requested) + 19 * bool_byte (is_some w.status)
+      + 25 * (bool_byte (is_some (told_hold w.told)) + length (told_view e.progress w.told) + (bool_byte (is_some w.changes.first) + (w.changes.to - w.changes.from) + (bool_byte (is_some w.changes.last) + bool_byte (is_some w.changes.held)))) + 22 * bool_byte (is_some w.requested) + 19 * bool_byte (is_some w.status)
       ≡ length (joined (packets_view e w))
   size_in w = sym (simp (joined-append, length-append, map-append, size_65, size_ended, size_62, size_61, size_68, length-map, length-listed, length-passings) (omega arith))
 
@@ -143,14 +146,14 @@ module _ (e : Engine) where
   listed_brake (Some r) = refl
 
   pub in_kinds : (w : Writes)
-      → ((((((listed (option_map (jp_received_view e) w.received) ++ listed (option_map (revoked_packet e) w.hold_ended))
-      ++ listed (option_map changed w.changes.first)) ++ packets62 e (passings (w.changes.to - w.changes.from) w.changes.from))
+      → (((((((listed (option_map (jp_received_view e) w.received) ++ listed (option_map (revoked_packet e) (told_hold w.told)))
+      ++ packets62 e (told_view e.progress w.told)) ++ listed (option_map changed w.changes.first)) ++ packets62 e (passings (w.changes.to - w.changes.from) w.changes.from))
       ++ listed (option_map changed w.changes.last)) ++ listed (option_map changed w.changes.held))
       ++ listed (option_map (traction_brake (route_in e) e.train.position) w.requested))
       ++ listed (option_map (ato_status (route_in e) e.train.position e.control.state) w.status)
       ≡ packets_view e w
   in_kinds w =
-      rw (listed_map (jp_received_view e) w.received, listed_map (ato_status (route_in e) e.train.position e.control.state) w.status, listed_ended w.hold_ended, listed_change w.changes.first, listed_change w.changes.last, listed_change w.changes.held, listed_brake w.requested)
+      rw (listed_map (jp_received_view e) w.received, listed_map (ato_status (route_in e) e.train.position e.control.state) w.status, listed_ended (told_hold w.told), listed_change w.changes.first, listed_change w.changes.last, listed_change w.changes.held, listed_brake w.requested)
       (simp (map-append, append_assoc))
 
 -- ---- the passings: what is left to put, behind what is there, is the whole
@@ -166,6 +169,31 @@ module _ (e : Engine) (to k : ℕ) where
   passed_next h p q l m i j t more =
       let z : to - k ≡ suc (to - (k + 1)) = omega arith in
       t (joined (packets62 e (passings (to - (k + 1)) (k + 1))) ++ more) ∙ rw (z, q) (simp (append-nil, append_assoc))
+
+-- ---- the points that a load tells of, from point k on
+module _ (e : Engine) (p : Progress) (l : List (Option PointStatus)) (k : ℕ) where
+  abbrev from : ℕ → List Packet
+  from i = packets62 e (changes_from p i (drop i l))
+
+  pub told_end : length l ≤ k → (m more : List ℕ) (i : ℕ) → sets m i more ≡ sets m i (joined (from k) ++ more)
+  told_end h m more i = rw (drop_of_length-le l {i = k} h)
+
+  -- the one of point k, and the rest
+  from_next : k < length l → from k ≡ listed (option_map (λ (c : Change). timing_point (route_in e) e.train.position (change_in (route_in e) c)) (change_of p (k, get_or l k None))) ++ from (k + 1)
+  from_next h = ap (λ (r : List (Option PointStatus)). packets62 e (changes_from p k r)) (drop_more l k None h) ∙ go (get_or l k None)
+    where
+      go : (o : Option PointStatus) → packets62 e (changes_from p k (o ∷ drop (k + 1) l))
+          ≡ listed (option_map (λ (c : Change). timing_point (route_in e) e.train.position (change_in (route_in e) c)) (change_of p (k, o))) ++ from (k + 1)
+      go None = refl
+      go (Some s) = refl
+
+  pub told_next : k < length l → (o : Option Packet)
+      → o ≡ option_map (λ (c : Change). timing_point (route_in e) e.train.position (change_in (route_in e) c)) (change_of p (k, get_or l k None))
+      → (m n : List ℕ) (i j : ℕ) → Put i (listed o) m n j
+      → (more : List ℕ) → sets n j (joined (from (k + 1)) ++ more) ≡ sets m i (joined (from k) ++ more)
+  told_next h o q m n i j t more =
+      t (joined (from (k + 1)) ++ more)
+      ∙ rw (q, from_next h) (simp (joined-append, append_assoc))
 
 -- ---- the packets are those of an event
 
@@ -183,7 +211,7 @@ status_is g false a = refl
 pub packets_in : (m : Engine) (w : Writes) (own : Option Requested) (before after : Status)
     → ((r : Received) → w.received ≡ Some r → r.nidc ≡ country (route_in m) m.train.position)
     → w.status ≡ then_some (status_due before after) after.conditions → m.control.state ≡ after.state → w.requested ≡ own
-    → packets_view m w ≡ packets_of (route_in m) m.train.position (option_map (λ (r : Received). r.head) w.received) (changes_in m w.hold_ended (changes_view w.changes)) (traction_brakes (route_in m) m.train.position own) before after
+    → packets_view m w ≡ packets_of (route_in m) m.train.position (option_map (λ (r : Received). r.head) w.received) (changes_in m (told_hold w.told) (told_view m.progress w.told ++ changes_view w.changes)) (traction_brakes (route_in m) m.train.position own) before after
 unfolding packets_of
 packets_in m w own before after n d s o =
     let five = received_is m w.received n in
@@ -192,4 +220,4 @@ packets_in m w own before after n d s o =
     = ap (λ x. map (ato_status (route_in m) m.train.position m.control.state) (listed x)) d
     ∙ status_is (ato_status (route_in m) m.train.position m.control.state) (status_due before after) after.conditions
     ∙ ap (λ k. when (status_due before after) (ato_status (route_in m) m.train.position k after.conditions)) s in
-    λ i. in_order (five i) (map (timing_point (route_in m) m.train.position) (changes_in m w.hold_ended (changes_view w.changes))) (traction_brakes (route_in m) m.train.position (o i)) (eight i)
+    λ i. in_order (five i) (map (timing_point (route_in m) m.train.position) (changes_in m (told_hold w.told) (told_view m.progress w.told ++ changes_view w.changes))) (traction_brakes (route_in m) m.train.position (o i)) (eight i)

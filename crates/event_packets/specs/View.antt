@@ -1,9 +1,11 @@
 -- The packets that the code's `Writes` stands for, with the values of the engine after the event.
 use Rattle.std.specs.Prelude.{ℕ, ◌≡◌, ◌-◌, List, [], ◌∷◌, ◌++◌, map}
 use Rattle.std.specs.Prelude.{Option, Some, None}
+use denote.Ref.{Bor}
 use Rattle.std.proofs.lemmas.List.Edits.{sets}
 use Rattle.engine_value.specs.Engine.{route_in}
 use Rattle.engine_value.specs.declared.Point.{Point}
+use Rattle.engine_value.specs.declared.Progress.{Progress}
 use Rattle.engine_value.specs.declared.Engine.{Engine}
 use Rattle.packets.specs.Packets.{joined}
 use Rattle.packets.specs.View.{status_number}
@@ -17,6 +19,8 @@ use Rattle.call_values.specs.Packets as packets
 use Rattle.call_values.specs.Packets.{header, in_order, point_change, timing_point, jp_received_of, traction_brakes, ato_status}
 use Rattle.event_packets.specs.declared.Change.{Change}
 use Rattle.event_packets.specs.declared.Changes.{Changes}
+use Rattle.trackside.specs.View.{changes_from}
+use Rattle.event_packets.specs.declared.Told.{Told}
 use Rattle.event_packets.specs.declared.Received.{Received}
 use Rattle.event_packets.specs.declared.Status.{Status}
 use Rattle.event_packets.specs.declared.Writes.{Writes}
@@ -38,6 +42,15 @@ changes_view c =
     map change_view (listed c.first)
     ++ (passings (c.to - c.from) c.from ++ (map change_view (listed c.last) ++ map change_view (listed c.held)))
 
+-- of a load: the stop whose hold it ended, and the changes that it tells of, from the progress that it leaves
+abbrev pub told_hold : Option (Bor Told) → Option Point
+told_hold None = None
+told_hold (Some t) = t.now.hold_ended
+
+abbrev pub told_view : Progress → Option (Bor Told) → List timing.Change
+told_view p None = []
+told_view p (Some t) = changes_from p 0 t.now.statuses
+
 -- ---- the packets, with the header of an engine
 
 abbrev pub packets62 : Engine → List timing.Change → List Packet
@@ -54,7 +67,7 @@ abbrev pub packets_view : Engine → Writes → List Packet
 packets_view e w =
     in_order
     (map (jp_received_view e) (listed w.received))
-    (map (timing_point (route_in e) e.train.position) (changes_in e w.hold_ended (changes_view w.changes)))
+    (map (timing_point (route_in e) e.train.position) (changes_in e (told_hold w.told) (told_view e.progress w.told ++ changes_view w.changes)))
     (traction_brakes (route_in e) e.train.position w.requested)
     (map (ato_status (route_in e) e.train.position e.control.state) (listed w.status))
 

@@ -1,10 +1,11 @@
 // The packets of an accepted event, written one behind the other into the output memory.
 #![tactic(auto)]
 
-ghost use Rattle.std.specs.Prelude.{◌≡◌, ◌-◌, length};
+ghost use Rattle.std.specs.Prelude.{◌≡◌, ◌≤◌, ◌-◌, length, option_map};
 ghost use Rattle.std.proofs.lemmas.List.Edits.{sets};
 ghost use Rattle.engine_value.specs.declared.Engine as engine;
-ghost use Rattle.engine_value.specs.Engine.{route_in};
+ghost use Rattle.engine_value.specs.declared.Progress as progress;
+ghost use Rattle.engine_value.specs.Engine.{max_points, route_in};
 ghost use Rattle.engine_value.specs.View.{route_view};
 ghost use Rattle.packets.specs.Packets.{joined};
 ghost use Rattle.timing.specs.Changes.{passings};
@@ -13,9 +14,10 @@ ghost use Rattle.packets.specs.View.{status_number};
 ghost use Rattle.position.specs.Standing.{standing};
 ghost use Rattle.conditions.specs.Conditions.{end_ahead};
 ghost use Rattle.call_values.specs.Packets.{header, country, status_due, timing_point_of, timing_point, traction_brake, ato_status};
-ghost use Rattle.event_packets.specs.View.{change_view, status_view, jp_received_view, revoked_packet, listed, packets62, packets_view, Put};
+ghost use Rattle.trackside.specs.View.{change_of, changes_from};
+ghost use Rattle.event_packets.specs.View.{change_view, status_view, jp_received_view, revoked_packet, listed, told_hold, told_view, packets62, packets_view, Put};
 
-use engine_value::{Engine, Point, Progress};
+use engine_value::{Engine, MAX_POINTS, Point, Progress};
 use journey::Head;
 use packets::{
     AtoStatus, Header, JpReceived, JpStatus, Packet, PacketKind, PointStatus, Requested,
@@ -44,6 +46,14 @@ pub struct Changes {
     pub held: Option<Change>,
 }
 
+// What a load tells of the journey before it: the stop whose hold it ended, as that journey has it, and of each of its own points the status, where it
+// gained or lost the trackside skip. It is lent: `Writes` is moved at every event, and 128 bytes are about all that is moved without memcpy.
+#[derive(Clone, Copy)]
+pub struct Told {
+    pub hold_ended: Option<Point>,
+    pub statuses: [Option<PointStatus>; MAX_POINTS],
+}
+
 // The head of a journey that was loaded, and the NID_C that its packet 65 tells: a number, for the paper has 1,024 where none is known.
 #[derive(Clone, Copy)]
 pub struct Received {
@@ -60,12 +70,12 @@ pub struct Status {
     pub speed: u16,
 }
 
-// What an event writes, beside the values of the engine after it: a packet 65, the stop whose hold a load ended, the changes of the points, a packet 61,
-// and the conditions of a packet 68. The stop as the old journey has it: the engine after the event has the new one.
+// What an event writes, beside the values of the engine after it, which has the new journey: a packet 65, what a load tells of the journey before it, the
+// changes of the points, a packet 61, and the conditions of a packet 68.
 #[derive(Clone, Copy)]
-pub struct Writes {
+pub struct Writes<'a> {
     pub received: Option<Received>,
-    pub hold_ended: Option<Point>,
+    pub told: Option<&'a Told>,
     pub changes: Changes,
     pub requested: Option<Requested>,
     pub status: Option<OperationalConditions>,
@@ -112,6 +122,17 @@ fn timing_point(e: &Engine, c: Change) -> Packet
 {
     let p = position::point(e.route(), c.index);
     point_packet(e, p, c.status, c.after)
+}
+
+// The change that a load tells of point k, by its status.
+fn told_change(k: u8, status: Option<PointStatus>, after: Progress) -> Option<Change>
+    ensures { option_map change_view result ≡ change_of after (k, status) }
+{
+    status.map(|status| Change {
+        index: k,
+        status,
+        after,
+    })
 }
 
 // Packet 62 for the hold at a point, revoked by a load.
@@ -177,6 +198,24 @@ pub fn status_due(before: Status, after: Status) -> bool
         || (before.speed == 0 && after.speed != 0 && after.state != u8::from(State::EG))
 }
 
+// The stop whose hold a load ended.
+fn hold_ended(t: Option<&Told>) -> Option<Point>
+    ensures { result ≡ told_hold t.entry }
+{
+    t.and_then(|t| t.hold_ended)
+}
+
+// How many points a load tells of.
+fn told_count(t: Option<&Told>) -> usize
+    ensures value { (p : progress.Progress) → result ≡ length (told_view p t.entry) }
+    ensures most { result ≤ max_points }
+{
+    let Some(t) = t else {
+        return 0;
+    };
+    t.statuses.iter().filter(|s| matches!(s, Some(_))).count()
+}
+
 // How many bytes they take.
 #[tactic(auto, using(crate::proofs::Stored::size_in))]
 pub fn size(w: &Writes) -> usize
@@ -186,7 +225,7 @@ pub fn size(w: &Writes) -> usize
     let passed = usize::from(c.to.saturating_sub(c.from));
     let stopped = usize::from(c.last.is_some()) + usize::from(c.held.is_some());
     let changed = usize::from(c.first.is_some()) + passed + stopped;
-    let points = usize::from(w.hold_ended.is_some()) + changed;
+    let points = usize::from(hold_ended(w.told).is_some()) + told_count(w.told) + changed;
     PacketKind::JpReceived.size() * usize::from(w.received.is_some())
         + PacketKind::TimingPoint.size() * points
         + PacketKind::TractionBrake.size() * usize::from(w.requested.is_some())
@@ -217,6 +256,34 @@ impl<'a> Output<'a> {
         self.at = start + p.size();
     }
 
+    // The points that have a status.
+    #[tactic(auto, using(crate::proofs::Stored::told_next, crate::proofs::Stored::told_end))]
+    fn put_statuses(
+        &mut self,
+        e: &Engine,
+        statuses: &[Option<PointStatus>; MAX_POINTS],
+        after: Progress,
+    )
+        ensures same_reference { self.new.memory.ghost_name ≡ self.old.memory.ghost_name }
+        ensures put { Put self.old.at (packets62 e.now (changes_from after 0 statuses.now)) self.old.memory.now self.new.memory.now self.new.at }
+    {
+        for (k, status) in statuses.iter().enumerate() {
+            let c = told_change(k as u8, *status, after);
+            self.put(c.map(|c| timing_point(e, c)));
+        }
+    }
+
+    // Those of which a load tells.
+    fn put_told(&mut self, e: &Engine, t: Option<&Told>)
+        ensures same_reference { self.new.memory.ghost_name ≡ self.old.memory.ghost_name }
+        ensures put { Put self.old.at (packets62 e.now (told_view e.now.progress t.entry)) self.old.memory.now self.new.memory.now self.new.at }
+    {
+        let Some(t) = t else {
+            return;
+        };
+        self.put_statuses(e, &t.statuses, e.progress);
+    }
+
     // The points from `from` to `to`, without that one, pass.
     #[tactic(auto, using(crate::proofs::Stored::passed_next, crate::proofs::Stored::passed_end))]
     fn put_passed(&mut self, e: &Engine, from: u8, to: u8)
@@ -244,7 +311,7 @@ pub fn write(e: &Engine, w: &Writes, out: &mut [u8])
 {
     let c = w.changes;
     let received = w.received.map(|r| jp_received(e, r));
-    let revoked = w.hold_ended.map(|p| hold_revoked(e, p));
+    let revoked = hold_ended(w.told).map(|p| hold_revoked(e, p));
     let first = c.first.map(|c| timing_point(e, c));
     let last = c.last.map(|c| timing_point(e, c));
     let held = c.held.map(|c| timing_point(e, c));
@@ -253,6 +320,7 @@ pub fn write(e: &Engine, w: &Writes, out: &mut [u8])
     let mut output = Output { memory: out, at: 0 };
     output.put(received);
     output.put(revoked);
+    output.put_told(e, w.told);
     output.put(first);
     output.put_passed(e, c.from, c.to);
     output.put(last);

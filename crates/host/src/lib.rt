@@ -20,7 +20,7 @@ use packet_fields::PacketFields;
 // The version of this interface, a byte each for the three numbers.
 const MAJOR: u32 = 2;
 
-const MINOR: u32 = 1;
+const MINOR: u32 = 2;
 
 const PATCH: u32 = 0;
 

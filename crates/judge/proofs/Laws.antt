@@ -1,5 +1,5 @@
 -- An effect that is judged: the engine after it, its packets, and 16.
-use Rattle.std.proofs.Common.{ℕ, ◌≡◌, refl, sym, ap, ◌∙◌, List, map, length, Bool, true, false}
+use Rattle.std.proofs.Common.{ℕ, ◌≡◌, refl, sym, ap, ◌∙◌, List, ◌++◌, map, length, Bool, true, false}
 use Rattle.std.specs.Prelude.{is_some, option_map, ltb, if◌then◌else◌}
 use Rattle.std.specs.Bool.{then_some}
 use Rattle.wire.specs.Numbers.{flag}
@@ -23,7 +23,7 @@ use Rattle.call_values.specs.Packets.{status_due, packets_of}
 use Rattle.call.specs.Packets.{changes_in, own_packets}
 use Rattle.call.specs.Effect.{route_after}
 use Rattle.call.specs.Call.{Step, conditions_in, status_in, step_by, judge}
-use Rattle.event_packets.specs.View.{status_view, changes_view, packets_view}
+use Rattle.event_packets.specs.View.{status_view, told_hold, told_view, changes_view, packets_view}
 use Rattle.event_packets.proofs.Stored.{packets_in}
 use Rattle.event_packets.specs.declared.Received.{Received}
 use Rattle.effects.specs.View.{journey_view, effect_view, Beside}
@@ -42,7 +42,7 @@ module _ (e : Engine) (v : Event) (memory : List ℕ) (f : Effect) (t : Judgemen
     (rows : t.control ≡ control_after f.inputs f.control v (is_some f.changes.last) shows)
     (traction : t.traction ≡ traction_of (remembered_after (state_at e.control.state) v (state_at t.control.state) (remembered_in e.traction)))
     (loaded : t.writes.received ≡ f.received)
-    (ended : t.writes.hold_ended ≡ f.hold_ended)
+    (told : t.writes.told ≡ f.told)
     (changes : t.writes.changes ≡ f.changes)
     (requested : t.writes.requested ≡ written_content (state_at e.control.state) v (remembered_in e.traction) (remembered_in t.traction))
     (status : t.writes.status ≡ then_some (status_due (status_in e) (status_view (status_of t.control f.train shows))) shows) where
@@ -75,7 +75,7 @@ module _ (e : Engine) (v : Event) (memory : List ℕ) (f : Effect) (t : Judgemen
   packets_are =
       ap (λ (m : Engine). packets_view m t.writes) engine_is
       ∙ packets_in step.engine t.writes _ (status_in e) (status_in step.engine) (λ r h. beside.nidc r (sym loaded ∙ h)) due_is refl traction_is
-      ∙ (λ i. packets_of (route_in step.engine) f.train.position (option_map (λ (r : Received). r.head) (loaded i)) (changes_in step.engine (ended i) (changes_view (changes i))) (own_packets e v step.engine) (status_in e) (status_in step.engine))
+      ∙ (λ i. packets_of (route_in step.engine) f.train.position (option_map (λ (r : Received). r.head) (loaded i)) (changes_in step.engine (told_hold (told i)) (told_view f.progress (told i) ++ changes_view (changes i))) (own_packets e v step.engine) (status_in e) (status_in step.engine))
 
   step_is : step_view e t ≡ step
   step_is = λ i. record { engine = engine_is i; packets = packets_are i }

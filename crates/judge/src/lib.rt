@@ -25,7 +25,7 @@ pub struct Judgement<'a> {
     pub effect: Effect<'a>,
     pub control: Control,
     pub traction: Traction,
-    pub writes: Writes,
+    pub writes: Writes<'a>,
     pub size: usize,
 }
 
@@ -81,7 +81,7 @@ pub fn judge<'a>(o: &Occurrence, f: &Effect<'a>, room: usize) -> Result<Judgemen
     let traction = traction::traction_after(state, v, after, e.traction);
     let writes = Writes {
         received: f.received,
-        hold_ended: f.hold_ended,
+        told: f.told,
         changes: f.changes,
         requested: traction::content_written(state, v, e.traction, traction),
         status: due.then_some(conditions),

@@ -109,11 +109,11 @@ pub record Worked (p : Packet) (s : List ℕ) : Type 0 where
 pub record InBytes : Type 0 where
   pub power_on_lem : Worked power_on power_on_bytes
   pub stop : Worked stopped stopped_bytes
-  -- 1 + 2 × 2 + 8 × 1; "(0 passed, 1 stopped, 2 departed, 5 driver skip, 6 skip revoked)", and 02, Q-5, 3 and 4
+  -- 1 + 2 × 2 + 8 × 1; "(0 passed, 1 stopped, 2 departed, 5 driver skip, 6 skip revoked)", 02, Q-5, 3 and 4, and Q-6, 7 and 8
   pub point : Worked (timing_point 1 2 1 0x55) (timing_point_bytes 0x0D 0x55)
   pub ended : Worked (timing_point 0 1 2 0) (timing_point_bytes 0x12 0x00)
   pub status_numbers : map status_number (PointStatus.Passed ∷ PointStatus.Stopped ∷ PointStatus.Departed ∷ PointStatus.Held ∷ PointStatus.HoldRevoked
-      ∷ PointStatus.Skipped ∷ PointStatus.Revoked ∷ []) ≡ 0 ∷ 1 ∷ 2 ∷ 3 ∷ 4 ∷ 5 ∷ 6 ∷ []
+      ∷ PointStatus.Skipped ∷ PointStatus.Revoked ∷ PointStatus.TracksideSkip ∷ PointStatus.TracksideRevoked ∷ []) ≡ 0 ∷ 1 ∷ 2 ∷ 3 ∷ 4 ∷ 5 ∷ 6 ∷ 7 ∷ 8 ∷ []
   pub journey : Worked jp_received jp_received_bytes
   -- 02, Q-4: "status 0 or 1 in packet 65", whatever the stamp
   pub turned_down : Worked (jp_received_as 1) (jp_received_as_bytes 0x01)

@@ -8,7 +8,7 @@ use Rattle.packets.specs.declared.PacketKind as code
 use Rattle.packets.specs.declared.Header.{Header}
 use Rattle.packets.specs.declared.TimingPoint.{TimingPoint}
 use Rattle.packets.specs.declared.PointStatus.{PointStatus}
-use Rattle.packets.specs.declared.PointStatus.TheVariants.{Passed, Stopped, Departed, Held, HoldRevoked, Skipped, Revoked}
+use Rattle.packets.specs.declared.PointStatus.TheVariants.{Passed, Stopped, Departed, Held, HoldRevoked, Skipped, Revoked, TracksideSkip, TracksideRevoked}
 use Rattle.packets.specs.declared.JpStatus.{JpStatus}
 use Rattle.packets.specs.declared.JpStatus.TheVariants.{Accepted, TurnedDown}
 use Rattle.packets.specs.declared.JpReceived.{JpReceived}
@@ -22,7 +22,8 @@ header_view h = (h.nidc, (h.nidsp, (h.offset, (h.speed, (h.operational, tt)))))
 abbrev pub timing_point_view : TimingPoint → Values content62
 timing_point_view p = (p.nidc, (p.nidtp, ((p.q_eoj_reached, (p.alignment, (p.status, tt))), (p.stopping, tt))))
 
--- "status (0 passed, 1 stopped, 2 departed, 5 driver skip, 6 skip revoked)"; 02, Q-5: 3 held, 4 the hold is revoked
+-- "status (0 passed, 1 stopped, 2 departed, 5 driver skip, 6 skip revoked)"; 02, Q-5: 3 held, 4 the hold is revoked; Q-6: 7 a trackside skip
+-- is gained, 8 lost
 abbrev pub status_number : PointStatus → ℕ
 status_number Passed = 0
 status_number Stopped = 1
@@ -31,6 +32,8 @@ status_number Held = 3
 status_number HoldRevoked = 4
 status_number Skipped = 5
 status_number Revoked = 6
+status_number TracksideSkip = 7
+status_number TracksideRevoked = 8
 
 -- "65 ..: .. status 0"; 02, Q-4: "packet 65 with status 1"
 abbrev pub jp_status_number : JpStatus → ℕ

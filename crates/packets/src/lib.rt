@@ -44,6 +44,8 @@ pub enum PointStatus {
     HoldRevoked = 4,
     Skipped = 5,
     Revoked = 6,
+    TracksideSkip = 7,
+    TracksideRevoked = 8,
 }
 
 impl From<PointStatus> for u8 {

@@ -1,6 +1,6 @@
 -- What an accepted load keeps to, so that its values fit the engine and the packets.
 use Prim.Native.Nat.{ℕ, zero, suc, ◌+◌, ◌≤◌, ◌<◌}
-use mathlib.Core.Path.{◌≡◌, refl, subst}
+use mathlib.Core.Path.{◌≡◌, refl, sym, ap, subst, ◌∙◌}
 use mathlib.Core.List.{List, [], ◌∷◌, map}
 use mathlib.Core.Bool.{Bool, true, false, cond, not, ◌||◌}
 use Rattle.std.specs.Prelude.{Option, Some, None}
@@ -174,6 +174,28 @@ value-fits book j sound h within one = record {
 
     segments_few : length (segments_of book j.names) ≤ 40
     segments_few = omega (arith, segments_length book j.names, h.most_names)
+
+-- what it takes is of a book and of the journey's values
+pub load_values : (journey bytes : List ℕ) (l : LoadValue) → load_of journey bytes ≡ accept l
+    → (book : List BookSegment) × (v : JourneyValue) × (journey_value journey ≡ accept v) × (length v.points ≤ 64) × (l ≡ load_value book v)
+unfolding load_of journey_of
+load_values journey bytes l = go (book_of bytes) (journey_value journey) refl
+  where
+    Values : Type 0
+    Values = (book : List BookSegment) × (v : JourneyValue) × (journey_value journey ≡ accept v) × (length v.points ≤ 64) × (l ≡ load_value book v)
+
+    from : (book : List BookSegment) (j : JourneyValue) → journey_value journey ≡ accept j → (q : Judged JourneyValue) → checked book j ≡ q
+        → then_judge q (λ j. accept (load_value book j)) ≡ accept l → Values
+    from book j p (refuse n) c e = cc
+    from book j p (accept w) c e =
+        let same : load_value book w ≡ l = cc in
+        (book, j, p, (journey-fits journey j p).most_points, sym same ∙ ap (load_value book) (sym (checked-tells book j w c).0))
+
+    go : (b : Judged (List BookSegment)) (q : Judged JourneyValue) → journey_value journey ≡ q
+        → then_judge b (λ book. then_judge (then_judge q (checked book)) (λ j. accept (load_value book j))) ≡ accept l → Values
+    go (refuse n) q p e = cc
+    go (accept book) (refuse n) p e = cc
+    go (accept book) (accept j) p e = from book j p (checked book j) refl e
 
 pub load_fits : (journey bytes : List ℕ) (v : LoadValue) → load_of journey bytes ≡ accept v → LoadFits v
 unfolding load_of journey_of

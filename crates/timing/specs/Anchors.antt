@@ -13,7 +13,7 @@ use Rattle.position.specs.declared.Standing.TheVariants.{Unused, Targeted, Reach
 use Rattle.timing.specs.Distance.{Report, report_from, back, distance, unskipped, margin, exceeds, exceeds_reach, stops_at, beyond, at_stop, moving, leaves}
 use Rattle.timing.specs.Load.{put_behind, target}
 use Rattle.timing.specs.Report.{following, reported, became_reached, report_of, no_report, run}
-use Rattle.timing.specs.Changes.{change, status_passed, status_stopped, status_departed, status_held, status_hold_revoked, status_skipped, status_revoked, report_changes}
+use Rattle.timing.specs.Changes.{change, status_passed, status_stopped, status_departed, status_held, status_hold_revoked, status_skipped, status_revoked, status_trackside_skip, status_trackside_revoked, report_changes}
 use Rattle.timing.specs.History.{report_number, first_of, settles}
 use Rattle.timing.specs.Rule.{point_outcome, standing_by_reports}
 use Rattle.timing.specs.Rule.PointOutcome.{passes, reaches, not_looked_at}
@@ -179,9 +179,9 @@ pub record Anchors : Type 0 where
   pub report_reaches : report_of journey (two 40150 0) (targeted 1) ≡ brings (stopped 3) 1 false true
   pub no_report_lem : no_report (targeted 4) ∷ no_report (stopped 0) ∷ [] ≡ brings (targeted 4) 4 false false ∷ brings (stopped 0) 0 false false ∷ []
   pub reports_in_turn : run journey (targeted 0) (two 10302 1 ∷ two 40150 0 ∷ []) ≡ stopped 3
-  -- "status (0 passed, 1 stopped, 2 departed, 5 driver skip, 6 skip revoked)", and 02, Q-5, 3 and 4
-  pub statuses : status_passed ∷ status_stopped ∷ status_departed ∷ status_held ∷ status_hold_revoked ∷ status_skipped ∷ status_revoked ∷ []
-      ≡ 0 ∷ 1 ∷ 2 ∷ 3 ∷ 4 ∷ 5 ∷ 6 ∷ []
+  -- "status (0 passed, 1 stopped, 2 departed, 5 driver skip, 6 skip revoked)", 02, Q-5, 3 and 4, and Q-6, 7 and 8
+  pub statuses : status_passed ∷ status_stopped ∷ status_departed ∷ status_held ∷ status_hold_revoked ∷ status_skipped ∷ status_revoked
+      ∷ status_trackside_skip ∷ status_trackside_revoked ∷ [] ≡ 0 ∷ 1 ∷ 2 ∷ 3 ∷ 4 ∷ 5 ∷ 6 ∷ 7 ∷ 8 ∷ []
   pub change_of : change 3 1 (stopped 2) ≡ record { index = 3; status = 1; after = stopped 2 }
   -- "the 62s as they arise", with the progress "after that change". "A departure writes status 2 and no 0"
   pub changes_departing : report_changes journey (two 40150 1) (stopped 0)

@@ -7,7 +7,8 @@ use Rattle.timing.specs.Distance.{Report}
 use Rattle.timing.specs.declared.Reported.{Reported}
 use Rattle.timing.specs.Report.{report_of}
 
--- "status (0 passed, 1 stopped, 2 departed, 5 driver skip, 6 skip revoked)"; 02, Q-5: 3 held, 4 the hold is revoked
+-- "status (0 passed, 1 stopped, 2 departed, 5 driver skip, 6 skip revoked)"; 02, Q-5: 3 held, 4 the hold is revoked; Q-6: 7 a trackside skip is
+-- gained, 8 lost
 abbrev pub status_passed : ℕ
 status_passed = 0
 
@@ -28,6 +29,12 @@ status_skipped = 5
 
 abbrev pub status_revoked : ℕ
 status_revoked = 6
+
+abbrev pub status_trackside_skip : ℕ
+status_trackside_skip = 7
+
+abbrev pub status_trackside_revoked : ℕ
+status_trackside_revoked = 8
 
 pub record Change : Type 0 where
   pub index : ℕ

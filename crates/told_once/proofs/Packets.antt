@@ -24,7 +24,7 @@ use Rattle.whole_list.specs.Recorded.{timing_points, In}
 use Rattle.whole_list.specs.WholeList.{bytes_of_each}
 use Rattle.whole_list.proofs.Fields.{progress_run}
 use Rattle.whole_list.proofs.FieldsStep.{changes_is}
-use Rattle.whole_list.proofs.ChangeKinds.{Kind, of_report, of_hold, of_driver, which, driver_late}
+use Rattle.whole_list.proofs.ChangeKinds.{Kind, of_report, of_hold, of_trackside, of_driver, which, tells_late, driver_late}
 use Rattle.whole_list.proofs.Points.{points_append, point_values, call_points, refused_points}
 use Rattle.told_once.specs.Recording.{Told, told_of, counts, told_in}
 use Rattle.told_once.proofs.Reports.{told_changes, marked, all_count}
@@ -84,7 +84,7 @@ Quiet report = ⊥
 Quiet other = Unit {0}
 Quiet (skip t on) = Unit {0}
 
--- any other event: a driver skip writes 5 or 6, a load at most a 4
+-- any other event: a driver skip writes 5 or 6, a load a 4, 7 and 8
 pub quiet : (h : History) (c : Call) (r : Role) → role_of_call c ≡ r → Quiet r → told_in (bytes_of_each (packets_by h c)) ≡ []
 unfolding changes_by
 quiet h c r q n = call-tells h c ∙ none_count (changes_by h c) (λ d i. late d (which h c d i))
@@ -95,6 +95,7 @@ quiet h c r q n = call-tells h c ∙ none_count (changes_by h c) (λ d i. late d
     late : (d : PointChange) → Kind h c d → 4 ≤ d.status
     late d (of_report k) = absurd (no_report k.position k.is_report_lem)
     late d (of_hold e) = let four : d.status ≡ 4 = ap (λ (d : PointChange). d.status) e.is in omega arith
+    late d (of_trackside t) = omega (arith, tells_late h c d t)
     late d (of_driver b) = omega (arith, driver_late d.status b)
 
     counts_not : (d : PointChange) → 4 ≤ d.status → counts (changed d) ≡ false

@@ -6,7 +6,7 @@ use Rattle.call_values.specs.Call.{Call}
 use Rattle.call.specs.Trials.{plain, loads, power_on, trial_book, trial_load, at, skip}
 use Rattle.whole_list.specs.Values.{behind_at_load}
 use Rattle.whole_list.specs.Calls.{history_of}
-use Rattle.whole_list.specs.Example.{stopped, finished, held}
+use Rattle.whole_list.specs.Example.{stopped, finished, held, skipped_load}
 use Rattle.told_once.specs.Recording.{Told, recording_of}
 use Rattle.told_once.specs.ToldOnce.{standing_told, told_since}
 
@@ -40,6 +40,10 @@ turned_down_there = stopped ++ (loads [] trial_book ∷ [])
 abbrev pub hold_ended_there : List Call
 hold_ended_there = held ++ (trial_load ∷ [])
 
+-- at 7001, which trackside skips from a load on
+abbrev pub skipped_there : List Call
+skipped_there = stopped ++ (skipped_load ∷ [])
+
 pub record Example : Type 0 where
   -- stopped at 7001; in the longer list it is departed, and 7002 passed
   pub stops : told_since stopped ≡ tells 7001 1 ∷ []
@@ -57,6 +61,9 @@ pub record Example : Type 0 where
   pub held_there : both 0 held ≡ Reached ∷ Unused ∷ []
   pub ended_told : told_since hold_ended_there ≡ []
   pub ended_recorded : length (recording_of hold_ended_there) ≡ 2
+  -- nor does a 7
+  pub skip_told : told_since skipped_there ≡ []
+  pub skip_recorded : length (recording_of skipped_there) ≡ 2
   -- since the load in force
   pub told_again : told_since again ≡ tells 7001 1 ∷ []
   pub none_in_force : told_since switched_off ≡ []

@@ -5,7 +5,7 @@ use mathlib.Core.Bool.{Bool, true, false, false≢true}
 use mathlib.Core.List.{List, [], ◌∷◌}
 use Prim.Native.Nat.{ℕ, zero, suc, ◌≤◌, ◌<◌}
 use native.Mathlib.Omega.{arith}
-use lib.ListN.{get_or, replicate, take}
+use lib.ListN.{length, get_or, replicate, take, length-replicate}
 use Rattle.wire.specs.Judged.{Judged}
 use Rattle.wire.specs.Judged.Judged.{refuse, accept}
 use Rattle.engine_value.specs.Engine.{Route, no_route, fresh_position, blank_point, blank_segment, max4}
@@ -67,6 +67,7 @@ load-in c l = go (load_of c.journey c.book) refl
     go (accept k) q e = let z : k ≡ l = cc in rw (← z) (load_fits c.journey c.book k q)
 
 pub record RouteIn (j : Route) : Type 0 where
+  pub full : length j.points ≡ 64
   pub operational : j.load.operational ≤ max4
   pub points : (k : ℕ) → PointFits (point j k)
   pub ending : j.load.valid ≡ true → j.load.ending < point_count j
@@ -86,10 +87,10 @@ no_zones-in (suc n) zero = refl
 no_zones-in (suc n) (suc k) = no_zones-in n k
 
 none_in : RouteIn no_route
-none_in = record { operational = omega arith; points = blanks_in 64; ending = λ v. absurd (false≢true v); unbooked = λ k e. no_zones-in 40 k }
+none_in = record { full = length-replicate 64 blank_point; operational = omega arith; points = blanks_in 64; ending = λ v. absurd (false≢true v); unbooked = λ k e. no_zones-in 40 k }
 
 loaded-in : (l : LoadValue) → LoadFits l → RouteIn l.route
-loaded-in l h = record { operational = h.operational; points = h.points; ending = λ v. omega (arith, h.ending, h.most_points); unbooked = λ k. (h.segments k).unbooked }
+loaded-in l h = record { full = h.point_array; operational = h.operational; points = h.points; ending = λ v. omega (arith, h.ending, h.most_points); unbooked = λ k. (h.segments k).unbooked }
 
 pub route-in : (h : History) → RouteIn (route_by h)
 unfolding route_by

@@ -15,12 +15,15 @@ use Rattle.timing.specs.Distance.{leaves}
 use Rattle.whole_list.specs.Values.{History, role_of_call, route_by, report_at}
 use Rattle.whole_list.specs.Table.{table_by}
 use Rattle.call_values.specs.Call.{Call}
-use Rattle.call.specs.Trials.{at, press, plainly, point as point_bytes, trial_load}
+use Rattle.call.specs.Trials.{power_on, at, press, plainly, point as point_bytes, trial_load}
 use Rattle.whole_list.specs.Rules.{StandsBy, Engaged, no_call}
 use Rattle.whole_list.specs.Calls.{history_of, engine_after}
 use Rattle.whole_list.specs.Creeping.{TrulyDeparted, Leaving, SurelyDeparted, Keeps, NoTraceOfCreeping}
 use Rattle.whole_list.specs.Held.{PressHeld, BecomesHeld, HoldEnds}
-use Rattle.whole_list.specs.Example.{Example, stopped, driven, finished, crept, coming, held, pressed}
+use Rattle.whole_list.specs.Example.{Example, stopped, driven, finished, crept, coming, held, pressed, skipped_load}
+use Rattle.trackside.specs.Trackside.{foretold}
+use Rattle.whole_list.specs.Recorded.{timing_points}
+use Rattle.whole_list.specs.Trackside.{journey_of_call, journey_by, Gives, Takes}
 use Rattle.whole_list.proofs.Computed.{worked}
 use Rattle.whole_list.proofs.WholeList.{whole_list}
 use Rattle.whole_list.proofs.Engaged.{stands_exactly}
@@ -28,7 +31,7 @@ use Rattle.whole_list.proofs.Held.{each-held}
 use Rattle.whole_list.proofs.Creeping.{by_leaves, truly-departed, surely-departed, no_trace_of_creeping}
 
 pub example : Example
-unfolding worked
+unfolding worked packet_of judged_packet timing_points journey_of_call journey_by foretold
 example = record {
   answers = refl;
   reached = refl;
@@ -63,6 +66,9 @@ example = record {
   at_held_stop = refl;
   reached_held = refl;
   engaged_held = refl;
+  answers_skipping = refl;
+  told_skipping = refl;
+  foretold_skipping = refl;
   requests = refl;
   since_EG = refl;
   ranged = refl;
@@ -199,3 +205,21 @@ ends_there = record {
 pub press_there : PressHeld (history_of (coming ++ (at 39900 0 ∷ []))) press
 unfolding worked
 press_there = (each-held (coming ++ (at 39900 0 ∷ [])) press).twenty.0 refl
+
+-- ---- skipped by trackside
+
+pub gives_there : Gives (history_of (power_on ∷ trial_load ∷ [])) skipped_load 0
+unfolding worked
+gives_there = record {
+  loads = record { accepted = refl; is_load_lem = refl };
+  one_of_them = omega arith;
+  gained = record { skipped = refl; before = record { index = 0; one_of_them = omega arith; same_name = refl; was = refl } };
+}
+
+pub takes_there : Takes (history_of (power_on ∷ trial_load ∷ skipped_load ∷ [])) trial_load 0
+unfolding worked
+takes_there = record {
+  loads = record { accepted = refl; is_load_lem = refl };
+  one_of_them = omega arith;
+  lost = record { unskipped = refl; before = record { index = 0; one_of_them = omega arith; same_name = refl; was = refl } };
+}

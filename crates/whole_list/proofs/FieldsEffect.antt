@@ -26,6 +26,7 @@ use Rattle.position.specs.Skips.{stop_named, stop_at}
 use Rattle.timing.proofs.Steps.{run_snoc}
 use Rattle.state_codes.specs.Codes.{code}
 use Rattle.hold.specs.Hold.{held_stop_in, hold_ended}
+use Rattle.trackside.specs.Trackside.{trackside_changes}
 use Rattle.look_up.specs.LookUp.{look_up}
 use Rattle.look_up.specs.declared.LookedUp.{LookedUp}
 use Rattle.call_values.specs.Rows.{offset_beyond, same_bool}
@@ -89,6 +90,16 @@ module _ (h : History) (o : Option LoadValue) (t : ℕ) (r : distance.Report) (c
   abbrev numbers_then : Role → Carried → Value → ℕ
   numbers_then q c v = value_then (λ c. c.number v) 0 q c (number_by v h)
 
+  -- j and p are the journey and the progress after it
+  abbrev changes_then : Role → Route → Progress → List Change
+  changes_then q j p = elim q [
+    | off ↦ []
+    | load ↦ trackside_changes (route_by h) j p
+    | report ↦ changes
+    | other ↦ []
+    | skip t on ↦ skip_run (stop_named (route_by h) t) on (progress_run h)
+  ]
+
   abbrev effect_by : Role → Carried → Effect
   effect_by q c = record {
     journey = journey_then q o (route_by h);
@@ -98,7 +109,7 @@ module _ (h : History) (o : Option LoadValue) (t : ℕ) (r : distance.Report) (c
     control = control_then h q;
     loaded = elim q [ off ↦ None | load ↦ head_of o | report ↦ None | other ↦ None | skip t on ↦ None ];
     hold_ended = ended_run h q (route_with q);
-    changes = elim q [ off ↦ [] | load ↦ [] | report ↦ changes | other ↦ [] | skip t on ↦ skip_run (stop_named (route_by h) t) on (progress_run h) ];
+    changes = changes_then q (route_with q) (progress_then q);
     reached = elim q [ off ↦ false | load ↦ false | report ↦ became | other ↦ false | skip t on ↦ false ];
   }
 
@@ -219,7 +230,7 @@ module _ (h : History) (t : ℕ) (r : distance.Report) (changes : List Change) (
       go (refuse n) e = refl
       go (accept l) e =
           let p = e l refl in
-          ap accept (λ i. record { journey = replaced l.route; train = train_by h; progress = progress (sym p i) false; inputs = inputs_by h; control = control_by h; loaded = Some l.head; hold_ended = hold_ended (held_stop_in (engine_of h)) l.route; changes = []; reached = false })
+          ap accept (λ i. record { journey = replaced l.route; train = train_by h; progress = progress (sym p i) false; inputs = inputs_by h; control = control_by h; loaded = Some l.head; hold_ended = hold_ended (held_stop_in (engine_of h)) l.route; changes = trackside_changes (route_by h) l.route (progress (sym p i) false); reached = false })
 
   -- an event that only brings a value
   brought : (c : Carried) (l : LookedUp) → ByRole other c l

@@ -1,8 +1,8 @@
 -- What an event does to the engine of a history, and the table's rows "book" to "skip", are by the rules.
 use Rattle.std.specs.Prelude.{Option, Some, None, if◌then◌else◌}
-use mathlib.Core.Path.{◌≡◌, refl, sym, ◌∙◌, ap}
+use mathlib.Core.Path.{◌≡◌, refl, sym, ◌∙◌, ap, ap₂}
 use mathlib.Core.Bool.{Bool, true, false}
-use mathlib.Core.List.{List, [], ◌∷◌, ◌++◌, map, append-nil}
+use mathlib.Core.List.{List, [], ◌∷◌, ◌++◌, map}
 use Prim.Native.Nat.{ℕ, ◌<◌}
 use native.Mathlib.Omega.{arith}
 use lib.Dec.{leb}
@@ -28,12 +28,14 @@ use Rattle.timing.proofs.Rule.{became_reached_lem}
 use Rattle.conditions.specs.Conditions.{end_ahead}
 use Rattle.hold.specs.Hold.{held_stop, hold_ended}
 use Rattle.hold.proofs.Laws.{held_same}
+use Rattle.trackside.specs.Trackside.{each_told, trackside_changes}
+use Rattle.trackside.proofs.Laws.{each_map}
 use Rattle.call_values.specs.Packets.{point_change, hold_revoked}
 use Rattle.call.specs.Packets.{change_in, changes_in}
 use Rattle.call_values.specs.Call.{Call}
 use Rattle.whole_list.specs.Values.{History, event_of_call, load_of_call, role_of_call, latest, position_by, length_by, route_by, skipped_by, report_at, reports_since, behind_at_load}
 use Rattle.whole_list.specs.Rules.{standing_by, newly_reached}
-use Rattle.whole_list.specs.Table.{standing_then, changes_from, skip_change, held_stop_by, load_changes, changes_by}
+use Rattle.whole_list.specs.Table.{standing_then, changes_from, skip_change, held_stop_by, hold_change, trackside_by, load_changes, changes_by}
 use Rattle.whole_list.proofs.Decoded.{route-in}
 use Rattle.whole_list.proofs.FieldsReached.{same_bool_lem, newly}
 use Rattle.whole_list.proofs.Fields.{progress_run, engine_of, skips-at, in-range, stands_at, end_ext}
@@ -156,7 +158,7 @@ skip_run (Some k) on p = change k (if on then status_skipped else status_revoked
 abbrev pub changes_run : History → Call → List Change
 changes_run h c = elim (role_of_call c) [
   | off ↦ []
-  | load ↦ []
+  | load ↦ trackside_changes (route_by h) (route_by (c ∷ h)) (progress_run (c ∷ h))
   | report ↦ report_changes (route_by h) (report_at (c ∷ h)) (progress_run h)
   | other ↦ []
   | skip t on ↦ skip_run (stop_named (route_by h) t) on (progress_run h)
@@ -177,16 +179,28 @@ changes_by_lem h c = go (role_of_call c) refl (known (event_of_call c)).role
         ap (λ b. point_change (point (route_by h) k) (if on then status_skipped else status_revoked) b ∷ [])
         (end_ext (route_by h) (standing (progress_run h)) (standing_by h) (route-in h) (stands_at h))
 
-    ended : changes_in (engine_of (c ∷ h)) (hold_ended (held_stop (route_by h) (standing (progress_run h))) (route_by (c ∷ h))) [] ≡ load_changes h c
+    new : Route
+    new = route_by (c ∷ h)
+
+    ahead : end_ahead new.load (standing (progress_run (c ∷ h))) ≡ end_ahead new.load (standing_by (c ∷ h))
+    ahead = end_ext new (standing (progress_run (c ∷ h))) (standing_by (c ∷ h)) (route-in (c ∷ h)) (stands_at (c ∷ h))
+
+    ended : hold_revoked (hold_ended (held_stop (route_by h) (standing (progress_run h))) new) (end_ahead new.load (standing (progress_run (c ∷ h)))) ≡ hold_change h c
     ended =
-        append-nil _
-        ∙ ap (λ o. hold_revoked (hold_ended o (route_by (c ∷ h))) (end_ahead (route_by (c ∷ h)).load (standing (progress_run (c ∷ h))))) (held_is_by h)
-        ∙ ap (hold_revoked (hold_ended (held_stop_by h) (route_by (c ∷ h))))
-        (end_ext (route_by (c ∷ h)) (standing (progress_run (c ∷ h))) (standing_by (c ∷ h)) (route-in (c ∷ h)) (stands_at (c ∷ h)))
+        ap (λ o. hold_revoked (hold_ended o new) (end_ahead new.load (standing (progress_run (c ∷ h))))) (held_is_by h)
+        ∙ ap (hold_revoked (hold_ended (held_stop_by h) new)) ahead
+
+    told : map (change_in new) (trackside_changes (route_by h) new (progress_run (c ∷ h))) ≡ trackside_by h c
+    told =
+        each_map (route_by h) new (change_in new) (λ k s. change k s (progress_run (c ∷ h)))
+        ∙ ap (λ b. each_told (route_by h) new (λ k s. point_change (point new k) s b)) ahead
+
+    loaded : changes_in (engine_of (c ∷ h)) (hold_ended (held_stop (route_by h) (standing (progress_run h))) new) (trackside_changes (route_by h) new (progress_run (c ∷ h))) ≡ load_changes h c
+    loaded = ap₂ (λ x y. x ++ y) ended told
 
     go : (q : Role) → role_of_call c ≡ q → OfRole q (event_of_call c) → changes_in (engine_of (c ∷ h)) (ended_run h (role_of_call c) (route_by (c ∷ h))) (changes_run h c) ≡ changes_by h c
     go off z k = rw (z, changes_run, changes_by)
-    go load z k = rw (z, changes_run, changes_by) ended
+    go load z k = rw (z, changes_run, changes_by) loaded
     go report z k = rw (z, changes_run, changes_by, route_by) (sym (changes_is c h k.0 k.1))
     go other z k = rw (z, changes_run, changes_by)
     go (skip t on) z k = rw (z, changes_run, changes_by, route_by) (skipped (stop_named (route_by h) t) on)

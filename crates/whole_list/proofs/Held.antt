@@ -36,7 +36,7 @@ use Rattle.call_values.specs.Call.{Call}
 use Rattle.call.specs.Packets.{change_in}
 use Rattle.whole_list.specs.Values.{History, event_of_call, position_by, route_by, report_at}
 use Rattle.whole_list.specs.Rules.{HeldBy, standing_by}
-use Rattle.whole_list.specs.Table.{held_stop_by, changes_by, head_of_call, status_by, own_by, packets_by, table_by, packets_if, written_by}
+use Rattle.whole_list.specs.Table.{held_stop_by, trackside_by, changes_by, head_of_call, status_by, own_by, packets_by, table_by, packets_if, written_by}
 use Rattle.whole_list.specs.Calls.{history_of}
 use Rattle.whole_list.specs.Recorded.{number_in, In}
 use Rattle.whole_list.specs.WholeList.{bytes_of_each}
@@ -46,7 +46,7 @@ use Rattle.whole_list.proofs.Fields.{progress_run, in-range, stands_at, end_ext}
 use Rattle.whole_list.proofs.FieldsStep.{route_kept, progress_new, held_is_by}
 use Rattle.whole_list.proofs.Recorded.{bytes-append}
 use Rattle.whole_list.proofs.Engaged.{held_there as at_held, there_held}
-use Rattle.whole_list.proofs.ChangeKinds.{member, by_steps, Kind, of_report, of_hold, of_driver, which, report_early, driver_late}
+use Rattle.whole_list.proofs.ChangeKinds.{member, by_steps, Kind, of_report, of_hold, of_trackside, of_driver, which, report_early, tells_late, driver_late}
 use Rattle.whole_list.proofs.Points.{Change62, change_of}
 use Rattle.whole_list.proofs.WholeList.{judged_next}
 use Rattle.whole_list.proofs.Creeping.{stands-by}
@@ -183,6 +183,7 @@ held_alone h c packet i t = go (which h c w.change w.one_of_them)
 
     go : Kind h c w.change → (k : ℕ) × BecomesHeld h c k × (packet ≡ bytes62 (c ∷ h) (point (route_by h) k) status_held)
     go (of_hold e) = let s : w.change.status ≡ 4 = ap (λ (d : PointChange). d.status) e.is in absurd (omega (arith, w.status_is))
+    go (of_trackside t) = absurd (omega (arith, w.status_is, tells_late h c w.change t))
     go (of_driver b) = absurd (omega (arith, w.status_is, driver_late w.change.status b))
     go (of_report r) =
         let j = route_by h in
@@ -224,6 +225,7 @@ revoked_alone h c packet i t = go (which h c w.change w.one_of_them)
 
     go : Kind h c w.change → (k : ℕ) × HoldEnds h c k × (packet ≡ bytes62 (c ∷ h) (point (route_by h) k) status_hold_revoked)
     go (of_report r) = absurd (omega (arith, w.status_is, report_early h c w.change r))
+    go (of_trackside t) = absurd (omega (arith, w.status_is, tells_late h c w.change t))
     go (of_driver b) = absurd (omega (arith, w.status_is, driver_late w.change.status b))
     go (of_hold e) =
         let (k, held, is_point, kept) = ended_is h c e.stop e.ended in (
@@ -256,12 +258,13 @@ module _ (h : History) (c : Call) (k : ℕ) (v : HoldEnds h c k) where
   unfolding packets_by packets_of changes_by jp_received timing_point value_bytes
   revoked_written =
       let (d, head) = loaded-has h c v.accepted v.is_load_lem in
-      let changes : changes_by h c ≡ hold_revoked (Some (point (route_by h) k)) (end_ahead (route_by (c ∷ h)).load (standing_by (c ∷ h))) =
-      rw (v.is_load_lem, changes_by) (ap (λ o. hold_revoked o (end_ahead (route_by (c ∷ h)).load (standing_by (c ∷ h)))) ends_it) in
+      let changes : changes_by h c ≡ hold_revoked (Some (point (route_by h) k)) (end_ahead (route_by (c ∷ h)).load (standing_by (c ∷ h))) ++ trackside_by h c =
+      rw (v.is_load_lem, changes_by) (ap (λ o. hold_revoked o (end_ahead (route_by (c ∷ h)).load (standing_by (c ∷ h))) ++ trackside_by h c) ends_it) in
+      let told = map (timing_point (route_by (c ∷ h)) (position_by (c ∷ h))) (trackside_by h c) in
       let first = jp_received (route_by (c ∷ h)) (position_by (c ∷ h)) d in
       let second = timing_point_of (header (route_by (c ∷ h)) (position_by (c ∷ h))) (point (route_by h) k) status_hold_revoked (end_ahead (route_by (c ∷ h)).load (standing_by (c ∷ h))) in
-      let packets : packets_by h c ≡ first ∷ second ∷ behind h c = rw (head, changes) in
-      (packet_bytes first, bytes_of_each (behind h c), ap (λ t. bytes_of_each (packets_if h c t)) v.accepted ∙ ap bytes_of_each packets, refl)
+      let packets : packets_by h c ≡ first ∷ second ∷ (told ++ behind h c) = rw (head, changes) in
+      (packet_bytes first, bytes_of_each (told ++ behind h c), ap (λ t. bytes_of_each (packets_if h c t)) v.accepted ∙ ap bytes_of_each packets, refl)
 
 pub each-held : (earlier : List Call) (c : Call) → EachHeld earlier c
 each-held earlier c =

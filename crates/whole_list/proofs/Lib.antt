@@ -21,5 +21,6 @@ pub mod Creeping
 pub mod RowNumbers
 pub mod TurnedDown
 pub mod Held
+pub mod Trackside
 pub mod Computed
 pub mod Example

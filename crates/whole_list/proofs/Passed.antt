@@ -39,7 +39,7 @@ use Rattle.whole_list.proofs.Requests.{in_left, in_right, in-append}
 use Rattle.whole_list.proofs.Fields.{progress_run, in-range}
 use Rattle.whole_list.proofs.FieldsStep.{route_kept, position_new}
 use Rattle.whole_list.proofs.Readable.{written_fit, read_as}
-use Rattle.whole_list.proofs.ChangeKinds.{member, in_map, Reports, Kind, of_report, of_hold, of_driver, which, driver_late}
+use Rattle.whole_list.proofs.ChangeKinds.{member, in_map, Reports, Kind, of_report, of_hold, of_trackside, of_driver, which, tells_late, driver_late}
 
 -- a change of status 0 to 3 is of a position report
 reported : (h : History) (c : Call) (d : PointChange) → In d (changes_by h c) → d.status ≤ status_held → Reports h c d
@@ -48,6 +48,7 @@ reported h c d i s = go (which h c d i)
     go : Kind h c d → Reports h c d
     go (of_report r) = r
     go (of_hold e) = let four : d.status ≡ 4 = ap (λ (d : PointChange). d.status) e.is in absurd (omega arith)
+    go (of_trackside t) = absurd (omega (arith, s, tells_late h c d t))
     go (of_driver b) = absurd (omega (arith, s, driver_late d.status b))
 
 -- ---- the packets

@@ -1,7 +1,7 @@
 -- Every packet of a call is within its ranges: the reader takes its bytes and gives it back.
 use Rattle.std.specs.Prelude.{if◌then◌else◌, Option, Some, None}
 use mathlib.Core.Path.{◌≡◌, refl, sym, ◌∙◌, ap, subst}
-use mathlib.Core.Logic.{inl, inr}
+use mathlib.Core.Logic.{◌⊎◌, inl, inr}
 use mathlib.Core.Bool.{Bool, true, false, ◌&&◌, ◌||◌}
 use mathlib.Core.List.{List, [], ◌∷◌, ◌++◌, map}
 use Prim.Native.Nat.{ℕ, zero, suc, ◌+◌, ◌≤◌}
@@ -50,12 +50,15 @@ use Rattle.conditions.proofs.NineLaws.{conditions_zeros}
 use Rattle.state_codes.proofs.CodeLaws.{code-most}
 use Rattle.hold.specs.Hold.{keeps_hold, hold_ended}
 use Rattle.hold.proofs.Laws.{held_is}
+use Rattle.trackside.specs.Trackside.{mark_of, marks, each_told}
+use Rattle.trackside.proofs.Laws.{each_all}
+use Rattle.trackside.proofs.Sentences.{sentences}
 use Rattle.call_values.specs.Packets.{PointChange, point_change, hold_revoked, header, timing_point, jp_received, traction_brake, traction_brakes, ato_status, status_due, received, packets_of, jp_turned_down, packets_refused}
 use Rattle.call_values.specs.Call.{Call}
 use Rattle.whole_list.specs.Values.{History, event_of_call, load_of_call, role_of_call, position_by, route_by}
 use Rattle.whole_list.specs.Rules.{standing_by, conditions_by, state_by}
 use Rattle.whole_list.specs.Requests.{traction_by}
-use Rattle.whole_list.specs.Table.{own_by, becomes_reached, held_stop_by, load_changes, change_at, standing_then, changes_from, skip_change, changes_by, head_of, head_of_call, status_by, packets_by, table_by, packets_refused_by, packets_if, written_by}
+use Rattle.whole_list.specs.Table.{own_by, becomes_reached, held_stop_by, hold_change, trackside_by, load_changes, change_at, standing_then, changes_from, skip_change, changes_by, head_of, head_of_call, status_by, packets_by, table_by, packets_refused_by, packets_if, written_by}
 use Rattle.whole_list.specs.Recorded.{In}
 use Rattle.whole_list.specs.WholeList.{bytes_of_each}
 use Rattle.whole_list.proofs.Recorded.{Ranged}
@@ -209,6 +212,16 @@ ended_fits h j x = go (held_stop_by h) refl
         let (k, l, s, e, m) = held_is (route_by h) (standing_by h) p q in
         by p (rw s ((route-in h).points k)) (keeps_hold j p.nidtp)
 
+-- the points that a load tells of are the new journey's
+told_fits : (h : History) (j : Route) → RouteIn j → (x : Bool) → All ChangeFits (each_told (route_by h) j (λ k s. point_change (point j k) s x))
+told_fits h j r x =
+    each_all (route_by h) j ChangeFits (λ k s. point_change (point j k) s x)
+    (λ k s l e. (r.points k, status_fits_8 (sentences.no_other (marks (route_by h)) (mark_of (point j k)) s e)))
+  where
+    status_fits_8 : {s : ℕ} → (s ≡ 7) ⊎ (s ≡ 8) → s ≤ 8
+    status_fits_8 (inl e) = omega arith
+    status_fits_8 (inr e) = omega arith
+
 changes_in_lem : (h : History) (c : Call) → All ChangeFits (changes_by h c)
 unfolding changes_by
 changes_in_lem h c = go (role_of_call c)
@@ -221,7 +234,7 @@ changes_in_lem h c = go (role_of_call c)
       | skip t on ↦ skip_change (route_by h) (stop_named (route_by h) t) on (end_ahead (route_by h).load (standing_by h))
     ])
     go off = tt
-    go load = ended_fits h (route_by (c ∷ h)) _
+    go load = all_append ChangeFits (hold_change h c) (trackside_by h c) (ended_fits h (route_by (c ∷ h)) _) (told_fits h (route_by (c ∷ h)) (route-in (c ∷ h)) _)
     go report = changes_fit (route_by h) (route-in h) (standing_by h) (standing_by (c ∷ h)) (point_count (route_by h)) 0
     go other = tt
     go (skip t on) = skip_fits (route_by h) (route-in h) (stop_named (route_by h) t) on _

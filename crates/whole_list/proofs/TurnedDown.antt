@@ -178,27 +178,33 @@ module _ (h : History) (c : Call) (p : JpReceived) where
 -- ---- an accepted load
 
 module _ (h : History) (c : Call) where
-  -- has a head
-  pub loaded-has : table_by h c ≡ accept tt → role_of_call c ≡ load → (d : Head) × (head_of_call c ≡ Some d)
-  unfolding table_by kind_rows load_of_call
-  loaded-has e q =
+  -- is read
+  pub loaded_as : table_by h c ≡ accept tt → role_of_call c ≡ load → (l : LoadValue) × (load_of c.journey c.book ≡ accept l)
+  unfolding table_by kind_rows
+  loaded_as e q =
       let (event, _, f₁) = then_accepts (event_of c.event) _ tt e in
       let (_, _, f₂) = then_accepts (power_rows (state_by h) (kind_of event)) _ tt f₁ in
       let (_, _, f₃) = then_accepts (state_row (state_by h) (kind_of event)) _ tt f₂ in
       let (_, _, f₄) = then_accepts (hold_row (held_stop_by h) (kind_of event)) _ tt f₃ in
       let (_, e₅, _) = then_accepts (kind_rows h c) _ tt f₄ in
-      has (load_of c.journey c.book) refl (sym (kind_is (role_of_call c) q) ∙ e₅)
+      read (load_of c.journey c.book) refl (sym (kind_is (role_of_call c) q) ∙ e₅)
     where
       kind_is : (r : Role) → r ≡ load → rows_as h c r ≡ load_rows h c (load_of c.journey c.book)
       kind_is r q = rw q refl
 
+      read : (v : Judged LoadValue) → load_of c.journey c.book ≡ v → load_rows h c v ≡ accept tt → (l : LoadValue) × (load_of c.journey c.book ≡ accept l)
+      read (refuse n) z k = cc
+      read (accept l) z k = (l, z)
+
+  -- has a head
+  pub loaded-has : table_by h c ≡ accept tt → role_of_call c ≡ load → (d : Head) × (head_of_call c ≡ Some d)
+  unfolding load_of_call
+  loaded-has e q =
+      let (l, z) = loaded_as e q in
+      (l.head, head_is (role_of_call c) q ∙ ap (λ v. head_of (elim v [ refuse n ↦ None | accept l ↦ Some l ])) z)
+    where
       head_is : (r : Role) → r ≡ load → elim r [ off ↦ None | load ↦ head_of (load_of_call c) | report ↦ None | other ↦ None | skip t on ↦ None ] ≡ head_of (load_of_call c)
       head_is r q = rw q refl
-
-      has : (v : Judged LoadValue) → load_of c.journey c.book ≡ v → load_rows h c v ≡ accept tt → (d : Head) × (head_of_call c ≡ Some d)
-      has (refuse n) z k = cc
-      has (accept l) z k =
-          (l.head, head_is (role_of_call c) q ∙ ap (λ v. head_of (elim v [ refuse n ↦ None | accept l ↦ Some l ])) z)
 
   -- and only a load has
   of_load : (d : Head) → head_of_call c ≡ Some d → role_of_call c ≡ load

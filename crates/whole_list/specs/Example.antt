@@ -1,6 +1,6 @@
 -- The claim is not empty: lists of calls, refused ones among them: one that ends in EG, one that ends in DE, one that creeps, one whose profiles are turned
 -- down, one that is held, one with traction requests.
-use Rattle.std.specs.Prelude.{◌≡◌, true, false, List, [], ◌∷◌, ◌++◌, map, ℕ, length, drop, replicate, set, Some, None, is_some}
+use Rattle.std.specs.Prelude.{◌≡◌, true, false, List, [], ◌∷◌, ◌++◌, map, ℕ, length, take, drop, replicate, set, Some, None, is_some}
 use Rattle.status_word.specs.View.{conditions_number}
 use Rattle.engine_value.specs.Engine.{fresh}
 use Rattle.position.specs.Standing.{standing}
@@ -15,6 +15,8 @@ use Rattle.whole_list.specs.Requests.{requests_since, traction_by}
 use Rattle.whole_list.specs.Rules.{standing_by, conditions_by, state_by, request_by}
 use Rattle.whole_list.specs.Table.{held_stop_by}
 use Rattle.whole_list.specs.Calls.{engine_after, Done, trace, history_of, last_answer}
+use Rattle.trackside.specs.Trackside.{Foretold, foretell}
+use Rattle.whole_list.specs.Trackside.{journey_of_call, journey_by, foretold_from, skips_told}
 use Rattle.whole_list.specs.Recorded.{recorded_by, last_status}
 
 -- the journey of document 01's trials: a stop at 7001, where a press in CO is refused
@@ -63,6 +65,17 @@ released = held ++ (trial_load ∷ at 39900 0 ∷ press ∷ mode 1 ∷ [])
 -- pressed before the held stop is reached
 abbrev pub pressed : List Call
 pressed = coming ++ (press ∷ at 39900 0 ∷ mode 1 ∷ [])
+
+-- 7001 gains the trackside skip, keeps it and loses it; after power off there is no old journey
+abbrev pub skipped_load : Call
+skipped_load = loads (set trial_journey 16 0x33) trial_book
+
+abbrev pub skipping : List Call
+skipping = power_on ∷ trial_load ∷ skipped_load ∷ skipped_load ∷ trial_load ∷ plain (0x03 ∷ []) ∷ power_on ∷ skipped_load ∷ []
+
+-- what is foretold of that load behind these calls
+abbrev pub foretold_behind : List Call → List Foretold
+foretold_behind calls = elim (journey_of_call skipped_load) [ None ↦ [] | Some j ↦ foretold_from (journey_by (history_of calls)) j ]
 
 -- engaged, requests of 20 and 75 (range 2), −72, which range 2 holds, and −72 with another Q_ATO_SupTB; one in RE, and one of 101, which is refused
 abbrev pub request : ℕ → ℕ → Call
@@ -128,6 +141,13 @@ pub record Example : Type 0 where
   pub at_held_stop : map (λ (l : List Call). is_some (held_stop_by (history_of l))) (held ∷ released ∷ pressed ∷ []) ≡ true ∷ false ∷ true ∷ []
   pub reached_held : stands held 0 ≡ Reached
   pub engaged_held : (engine_after pressed).control.state ≡ 5
+  -- 62 of status 7 and 8, each foretold
+  pub answers_skipping : answers_of skipping
+      ≡ answered 1 false 19 ∷ answered 1 false 48 ∷ answered 1 false 54 ∷ answered 1 false 29 ∷ answered 1 false 54 ∷ answered 0 false 19 ∷ answered 1 false 19
+      ∷ answered 1 false 48 ∷ []
+  pub told_skipping : map (λ (d : Done). skips_told (recorded_by d)) (trace fresh skipping)
+      ≡ [] ∷ [] ∷ (foretell 7001 7 ∷ []) ∷ [] ∷ (foretell 7001 8 ∷ []) ∷ [] ∷ [] ∷ [] ∷ []
+  pub foretold_skipping : map foretold_behind (take 2 skipping ∷ take 3 skipping ∷ take 7 skipping ∷ []) ≡ (foretell 7001 7 ∷ []) ∷ [] ∷ [] ∷ []
   -- 61 at 20, at 75 and with the other Q_ATO_SupTB; by the rules and in the engine range 2 and 6, until EG is entered again
   pub requests : answers_of pulling
       ≡ answered 1 false 19 ∷ refused 6 0 ∷ answered 1 false 48 ∷ answered 1 false 44 ∷ answered 1 false 19 ∷ answered 4 true 19 ∷ answered 4 true 0

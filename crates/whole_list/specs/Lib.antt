@@ -9,4 +9,5 @@ pub mod WholeList
 pub mod Creeping
 pub mod TurnedDown
 pub mod Held
+pub mod Trackside
 pub mod Example

@@ -18,6 +18,7 @@ use Rattle.position.specs.declared.Standing.{Standing}
 use Rattle.position.specs.declared.Standing.TheVariants.{Unused, Targeted, Reached, Passed}
 use Rattle.state_codes.specs.Codes.{code}
 use Rattle.hold.specs.Hold.{held_stop, hold_row, hold_ended}
+use Rattle.trackside.specs.Trackside.{each_told}
 use Rattle.conditions.specs.Conditions.{end_ahead}
 use Rattle.state_codes.specs.Numbers.{power_rows, state_row}
 use Rattle.call_values.specs.Packets.{PointChange, point_change, hold_revoked, Status, traction_brakes, packets_of, packets_refused}
@@ -71,9 +72,20 @@ skip_change j (Some k) on ahead = point_change (point j k) (if on then status_sk
 abbrev pub held_stop_by : History → Option Point
 held_stop_by h = held_stop (route_by h) (standing_by h)
 
--- "points that a load puts behind write none"; 02, Q-5: a load that ends a hold "status 4", with "the new journey's Q_EOJ_REACHED"
+-- "points that a load puts behind write none" for that; 02, Q-5: a load that ends a hold "status 4", with "the new journey's Q_EOJ_REACHED"
+abbrev pub hold_change : History → Call → List PointChange
+hold_change h c = hold_revoked (hold_ended (held_stop_by h) (route_by (c ∷ h))) (end_ahead (route_by (c ∷ h)).load (standing_by (c ∷ h)))
+
+-- 02, Q-6: "each point whose NID_TP is in both journeys and that gained the trackside skip .. status 7, and each that lost it status 8", with "the new
+-- point's fields"
+abbrev pub trackside_by : History → Call → List PointChange
+trackside_by h c =
+    let new = route_by (c ∷ h) in
+    each_told (route_by h) new (λ k s. point_change (point new k) s (end_ahead new.load (standing_by (c ∷ h))))
+
+-- Q-6: they "come after any status 4"
 abbrev pub load_changes : History → Call → List PointChange
-load_changes h c = hold_revoked (hold_ended (held_stop_by h) (route_by (c ∷ h))) (end_ahead (route_by (c ∷ h)).load (standing_by (c ∷ h)))
+load_changes h c = hold_change h c ++ trackside_by h c
 
 unfoldable pub changes_by : History → Call → List PointChange
 changes_by h c = elim (role_of_call c) [

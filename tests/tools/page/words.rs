@@ -126,6 +126,8 @@ fn check_statuses(page: &Page) -> Checked<()> {
         ("stopped", report(40_000, 0)),
         ("departed", report(40_151, 1)),
         ("passed", report(90_001, 1)),
+        ("skipped by trackside", first_point(|point| point.skipped = true)),
+        ("trackside skip revoked", two_points()),
     ];
     let rows = page.table("Packet 62", "Status")?;
     same(rows[0].line, "statuses", rows.len(), told.len())?;
@@ -171,6 +173,45 @@ fn check_holds(page: &Page) -> Checked<()> {
         play(&mut pair, &before, row.line)?;
         let (_, packets) = play(&mut pair, &[load], row.line)?;
         same(row.line, "packets", row.text("Packets")?, &numbers_of(&packets))?;
+    }
+    Ok(())
+}
+
+/// The two, the stop changed.
+fn first_point(change: impl Fn(&mut JourneyPoint)) -> Call {
+    let mut journey = journey_of_two(true);
+    change(&mut journey.points[0]);
+    load_of(journey)
+}
+
+/// The load whose journey has the stop as the page names it.
+fn load_with(name: &str, line: usize) -> Checked<Call> {
+    Ok(match name {
+        "a stop" | "a stop that the driver skips" => two_points(),
+        "a passing point" => first_point(|point| point.stop = false),
+        "skipped by trackside" | "skipped by trackside, and by the driver" => first_point(|point| point.skipped = true),
+        "not there" => {
+            let mut journey = journey_of_two(true);
+            journey.points.remove(0);
+            load_of(journey)
+        }
+        _ => return wrong(line, format!("no journey has it as '{name}'")),
+    })
+}
+
+/// What a load writes of a point, by what it is in the journey before and in the new one.
+fn check_trackside(page: &Page) -> Checked<()> {
+    for row in page.table("7. Timing points", "Before the load")? {
+        let before = row.text("Before the load")?;
+        let mut calls = vec![Call::power_on(), load_with(before, row.line)?];
+        if before.contains("driver") {
+            calls.push(Call::skip(7001));
+        }
+        let mut pair = Pair::fresh();
+        play(&mut pair, &calls, row.line)?;
+        let (_, packets) = play(&mut pair, &[load_with(row.text("In its journey")?, row.line)?], row.line)?;
+        let told = packets.iter().find(|packet| packet[0] == 62).map(|packet| read(packet).status.to_string());
+        same(row.line, "status", row.text("Status")?, told.as_deref().unwrap_or("none"))?;
     }
     Ok(())
 }
@@ -267,6 +308,7 @@ pub fn check(page: &Page, header: &str) -> Checked<usize> {
     check_standings(page)?;
     check_creeps(page)?;
     check_holds(page)?;
+    check_trackside(page)?;
     check_statuses(page)?;
     check_loads(page)?;
     check_numbers(page)?;

@@ -115,6 +115,12 @@ line 83: load Held Line
     410011000001F40000EA4C0000000123450011002A2328000055500300
         65 journey taken: NID_C 17, NID_ATOTS 42, date 9000, seconds 21840, counter 3, status 0
         [NID_C 17 NID_SP 500 offset 59980 speed 0 NID_OPERATIONAL 00012345]
+    3E0011000001F40000EA4C000000012345001100001B5B3B00
+        62 Mill skipped by trackside: NID_C 17, NID_TP 7003, Q_EOJ_REACHED 1 (End of Journey ahead), alignment middle, stopping data 0
+        [NID_C 17 NID_SP 500 offset 59980 speed 0 NID_OPERATIONAL 00012345]
+    3E0011000001F40000EA4C000000012345001100001B5D3900
+        62 Chapel skipped by trackside: NID_C 17, NID_TP 7005, Q_EOJ_REACHED 1 (End of Journey ahead), alignment front, stopping data 0
+        [NID_C 17 NID_SP 500 offset 59980 speed 0 NID_OPERATIONAL 00012345]
 
 line 84: position Depot 59980 speed 0
     RE, AD requested; reached: Shed
@@ -135,6 +141,9 @@ line 88: load Second Line
         [NID_C 17 NID_SP 500 offset 59980 speed 0 NID_OPERATIONAL 00012345]
     3E0011000001F40000EA4C000000012345001100001B592100
         62 Shed hold revoked: NID_C 17, NID_TP 7001, Q_EOJ_REACHED 1 (End of Journey ahead), alignment front, stopping data 0
+        [NID_C 17 NID_SP 500 offset 59980 speed 0 NID_OPERATIONAL 00012345]
+    3E0011000001F40000EA4C000000012345001100001B5D4100
+        62 Chapel trackside skip revoked: NID_C 17, NID_TP 7005, Q_EOJ_REACHED 1 (End of Journey ahead), alignment front, stopping data 0
         [NID_C 17 NID_SP 500 offset 59980 speed 0 NID_OPERATIONAL 00012345]
 
 line 89: position Depot 59980 speed 0

@@ -1,5 +1,7 @@
 -- Each exit of a load whose profiles are read.
-use Rattle.std.proofs.Common.{◌≡◌, ◌∙◌, sym, ap, refl, rules, List, ℕ}
+use Rattle.std.proofs.Common.{◌≡◌, ◌∙◌, sym, ap, subst, refl, List, ℕ}
+use Rattle.engine_value.specs.Engine.{Route}
+use Rattle.engine_value.specs.declared.Engine.{Engine}
 use Rattle.wire.specs.Judged.Judged.{accept}
 use Rattle.hold.specs.Hold.{rows_of_state}
 use Rattle.event.specs.Events.{event_of}
@@ -7,10 +9,10 @@ use Rattle.event.specs.Kinds.{load, kind_of, role_of, carried}
 use Rattle.call.specs.Call as model
 use Rattle.route.specs.Route.{load_of}
 use Rattle.route.specs.View.{loaded_view}
-use Rattle.effects.specs.View.{effect_view}
+use Rattle.effects.specs.View.{effect_view, TellsOf}
 use Rattle.judge.specs.View.{engine_after}
 use Rattle.engine.specs.View.{call}
-use Rattle.engine.proofs.Laws.{refused_by, accepted_by, Occurs, has_effect, load_taken}
+use Rattle.engine.proofs.Laws.{err_is, refused_by, accepted_by, Occurs, has_effect, load_taken}
 use Rattle.engine.proofs.loaded.Goals as goal
 use Rattle.engine.proofs.loaded.Goals.{After-new-o, After-load}
 
@@ -35,15 +37,17 @@ load_judged : (c : After-load) (bytes journey book : List ℕ) → Occurs c.args
 load_judged c bytes journey book o role taken =
     let a = c.args in
     let v = c.new-o.result in
+    let told : TellsOf v.engine.now (loaded_view a.l.now).route c.told-told.result =
+    subst (λ (e : Engine). TellsOf e (loaded_view a.l.now).route c.told-told.result) (sym c.new-o.ensures.engine) (subst (λ (j : Route). TellsOf a.e.now j c.told-told.result) c.route.ensures c.told-told.ensures) in
     has_effect a.e.now (call bytes journey book a.out.now) v o load role (effect_view c.load.result)
-    (ap accept (c.load.ensures.effect (sym role)) ∙ load_taken v.engine.now (carried v.event) journey book (loaded_view a.l.now) taken)
+    (ap accept (c.load.ensures.effect (sym role) told) ∙ load_taken v.engine.now (carried v.event) journey book (loaded_view a.l.now) taken)
 
 pub returns-in_err-t : goal.returns-in_err-t
 returns-in_err-t c = λ bytes journey book read allowed role taken.
     let a = c.args in
     let p = goal.at.returns-in_err-t c in
     let k = call bytes journey book a.out.now in
-    refused_by a.e.now k c.from_residual.result c.in_err-t.field-0.0 (search rules)
+    refused_by a.e.now k c.from_residual.result c.in_err-t.field-0.0 (err_is _ _ c.from_residual.ensures.1)
     (c.in_err-t.ensures.step a.out.now refl c.load.ensures.beside ∙ load_judged p.After-load bytes journey book (occurs p.After-new-o bytes journey book read allowed) (its_role p.After-new-o role) taken)
 
 pub returns : goal.returns

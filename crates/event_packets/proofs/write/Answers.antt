@@ -4,7 +4,7 @@ use lib.Seq.{sets}
 use Rattle.engine_value.specs.Engine.{route_in}
 use Rattle.packets.specs.Packets.{joined}
 use Rattle.call_values.specs.Packets.{traction_brake, ato_status}
-use Rattle.event_packets.specs.View.{jp_received_view, revoked_packet, packets_view}
+use Rattle.event_packets.specs.View.{jp_received_view, told_hold, revoked_packet, packets_view}
 use Rattle.event_packets.proofs.Stored.{changed, put_then, put_all, in_kinds}
 use Rattle.event_packets.proofs.write.Goals as goal
 
@@ -13,7 +13,7 @@ returns c =
     let e = c.args.e.now in
     let w = c.args.w.now in
     let received : c.map-received.result ≡ option_map (jp_received_view e) w.received = search rules in
-    let revoked : c.map-revoked.result ≡ option_map (revoked_packet e) w.hold_ended = search rules in
+    let revoked : c.map-revoked.result ≡ option_map (revoked_packet e) (told_hold w.told) = search rules in
     let first : c.map-first.result ≡ option_map (changed e) w.changes.first = search rules in
     let last : c.map-last.result ≡ option_map (changed e) w.changes.last = search rules in
     let held : c.map-held.result ≡ option_map (changed e) w.changes.held = search rules in
@@ -21,8 +21,8 @@ returns c =
     let status : c.map-status.result ≡ option_map (ato_status (route_in e) e.train.position e.control.state) w.status = search rules in
     let whole : c.put-7.new.self.memory.now ≡ sets c.args.out.now 0 (joined (packets_view e w)) =
     put_all _ _ _ _
-    (put_then _ _ _ _ _ _ _ _ (put_then _ _ _ _ _ _ _ _ (put_then _ _ _ _ _ _ _ _ (put_then _ _ _ _ _ _ _ _ (put_then _ _ _ _ _ _ _ _ (put_then _ _ _ _ _ _ _ _ (put_then _ _ _ _ _ _ _ _
-    c.put.ensures.put c.put-2.ensures.put) c.put-3.ensures.put) c.put_passed.ensures.put) c.put-4.ensures.put) c.put-5.ensures.put) c.put-6.ensures.put) c.put-7.ensures.put)
+    (put_then _ _ _ _ _ _ _ _ (put_then _ _ _ _ _ _ _ _ (put_then _ _ _ _ _ _ _ _ (put_then _ _ _ _ _ _ _ _ (put_then _ _ _ _ _ _ _ _ (put_then _ _ _ _ _ _ _ _ (put_then _ _ _ _ _ _ _ _ (put_then _ _ _ _ _ _ _ _
+    c.put.ensures.put c.put-2.ensures.put) c.put_told.ensures.put) c.put-3.ensures.put) c.put_passed.ensures.put) c.put-4.ensures.put) c.put-5.ensures.put) c.put-6.ensures.put) c.put-7.ensures.put)
     ∙ ap (λ ps. sets c.args.out.now 0 (joined ps)) (rw (received, revoked, first, last, held, requested, status) (in_kinds e w))
     in
     search (rules, whole)

@@ -25,7 +25,7 @@ judgement c =
       effect = c.args.f.now;
       control = c.control_after-control.result;
       traction = c.traction_after-traction.result;
-      writes = record { received = c.args.f.now.received; hold_ended = c.args.f.now.hold_ended; changes = c.args.f.now.changes; requested = c.content_written.result; status = c.then_some.result };
+      writes = record { received = c.args.f.now.received; told = c.args.f.now.told; changes = c.args.f.now.changes; requested = c.content_written.result; status = c.then_some.result };
       size = c.size-size.result;
     }
 
