@@ -12,7 +12,7 @@ use Rattle.engine_value.specs.Engine.{route_in, fresh}
 use Rattle.engine_value.specs.declared.Engine.{Engine}
 use Rattle.event.specs.Events.{event_of}
 use Rattle.event.specs.Kinds.{kind_of}
-use Rattle.event.specs.declared.Event.{Event}
+use Rattle.event.specs.Event.{Event}
 use Rattle.packets.specs.Packets.{joined}
 use Rattle.status_word.specs.View.{conditions_number}
 use Rattle.status_word.proofs.ConditionLaws.{number-most}

@@ -18,7 +18,7 @@ use Rattle.engine_value.specs.declared.Position.{Position}
 use Rattle.engine_value.specs.declared.Progress.{Progress}
 use Rattle.engine_value.specs.declared.Engine.{Engine}
 use Rattle.event.specs.declared.TractionRequest.{TractionRequest}
-use Rattle.event.specs.declared.Event.{Event}
+use Rattle.event.specs.Event.{Event}
 use Rattle.event.proofs.Known.{OfTraction, traction-of}
 use Rattle.event.specs.Kinds.{Role, off, load, report, other, skip, Carried, role_of, carried}
 use Rattle.packets.specs.Packets.{packet_bytes, joined}

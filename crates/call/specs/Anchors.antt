@@ -15,12 +15,12 @@ use Rattle.engine_value.specs.declared.Traction.{Traction}
 use Rattle.engine_value.specs.declared.Engine.{Engine}
 use Rattle.event.specs.Kinds.{carried}
 use Rattle.event.specs.declared.TractionRequest.{TractionRequest}
-use Rattle.event.specs.declared.Event.{Event}
-use Rattle.event.specs.declared.Event.TheVariants.{PowerOn, Configured, PowerOff, Fault, Reports, Mode, Lever, Press, PositionReport, Length, Load, Skip, Revoke, Traction as Request}
+use Rattle.event.specs.Event.{Event}
+use Rattle.event.specs.Event.Event.{PowerOn, Configured, PowerOff, Fault, Reports, Mode, Lever, Press, PositionReport, Length, Load, Skip, Revoke, Traction as Request}
 use Rattle.status_word.specs.Anchors.{numbered}
 use Rattle.status_word.specs.View.{conditions_number}
 use Rattle.packets.specs.declared.Header.{Header}
-use Rattle.packets.specs.declared.Packet.{Packet}
+use Rattle.packets.specs.Packet.{Packet}
 use Rattle.journey.specs.declared.Head.{Head}
 use Rattle.route.specs.Route.{LoadValue}
 use Rattle.position.specs.Position.{point}

@@ -7,10 +7,10 @@ use Rattle.engine_value.specs.declared.Control.{Control}
 use Rattle.engine_value.specs.declared.Engine.{Engine}
 use Rattle.event.specs.Events.{event_of}
 use Rattle.event.specs.Kinds.{kind_of}
-use Rattle.event.specs.declared.Event.{Event}
+use Rattle.event.specs.Event.{Event}
 use Rattle.packets.specs.Packets.{joined}
 use Rattle.status_word.specs.declared.OperationalConditions.{OperationalConditions}
-use Rattle.packets.specs.declared.Packet.{Packet}
+use Rattle.packets.specs.Packet.{Packet}
 use Rattle.position.specs.Standing.{standing}
 use Rattle.state_codes.specs.Codes.{state_at}
 use Rattle.conditions.specs.Conditions.{conditions}

@@ -3,8 +3,8 @@ use Rattle.std.specs.Prelude.{List, ◌++◌, map, Option}
 use Rattle.engine_value.specs.Engine.{Route, route_in}
 use Rattle.engine_value.specs.declared.Point.{Point}
 use Rattle.engine_value.specs.declared.Engine.{Engine}
-use Rattle.event.specs.declared.Event.{Event}
-use Rattle.packets.specs.declared.Packet.{Packet}
+use Rattle.event.specs.Event.{Event}
+use Rattle.packets.specs.Packet.{Packet}
 use Rattle.position.specs.Position.{point}
 use Rattle.position.specs.Standing.{standing}
 use Rattle.timing.specs.Changes.{Change}

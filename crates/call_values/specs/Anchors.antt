@@ -8,7 +8,7 @@ use Rattle.engine_value.specs.declared.Position.{Position}
 use Rattle.status_word.specs.Anchors.{numbered}
 use Rattle.packets.specs.declared.Header.{Header}
 use Rattle.packets.specs.declared.Requested.{Requested}
-use Rattle.packets.specs.declared.Packet.{Packet}
+use Rattle.packets.specs.Packet.{Packet}
 use Rattle.journey.specs.declared.Head.{Head}
 use Rattle.position.specs.Position.{segment_named}
 use Rattle.call_values.specs.Rows.{offset_beyond, same_bool}

@@ -11,7 +11,7 @@ use Rattle.status_word.specs.View.{same_conditions}
 use Rattle.packets.specs.declared.Header.{Header}
 use Rattle.status_word.specs.declared.OperationalConditions.{OperationalConditions}
 use Rattle.packets.specs.declared.Requested.{Requested}
-use Rattle.packets.specs.declared.Packet.{Packet}
+use Rattle.packets.specs.Packet.{Packet}
 use Rattle.journey.specs.Journey.{no_atots}
 use Rattle.journey.specs.declared.Head.{Head}
 use Rattle.position.specs.Position.{known}

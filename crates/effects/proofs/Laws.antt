@@ -11,7 +11,7 @@ use Rattle.packets.specs.declared.PointStatus.{PointStatus}
 use Rattle.trackside.specs.Trackside.{trackside_changes}
 use Rattle.trackside.specs.View.{status_at, changes_from}
 use Rattle.trackside.proofs.Laws.{changes_are}
-use Rattle.event.specs.declared.Event.{Event}
+use Rattle.event.specs.Event.{Event}
 use Rattle.event.specs.Kinds.{load, skip, role_of, carried, nothing, bringing}
 use Rattle.event.proofs.Known.{OfRole, known}
 use Rattle.event_packets.specs.View.{changes_view}

@@ -6,6 +6,7 @@ ghost use Rattle.wire.specs.View.{judged_by};
 ghost use Rattle.engine_value.specs.View.{route_view};
 ghost use Rattle.engine_value.specs.declared.Engine as engine;
 ghost use Rattle.event.specs.Kinds.{other, report, skip, load, role_of, carried};
+ghost use Rattle.event.specs.View.{event_view};
 ghost use Rattle.call_values.specs.Rows.{offset_beyond};
 ghost use Rattle.call.specs.Effect.{route_after, train_with, inputs_with, values_only, power_off, position_effect, loaded_in, skip_effect};
 ghost use Rattle.route.specs.View.{loaded_view};
@@ -89,7 +90,7 @@ fn unchanged<'a>(e: &Engine, after: RouteConditions) -> Effect<'a>
 // ---- the values that an event brings
 
 fn train_with(o: &Occurrence) -> Train
-    ensures { result ≡ train_with o.now.engine.now (carried o.now.event) }
+    ensures { result ≡ train_with o.now.engine.now (carried (event_view o.now.event)) }
 {
     let e = o.engine;
     match o.event {
@@ -103,7 +104,7 @@ fn train_with(o: &Occurrence) -> Train
 }
 
 fn inputs_with(o: &Occurrence) -> Inputs
-    ensures { result ≡ inputs_with o.now.engine.now (carried o.now.event) }
+    ensures { result ≡ inputs_with o.now.engine.now (carried (event_view o.now.event)) }
 {
     let e = o.engine;
     match o.event {
@@ -120,8 +121,8 @@ fn inputs_with(o: &Occurrence) -> Inputs
 // An event that brings values, or nothing. `beside` supposes its role, as below: each function another one, so that no type says it for all.
 #[tactic(auto, unfolding(timing::specs::Changes::passings))]
 pub fn values<'a>(o: &Occurrence) -> Effect<'a>
-    ensures effect { effect_view result ≡ values_only o.now.engine.now (carried o.now.event) }
-    ensures beside { role_of o.now.event ≡ other → Beside o.now.engine.now result }
+    ensures effect { effect_view result ≡ values_only o.now.engine.now (carried (event_view o.now.event)) }
+    ensures beside { role_of (event_view o.now.event) ≡ other → Beside o.now.engine.now result }
 {
     Effect {
         train: train_with(o),
@@ -174,8 +175,8 @@ fn changes_of(index: u8, t: Reported, held: bool) -> Changes
 // A position report.
 #[tactic(auto, unfolding(call::specs::Effect::position_effect), using(crate::proofs::Laws::then_some))]
 pub fn report<'a>(o: &Occurrence) -> Result<Effect<'a>, Refusal>
-    ensures effect { judged_by effect_view result ≡ position_effect o.now.engine.now (carried o.now.event) o.now.looked }
-    ensures beside { role_of o.now.event ≡ report → IfOk result (λ f. Beside o.now.engine.now f) }
+    ensures effect { judged_by effect_view result ≡ position_effect o.now.engine.now (carried (event_view o.now.event)) o.now.looked }
+    ensures beside { role_of (event_view o.now.event) ≡ report → IfOk result (λ f. Beside o.now.engine.now f) }
 {
     let e = o.engine;
     let train = train_with(o);
@@ -200,8 +201,8 @@ pub fn report<'a>(o: &Occurrence) -> Result<Effect<'a>, Refusal>
 // A driver skip, or its revocation.
 #[tactic(auto, unfolding(call::specs::Effect::skip_effect, timing::specs::Changes::passings), using(crate::proofs::Laws::carries_skip))]
 pub fn skip<'a>(o: &Occurrence, on: bool) -> Result<Effect<'a>, Refusal>
-    ensures effect { (t : ℕ) → role_of o.now.event ≡ skip t on → judged_by effect_view result ≡ skip_effect o.now.engine.now (carried o.now.event) on o.now.looked.stop }
-    ensures beside { (t : ℕ) → role_of o.now.event ≡ skip t on → IfOk result (λ f. Beside o.now.engine.now f) }
+    ensures effect { (t : ℕ) → role_of (event_view o.now.event) ≡ skip t on → judged_by effect_view result ≡ skip_effect o.now.engine.now (carried (event_view o.now.event)) on o.now.looked.stop }
+    ensures beside { (t : ℕ) → role_of (event_view o.now.event) ≡ skip t on → IfOk result (λ f. Beside o.now.engine.now f) }
 {
     let e = o.engine;
     let stop = o.looked.stop.ok_or(Refusal::NoStop)?;
@@ -271,7 +272,7 @@ pub fn told(e: &Engine, j: Route) -> Told
 // A load, judged on the new journey with no driver skip.
 #[tactic(auto, unfolding(timing::specs::Changes::passings), using(crate::proofs::Laws::carries_load, crate::proofs::Laws::load_changes))]
 pub fn load<'a>(o: &Occurrence, l: &'a Loaded, told: &'a Told) -> Effect<'a>
-    ensures effect { role_of o.now.event ≡ load → TellsOf o.now.engine.now (loaded_view l.now).route told.now → effect_view result ≡ loaded_in o.now.engine.now (carried o.now.event) (loaded_view l.now) }
+    ensures effect { role_of (event_view o.now.event) ≡ load → TellsOf o.now.engine.now (loaded_view l.now).route told.now → effect_view result ≡ loaded_in o.now.engine.now (carried (event_view o.now.event)) (loaded_view l.now) }
     ensures beside { Beside o.now.engine.now result }
 {
     let e = o.engine;

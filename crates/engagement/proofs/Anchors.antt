@@ -7,8 +7,8 @@ use native.Mathlib.Nat.{eq-or-lt_of_le}
 use lib.Dec.{eqb}
 use borrow.Author.Tests.{eq-eqb}
 use Rattle.event.specs.Kinds.{kind_of}
-use Rattle.event.specs.declared.Event.{Event}
-use Rattle.event.specs.declared.Event.TheVariants.{PowerOn, Configured, Fault, Press, Mode, Lever}
+use Rattle.event.specs.Event.{Event}
+use Rattle.event.specs.Event.Event.{PowerOn, Configured, Fault, Press, Mode, Lever}
 use Rattle.state_codes.specs.Codes.{is_neutral, is_brake}
 use Rattle.state_codes.specs.declared.EtcsMode.TheVariants.{AD}
 use Rattle.states.specs.Anchors.{waiting}

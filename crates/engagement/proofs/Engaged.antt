@@ -8,8 +8,8 @@ use native.Mathlib.Omega.{arith}
 use native.Mathlib.Nat.{eq-or-lt_of_le, le_of_suc-le-suc}
 use Rattle.wire.specs.Judged.Judged.{accept}
 use Rattle.event.specs.Kinds.{Row, SwitchOn, Configure, SwitchOff, Fail, EngagePress, ByState, kind_of, row_of}
-use Rattle.event.specs.declared.Event.{Event}
-use Rattle.event.specs.declared.Event.TheVariants.{PowerOn, Configured, PowerOff, Fault, Press, Mode}
+use Rattle.event.specs.Event.{Event}
+use Rattle.event.specs.Event.Event.{PowerOn, Configured, PowerOff, Fault, Press, Mode}
 use Rattle.event.proofs.Known.{OfRow, known}
 use Rattle.state_codes.specs.Codes.{is}
 use Rattle.states.specs.States.{machine, U, from_re, from_eg, from_de, by_state, by_row, machine_after}

@@ -5,7 +5,7 @@ use mathlib.Core.Bool.{Bool, true, false, false≢true, not, ◌&&◌, ◌||◌}
 use Prim.Native.Nat.{ℕ, zero, suc, ◌≤◌, ◌<◌}
 use native.Mathlib.Omega.{arith}
 use native.Mathlib.Nat.{eq-or-lt_of_le}
-use Rattle.event.specs.declared.Event.{Event}
+use Rattle.event.specs.Event.{Event}
 use Rattle.event.specs.Kinds.{Row, SwitchOn, Configure, SwitchOff, Fail, EngagePress, ByState, row_of}
 use Rattle.state_codes.specs.Codes.{is_ad}
 use Rattle.states.specs.States.{machine, U, from_re, from_eg, from_de, by_state, by_row, machine_after, wanted, given}

@@ -1,7 +1,7 @@
 -- A run for which the engagement rule holds, and near ones for which it does not, by hand from document 01.
 use Rattle.std.specs.Prelude.{ℕ, ◌≤◌, ◌≡◌, ◌≢◌, true, false, [], ◌∷◌, ◌++◌, get_or, replicate}
-use Rattle.event.specs.declared.Event.{Event}
-use Rattle.event.specs.declared.Event.TheVariants.{PowerOn, Configured, PowerOff, Fault, Press, Mode, Lever}
+use Rattle.event.specs.Event.{Event}
+use Rattle.event.specs.Event.Event.{PowerOn, Configured, PowerOff, Fault, Press, Mode, Lever}
 use Rattle.state_codes.specs.declared.EtcsMode.{EtcsMode}
 use Rattle.state_codes.specs.declared.EtcsMode.TheVariants.{Other, AD}
 use Rattle.state_codes.specs.declared.DriverLever.TheVariants.{Neutral, Traction, Brake}

@@ -1,7 +1,7 @@
 -- The engagement rule, each clause of its sentence a named field.
 use Rattle.std.specs.Prelude.{◌≡◌, ◌≢◌, true, ℕ, suc, ◌≤◌, ◌<◌}
-use Rattle.event.specs.declared.Event.{Event}
-use Rattle.event.specs.declared.Event.TheVariants.{PowerOn, Configured, Fault, Press, Mode}
+use Rattle.event.specs.Event.{Event}
+use Rattle.event.specs.Event.Event.{PowerOn, Configured, Fault, Press, Mode}
 use Rattle.states.specs.declared.Values.{Values}
 use Rattle.state_codes.specs.declared.EtcsMode.TheVariants.{Other, AD}
 use Rattle.state_codes.specs.declared.DriverLever.TheVariants.{Neutral, Brake}

@@ -11,7 +11,8 @@ use Rattle.engine_value.specs.declared.Engine.{Engine}
 use Rattle.event.specs.Events.{event_of}
 use Rattle.event.specs.Kinds.{Role, load, Carried, kind_of, role_of, carried}
 use Rattle.route.specs.Route.{LoadValue, load_of}
-use Rattle.event.specs.declared.Event.{Event}
+use Rattle.event.specs.Event.{Event}
+use Rattle.event.specs.View.{event_view}
 use Rattle.packets.specs.Packets.{joined}
 use Rattle.state_codes.specs.Codes.{state_at}
 use Rattle.state_codes.specs.Numbers.{power_rows, state_row, state_rows}
@@ -43,8 +44,8 @@ stored-front bytes memory h =
 -- a call whose event is read, allowed, and occurs
 pub record Occurs (e : Engine) (c : Call) (o : Occurrence) : Type 0 where
   pub engine : o.engine.now ≡ e
-  pub read : accept o.event ≡ event_of c.event
-  pub allowed : accept tt ≡ rows_of_state e (kind_of o.event)
+  pub read : accept (event_view o.event) ≡ event_of c.event
+  pub allowed : accept tt ≡ rows_of_state e (kind_of (event_view o.event))
 
 module _ (e : Engine) (c : Call) where
   pub refused_by : (r : Result Accepted Refusal) (x : Refusal) → r ≡ Err x → refuse (number_of x) ≡ judged e c → Takes (take_of e c) e (answers.judged r) c.memory
@@ -84,18 +85,18 @@ module _ (e : Engine) (c : Call) (v : Event) (read : accept v ≡ event_of c.eve
   pub not_allowed : (n : ℕ) → refuse n ≡ rows_of_state e (kind_of v) → refuse n ≡ judged e c
   not_allowed n q = sym (rows_together ∙ rw (← q) refl)
 
-module _ (e : Engine) (c : Call) (o : Occurrence) (occurs : Occurs e c o) (r : Role) (role : r ≡ role_of o.event) where
+module _ (e : Engine) (c : Call) (o : Occurrence) (occurs : Occurs e c o) (r : Role) (role : r ≡ role_of (event_view o.event)) where
   abbrev does : Judged model.Effect
-  does = effect_as r o.engine.now (carried o.event) o.looked c.journey c.book
+  does = effect_as r o.engine.now (carried (event_view o.event)) o.looked c.journey c.book
 
-  judged_is : judged e c ≡ then_judge does (judge o.engine.now o.event c.memory)
+  judged_is : judged e c ≡ then_judge does (judge o.engine.now (event_view o.event) c.memory)
   unfolding effect
-  judged_is = rows_together e c o.event occurs.read ∙ rw (← occurs.allowed, role, o.found, occurs.engine) refl
+  judged_is = rows_together e c (event_view o.event) occurs.read ∙ rw (← occurs.allowed, role, o.found, occurs.engine) refl
 
   pub no_effect : (n : ℕ) → refuse n ≡ does → refuse n ≡ judged e c
   no_effect n q = sym (judged_is ∙ rw (← q) refl)
 
-  pub has_effect : (f : model.Effect) → accept f ≡ does → judge o.engine.now o.event c.memory f ≡ judged e c
+  pub has_effect : (f : model.Effect) → accept f ≡ does → judge o.engine.now (event_view o.event) c.memory f ≡ judged e c
   has_effect f q = sym (judged_is ∙ rw (← q) refl)
 
 -- ---- the load

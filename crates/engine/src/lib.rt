@@ -8,6 +8,7 @@ ghost use Rattle.wire.specs.Judged.Judged.{accept};
 ghost use Rattle.wire.specs.View.{judged};
 ghost use Rattle.event.specs.Events.{event_of};
 ghost use Rattle.event.specs.Kinds.{load, kind_of, role_of};
+ghost use Rattle.event.specs.View.{event_view};
 ghost use Rattle.hold.specs.Hold.{rows_of_state};
 ghost use Rattle.route.specs.Route.{load_of};
 ghost use Rattle.route.specs.View.{loaded_view};
@@ -102,7 +103,7 @@ fn accept(e: &mut Engine, t: &Judgement, out: &mut [u8]) -> Accepted
 // A load whose profiles are read, in a function of its own: it takes the stack that reading them took, and no more beside it.
 #[inline(never)]
 fn loaded(e: &mut Engine, event: Event, l: &Loaded, out: &mut [u8]) -> Result<Accepted, Refusal>
-    ensures { (bytes journey book : List ℕ) → accept event ≡ event_of bytes → accept tt ≡ rows_of_state e.old (kind_of event) → load ≡ role_of event → accept (loaded_view l.now) ≡ load_of journey book → Takes (take_of e.old (call bytes journey book out.old)) e.new (judged result) out.new }
+    ensures { (bytes journey book : List ℕ) → accept (event_view event) ≡ event_of bytes → accept tt ≡ rows_of_state e.old (kind_of (event_view event)) → load ≡ role_of (event_view event) → accept (loaded_view l.now) ≡ load_of journey book → Takes (take_of e.old (call bytes journey book out.old)) e.new (judged result) out.new }
 {
     let o = Occurrence::new(e, event);
     let told = effects::told(e, l.route());
@@ -119,7 +120,7 @@ fn load(
     book: &[u8],
     out: &mut [u8],
 ) -> Result<Accepted, Refusal>
-    ensures { (bytes : List ℕ) → accept event ≡ event_of bytes → accept tt ≡ rows_of_state e.old (kind_of event) → load ≡ role_of event → Takes (take_of e.old (call bytes journey.now book.now out.old)) e.new (judged result) out.new }
+    ensures { (bytes : List ℕ) → accept (event_view event) ≡ event_of bytes → accept tt ≡ rows_of_state e.old (kind_of (event_view event)) → load ≡ role_of (event_view event) → Takes (take_of e.old (call bytes journey.now book.now out.old)) e.new (judged result) out.new }
 {
     let l = route::load_route(journey, book)?;
     loaded(e, event, &l, out)

@@ -12,18 +12,18 @@ use Rattle.wire.specs.Numbers.{magnitude}
 use Rattle.wire.specs.Judged.{Judged, then_judge, row}
 use Rattle.wire.specs.Judged.Judged.{refuse, accept}
 use Rattle.wire.proofs.ListLaws.{and_left, and_right}
-use Rattle.layout.specs.Layout.{Values, size, values_at, fits}
+use Rattle.layout.specs.Body.{BodyValues, body_size, body_at, body_fits}
 use Rattle.engine_value.specs.Engine.{max2, max4, max_nidc, undefined}
 use Rattle.engine_value.specs.declared.Position.{Position}
 use Rattle.packets.specs.declared.Requested.{Requested}
 use Rattle.event.specs.Kinds.{Content, kind, kinds, kind_of}
 use Rattle.event.specs.Events.{event_rows, event_with, content_among, event_of_kind, event_of}
 use Rattle.event.specs.declared.TractionRequest.{TractionRequest}
-use Rattle.event.specs.declared.Event.{Event}
+use Rattle.event.specs.Event.{Event}
 
 -- an event is that of values in the ranges of its layout
 abbrev pub Fits : Event → Type 0
-Fits e = let c = (kind e).content in (v : Values c.fields) × (fits c.fields v ≡ true) × (c.event v ≡ e)
+Fits e = let c = (kind e).content in (v : BodyValues c.body) × (body_fits c.body v ≡ true) × (c.event v ≡ e)
 
 pub record PositionFits (p : Position) : Type 0 where
   pub nidc : p.nidc ≤ max_nidc
@@ -71,7 +71,7 @@ content-fits x f =
 
 -- a content gives events of the kind n, with their fields in their ranges
 abbrev Gives : ℕ → Content → Type 0
-Gives n c = (v : Values c.fields) → fits c.fields v ≡ true → Fits (c.event v) × (kind_of (c.event v) ≡ n)
+Gives n c = (v : BodyValues c.body) → body_fits c.body v ≡ true → Fits (c.event v) × (kind_of (c.event v) ≡ n)
 
 gives : (e : Event) → Gives (kind e).number (kind e).content
 gives Event.PowerOn v h = ((v, h, refl), refl)
@@ -105,16 +105,16 @@ among-gives (e ∷ es) n c q = go (eqb n (kind e).number) refl q (among-gives es
 -- ---- the rows
 
 module _ (c : Content) (l : List ℕ) (e : Event) where
-  with_inv : event_with c l ≡ accept e → (fits c.fields (values_at c.fields 1 l) ≡ true) × (c.event (values_at c.fields 1 l) ≡ e)
+  with_inv : event_with c l ≡ accept e → (body_fits c.body (body_at c.body 1 l) ≡ true) × (c.event (body_at c.body 1 l) ≡ e)
   unfolding event_with event_rows
-  with_inv q = go (eqb (length l) (1 + size c.fields)) (fits c.fields (values_at c.fields 1 l)) refl q
+  with_inv q = go (eqb (length l) (1 + body_size c.body (body_at c.body 1 l))) (body_fits c.body (body_at c.body 1 l)) refl q
     where
-      same : accept (c.event (values_at c.fields 1 l)) ≡ accept e → c.event (values_at c.fields 1 l) ≡ e
+      same : accept (c.event (body_at c.body 1 l)) ≡ accept e → c.event (body_at c.body 1 l) ≡ e
       same p = cc
 
-      go : (a b : Bool) → fits c.fields (values_at c.fields 1 l) ≡ b
-          → then_judge (row 1 (not a)) (λ t. then_judge (row 2 (not b)) (λ u. accept (c.event (values_at c.fields 1 l)))) ≡ accept e
-          → (fits c.fields (values_at c.fields 1 l) ≡ true) × (c.event (values_at c.fields 1 l) ≡ e)
+      go : (a b : Bool) → body_fits c.body (body_at c.body 1 l) ≡ b
+          → then_judge (row 1 (not a)) (λ t. then_judge (row 2 (not b)) (λ u. accept (c.event (body_at c.body 1 l)))) ≡ accept e
+          → (body_fits c.body (body_at c.body 1 l) ≡ true) × (c.event (body_at c.body 1 l) ≡ e)
       go true true f q = (f, same q)
       go true false f q = let z : ◌≡◌ {A = ℕ} 0 1 = cc in absurd (omega arith)
       go false b f q = let z : ◌≡◌ {A = ℕ} 0 1 = cc in absurd (omega arith)
@@ -125,7 +125,7 @@ kind-sure n l e q = go (content_among kinds n) refl q
   where
     go : (j : Judged Content) → content_among kinds n ≡ j → then_judge j (λ c. event_with c l) ≡ accept e → Fits e × (kind_of e ≡ n)
     go (refuse k) f p = let z : ◌≡◌ {A = ℕ} 0 1 = cc in absurd (omega arith)
-    go (accept c) f p = let i = with_inv c l e p in subst (λ x. Fits x × (kind_of x ≡ n)) i.1 (among-gives kinds n c f (values_at c.fields 1 l) i.0)
+    go (accept c) f p = let i = with_inv c l e p in subst (λ x. Fits x × (kind_of x ≡ n)) i.1 (among-gives kinds n c f (body_at c.body 1 l) i.0)
 
 event-sure : (l : List ℕ) (e : Event) → event_of l ≡ accept e → Fits e × (kind_of e ≡ get_or l 0 0)
 unfolding event_of

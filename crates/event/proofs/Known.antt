@@ -9,7 +9,7 @@ use Rattle.engine_value.specs.declared.Position.{Position}
 use Rattle.event.specs.Kinds.{Row, SwitchOn, Configure, SwitchOff, Fail, EngagePress, ByState, kind_of, row_of}
 use Rattle.event.specs.Kinds.{Role, off, load, report, other, skip, Kind, kind, bringing, carried}
 use Rattle.event.specs.declared.TractionRequest.{TractionRequest}
-use Rattle.event.specs.declared.Event.{Event}
+use Rattle.event.specs.Event.{Event}
 
 abbrev pub OfRow : Row → ℕ → Event → Type 0
 OfRow SwitchOn n e = (e ≡ Event.PowerOn) × (n ≡ 1)

@@ -1,4 +1,3 @@
 pub mod Anchors
 pub mod Known
 pub mod Accepted
-pub mod Otherwise

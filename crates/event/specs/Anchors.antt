@@ -12,7 +12,7 @@ use Rattle.event.specs.Kinds.{kind_of, row_of, role_of, carried}
 use Rattle.event.specs.Events.{event_of}
 use Rattle.event.specs.View.{kind_number, known_kind, role_view}
 use Rattle.event.specs.declared.TractionRequest.{TractionRequest}
-use Rattle.event.specs.declared.Event.{Event}
+use Rattle.event.specs.Event.{Event}
 use Rattle.event.specs.declared.EventKind.{EventKind}
 use Rattle.event.specs.declared.Role as code
 

@@ -2,9 +2,9 @@
 use Rattle.std.specs.Prelude.{ℕ, ◌+◌, Bool, not, List, [], ◌∷◌, length, get_or, eqb, if◌then◌else◌}
 use Rattle.wire.specs.Judged.{Judged, row, ◌>>=◌, ◌>>◌}
 use Rattle.wire.specs.Judged.Judged.{refuse, accept}
-use Rattle.layout.specs.Layout.{size, values_at, fits}
+use Rattle.layout.specs.Body.{body_size, body_at, body_fits}
 use Rattle.event.specs.Kinds.{Content, kind, kinds}
-use Rattle.event.specs.declared.Event.{Event}
+use Rattle.event.specs.Event.{Event}
 
 -- "1 .. wrong length; 2 field out of range": the event e, if there are n bytes and its fields fit
 unfoldable pub event_rows : ℕ → Bool → Event → List ℕ → Judged Event
@@ -15,7 +15,7 @@ event_rows n fit e l = do
 
 -- "One byte kind, then": its fields from the second byte on
 unfoldable pub event_with : Content → List ℕ → Judged Event
-event_with c l = let v = values_at c.fields 1 l in event_rows (1 + size c.fields) (fits c.fields v) (c.event v) l
+event_with c l = let v = body_at c.body 1 l in event_rows (1 + body_size c.body v) (body_fits c.body v) (c.event v) l
 
 -- "1 .. unknown kind"
 unfoldable pub content_among : List Event → ℕ → Judged Content

@@ -1,27 +1,29 @@
 -- What each kind of event is: its number, what it carries, its row of the states, what it is to the journey and its points, and which value it
 -- brings. A kind is said here and nowhere else; reader, effects, rules and proofs go by content, row, role and value.
 use Rattle.std.specs.Prelude.{ℕ, Bool, true, false, Option, Some, None, List, [], ◌∷◌, eqb, if◌then◌else◌}
-use Rattle.layout.specs.Layout.{Field, Layout, Value as ValueOf, Values, field, to_highest}
+use Rattle.layout.specs.Layout.{Field, Value as ValueOf, field, to_highest}
+use Rattle.layout.specs.Body.{Body, BodyValues}
+use Rattle.layout.specs.Body.Body.{fields}
 use Rattle.layout.specs.Layout.Content.{free, up_to, between, signed}
 use Rattle.engine_value.specs.Engine.{max2, max4, max_nidc, undefined, fresh_position, Value, mode, lever, reports, train_length, place}
 use Rattle.engine_value.specs.declared.Position.{Position}
 use Rattle.packets.specs.Layouts.{content61, requested_of}
 use Rattle.event.specs.declared.TractionRequest.{TractionRequest}
-use Rattle.event.specs.declared.Event.{Event}
-use Rattle.event.specs.declared.Event.TheVariants.{PowerOn, Configured, PowerOff, Fault, Reports, Mode, Lever, Press, PositionReport, Length, Load, Skip, Revoke, Traction}
+use Rattle.event.specs.Event.{Event}
+use Rattle.event.specs.Event.Event.{PowerOn, Configured, PowerOff, Fault, Reports, Mode, Lever, Press, PositionReport, Length, Load, Skip, Revoke, Traction}
 
--- what stands behind the kind byte: its layout, and the event of its values
+-- what stands behind the kind byte, and the event of its values
 pub record Content : Type 0 where
-  pub fields : Layout
-  pub event : Values fields → Event
+  pub body : Body
+  pub event : BodyValues body → Event
 
 -- no field
 abbrev pub bare : Event → Content
-bare e = record { fields = []; event = λ v. e }
+bare e = record { body = fields []; event = λ v. e }
 
 -- one field
 abbrev pub one : (f : Field) → (ValueOf f.content → Event) → Content
-one f event = record { fields = f ∷ []; event = λ v. event v.0 }
+one f event = record { body = fields (f ∷ []); event = λ v. event v.0 }
 
 -- the row of the states that an event takes: one of its own, or that of the state before
 pub data Row : Type 0 where
@@ -98,7 +100,7 @@ is n c w r b = record { number = n; content = c; row = w; role = r; brings = b }
 -- carry on, to the highest number of their bytes
 abbrev pub position_content : Content
 position_content = record {
-  fields = field "NID_C" 2 (up_to max_nidc) ∷ field "NID_SP" 4 (up_to max4) ∷ field "offset" 4 (up_to undefined) ∷ field "speed" 2 (up_to max2) ∷ [];
+  body = fields (field "NID_C" 2 (up_to max_nidc) ∷ field "NID_SP" 4 (up_to max4) ∷ field "offset" 4 (up_to undefined) ∷ field "speed" 2 (up_to max2) ∷ []);
   event = λ v. let (c, (sp, (o, (s, _)))) = v in PositionReport (record { nidsp = sp; offset = o; nidc = c; speed = s });
 }
 
@@ -106,7 +108,7 @@ position_content = record {
 -- carry it on
 abbrev pub traction_content : Content
 traction_content = record {
-  fields = field "request" 1 (signed 100) ∷ to_highest content61;
+  body = fields (field "request" 1 (signed 100) ∷ to_highest content61);
   event = λ v. Traction (record { request = v.0; content = requested_of v.1 });
 }
 

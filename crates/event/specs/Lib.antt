@@ -1,3 +1,4 @@
+pub mod Event
 pub mod Kinds
 pub mod Events
 pub mod View

@@ -8,6 +8,25 @@ use Rattle.event.specs.Kinds.{kinds, kind_of}
 use Rattle.event.specs.declared.EventKind.{EventKind}
 use Rattle.event.specs.declared.EventKind.TheVariants.{PowerOn, Configured, PowerOff, Fault, Reports, Mode, Lever, Press, PositionReport, Length, Load, Skip, Revoke, Traction}
 use Rattle.event.specs.declared.Role as code
+use Rattle.event.specs.declared.Event as code_event
+use Rattle.event.specs.Event.{Event}
+
+-- an event of the code
+abbrev pub event_view : code_event.Event → Event
+event_view code_event.Event.PowerOn = Event.PowerOn
+event_view code_event.Event.Configured = Event.Configured
+event_view code_event.Event.PowerOff = Event.PowerOff
+event_view code_event.Event.Fault = Event.Fault
+event_view (code_event.Event.Reports n) = Event.Reports n
+event_view (code_event.Event.Mode n) = Event.Mode n
+event_view (code_event.Event.Lever n) = Event.Lever n
+event_view code_event.Event.Press = Event.Press
+event_view (code_event.Event.PositionReport x) = Event.PositionReport x
+event_view (code_event.Event.Length n) = Event.Length n
+event_view code_event.Event.Load = Event.Load
+event_view (code_event.Event.Skip t) = Event.Skip t
+event_view (code_event.Event.Revoke t) = Event.Revoke t
+event_view (code_event.Event.Traction x) = Event.Traction x
 
 -- the number of a kind
 abbrev pub kind_number : EventKind → ℕ

@@ -2,9 +2,10 @@
 #![tactic(auto)]
 
 ghost use Rattle.std.specs.Prelude.{◌≡◌};
-ghost use Rattle.wire.specs.View.{judged};
+ghost use Rattle.wire.specs.View.{judged_by};
 ghost use Rattle.event.specs.Kinds.{position_content, traction_content};
 ghost use Rattle.event.specs.Events.{event_rows, event_with, event_of};
+ghost use Rattle.event.specs.View.{event_view};
 
 use engine_value::{MAX_NIDC, Position, UNDEFINED};
 use packets::Requested;
@@ -112,7 +113,7 @@ impl Event {
     ghost use Rattle.event.specs.View.{kind_number, role_view};
 
     pub fn kind(self) -> EventKind
-        ensures { kind_number result ≡ kind_of self }
+        ensures { kind_number result ≡ kind_of (event_view self) }
     {
         match self {
             Event::PowerOn => EventKind::PowerOn,
@@ -134,7 +135,7 @@ impl Event {
 
     // What it is to the journey and its points.
     pub fn role(self) -> Role
-        ensures role { role_view result ≡ role_of self }
+        ensures role { role_view result ≡ role_of (event_view self) }
     {
         match self {
             Event::PowerOff => Role::Off,
@@ -148,7 +149,7 @@ impl Event {
 
     // The position after it, from the one before.
     pub fn position_after(self, before: Position) -> Position
-        ensures { result ≡ newer (carried self).position before }
+        ensures { result ≡ newer (carried (event_view self)).position before }
     {
         match self {
             Event::PositionReport(x) => x,
@@ -160,7 +161,7 @@ impl Event {
 // Rows 1 and 2: the event, where there are as many bytes and its fields are in their ranges.
 #[tactic(auto, unfolding(crate::specs::Events::event_rows))]
 fn event_rows(s: &[u8], size: usize, fit: bool, e: Event) -> Result<Event, Refusal>
-    ensures { judged result ≡ event_rows size fit e s.now }
+    ensures { judged_by event_view result ≡ event_rows size fit (event_view e) s.now }
 {
     if s.len() != size {
         Err(Refusal::EventForm)
@@ -173,7 +174,7 @@ fn event_rows(s: &[u8], size: usize, fit: bool, e: Event) -> Result<Event, Refus
 
 #[tactic(auto, unfolding(crate::specs::Events::event_with, layout::specs::Layout::values_at))]
 fn read_position(s: &[u8]) -> Result<Event, Refusal>
-    ensures { judged result ≡ event_with position_content s.now }
+    ensures { judged_by event_view result ≡ event_with position_content s.now }
 {
     let x = Position {
         nidc: u16::get(s, 1),
@@ -187,7 +188,7 @@ fn read_position(s: &[u8]) -> Result<Event, Refusal>
 
 #[tactic(auto, unfolding(crate::specs::Events::event_with, layout::specs::Layout::values_at))]
 fn read_traction(s: &[u8]) -> Result<Event, Refusal>
-    ensures { judged result ≡ event_with traction_content s.now }
+    ensures { judged_by event_view result ≡ event_with traction_content s.now }
 {
     let request = u8::get(s, 1);
     let x = TractionRequest {
@@ -200,7 +201,7 @@ fn read_traction(s: &[u8]) -> Result<Event, Refusal>
 // The event of the bytes: the kind byte, then exactly what that kind carries.
 #[tactic(auto, unfolding(crate::specs::Events::event_of, crate::specs::Events::event_of_kind, crate::specs::Events::content_among, crate::specs::Events::event_with, layout::specs::Layout::values_at))]
 pub fn read_event(s: &[u8]) -> Result<Event, Refusal>
-    ensures { judged result ≡ event_of s.now }
+    ensures { judged_by event_view result ≡ event_of s.now }
 {
     let kind = EventKind::try_from(*s.first().ok_or(Refusal::EventForm)?)?;
     let byte = u8::get(s, 1);

@@ -17,7 +17,9 @@ use Rattle.engine_value.specs.declared.Progress.{Progress}
 use Rattle.engine_value.specs.declared.Engine.{Engine}
 use Rattle.packets.specs.Packets.{packet_bytes, joined, size_of}
 use Rattle.packets.proofs.PacketLaws.{length-packet_bytes, joined-append}
-use Rattle.packets.specs.declared.Packet.{Packet}
+use Rattle.packets.specs.Packet.{Packet}
+use Rattle.packets.specs.declared.Packet as code_packet
+use Rattle.packets.specs.View.{packet_view}
 use Rattle.packets.specs.declared.Requested.{Requested}
 use Rattle.packets.specs.declared.PointStatus.{PointStatus}
 use Rattle.status_word.specs.declared.OperationalConditions.{OperationalConditions}
@@ -109,11 +111,12 @@ stored_within at a l bs e =
     let n : length (drop a l) ≤ length l - a = rw length-drop (omega arith) in
     rw (take_all (length l - a) (drop a l) n, drop_of_length-le (drop a l) {i = length l - a} n, append-nil, e, take_min, drop_min) (sets_part at l bs)
 
-pub put_one : (o : Option Packet) (p : Packet) (l m : List ℕ) (at a n : ℕ) → o ≡ Some p → m ≡ sets (take (length l - a) (drop a l)) 0 (packet_bytes p) → a ≡ min at (length l) → n ≡ size_of p
-    → Put at (listed o) l (take a l ++ (m ++ drop (length l - a) (drop a l))) (a + n)
+pub put_one : (o : Option code_packet.Packet) (p : code_packet.Packet) (l m : List ℕ) (at a n : ℕ) → o ≡ Some p → m ≡ sets (take (length l - a) (drop a l)) 0 (packet_bytes (packet_view p)) → a ≡ min at (length l) → n ≡ size_of (packet_view p)
+    → Put at (listed (option_map packet_view o)) l (take a l ++ (m ++ drop (length l - a) (drop a l))) (a + n)
 put_one o p l m at a n q t k z = λ more.
-    let i : n ≡ length (packet_bytes p) = z ∙ sym (length-packet_bytes p) in
-    rw (q, t, stored_within at a l (packet_bytes p) k, k, i, append-nil (packet_bytes p)) (behind (packet_bytes p) more l at)
+    let b = packet_bytes (packet_view p) in
+    let i : n ≡ length b = z ∙ sym (length-packet_bytes (packet_view p)) in
+    rw (q, t, stored_within at a l b k, k, i, append-nil b) (behind b more l at)
 
 -- one more behind what is put already
 pub put_then : (a b : List Packet) (l m n : List ℕ) (i j k : ℕ) → Put i a l m j → Put j b m n k → Put i (a ++ b) l n k
@@ -162,8 +165,8 @@ module _ (e : Engine) (to k : ℕ) where
   unfolding passings
   passed_end h l more i = let z : to - k ≡ 0 = omega arith in rw z
 
-  pub passed_next : k < to → (p : Packet) → p ≡ timing_point (route_in e) e.train.position (change_in (route_in e) (change k status_passed (progress (k + 1) false)))
-      → (l m : List ℕ) (i j : ℕ) → Put i (p ∷ []) l m j
+  pub passed_next : k < to → (p : code_packet.Packet) → packet_view p ≡ timing_point (route_in e) e.train.position (change_in (route_in e) (change k status_passed (progress (k + 1) false)))
+      → (l m : List ℕ) (i j : ℕ) → Put i (packet_view p ∷ []) l m j
       → (more : List ℕ) → sets m j (joined (packets62 e (passings (to - (k + 1)) (k + 1))) ++ more) ≡ sets l i (joined (packets62 e (passings (to - k) k)) ++ more)
   unfolding passings
   passed_next h p q l m i j t more =
@@ -187,9 +190,9 @@ module _ (e : Engine) (p : Progress) (l : List (Option PointStatus)) (k : ℕ) w
       go None = refl
       go (Some s) = refl
 
-  pub told_next : k < length l → (o : Option Packet)
-      → o ≡ option_map (λ (c : Change). timing_point (route_in e) e.train.position (change_in (route_in e) c)) (change_of p (k, get_or l k None))
-      → (m n : List ℕ) (i j : ℕ) → Put i (listed o) m n j
+  pub told_next : k < length l → (o : Option code_packet.Packet)
+      → option_map packet_view o ≡ option_map (λ (c : Change). timing_point (route_in e) e.train.position (change_in (route_in e) c)) (change_of p (k, get_or l k None))
+      → (m n : List ℕ) (i j : ℕ) → Put i (listed (option_map packet_view o)) m n j
       → (more : List ℕ) → sets n j (joined (from (k + 1)) ++ more) ≡ sets m i (joined (from k) ++ more)
   told_next h o q m n i j t more =
       t (joined (from (k + 1)) ++ more)

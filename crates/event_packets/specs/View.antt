@@ -9,7 +9,7 @@ use Rattle.engine_value.specs.declared.Progress.{Progress}
 use Rattle.engine_value.specs.declared.Engine.{Engine}
 use Rattle.packets.specs.Packets.{joined}
 use Rattle.packets.specs.View.{status_number}
-use Rattle.packets.specs.declared.Packet.{Packet}
+use Rattle.packets.specs.Packet.{Packet}
 use Rattle.timing.specs.Changes as timing
 use Rattle.timing.specs.Changes.{change, passings, status_hold_revoked}
 use Rattle.position.specs.Standing.{standing}

@@ -10,7 +10,7 @@ ghost use Rattle.engine_value.specs.View.{route_view};
 ghost use Rattle.packets.specs.Packets.{joined};
 ghost use Rattle.timing.specs.Changes.{passings};
 ghost use Rattle.call.specs.Packets.{change_in};
-ghost use Rattle.packets.specs.View.{status_number};
+ghost use Rattle.packets.specs.View.{status_number, packet_view};
 ghost use Rattle.position.specs.Standing.{standing};
 ghost use Rattle.conditions.specs.Conditions.{end_ahead};
 ghost use Rattle.call_values.specs.Packets.{header, country, status_due, timing_point_of, timing_point, traction_brake, ato_status};
@@ -98,7 +98,7 @@ pub fn header(e: &Engine) -> Header
 
 // Packet 62 of a point, with the progress after its change.
 fn point_packet(e: &Engine, p: Point, status: PointStatus, after: Progress) -> Packet
-    ensures { result ≡ timing_point_of (header (route_in e.now) e.now.train.position) p (status_number status) (end_ahead e.now.load (standing after)) }
+    ensures { packet_view result ≡ timing_point_of (header (route_in e.now) e.now.train.position) p (status_number status) (end_ahead e.now.load (standing after)) }
 {
     Packet::TimingPoint(TimingPoint {
         header: header(e),
@@ -118,7 +118,7 @@ fn point_packet(e: &Engine, p: Point, status: PointStatus, after: Progress) -> P
 // Packet 62 for a change of a point.
 #[tactic(auto, unfolding(call_values::specs::Packets::timing_point))]
 fn timing_point(e: &Engine, c: Change) -> Packet
-    ensures { result ≡ timing_point (route_in e.now) e.now.train.position (change_in (route_in e.now) (change_view c)) }
+    ensures { packet_view result ≡ timing_point (route_in e.now) e.now.train.position (change_in (route_in e.now) (change_view c)) }
 {
     let p = position::point(e.route(), c.index);
     point_packet(e, p, c.status, c.after)
@@ -138,7 +138,7 @@ fn told_change(k: u8, status: Option<PointStatus>, after: Progress) -> Option<Ch
 // Packet 62 for the hold at a point, revoked by a load.
 #[tactic(auto, unfolding(call_values::specs::Packets::timing_point))]
 fn hold_revoked(e: &Engine, p: Point) -> Packet
-    ensures { result ≡ revoked_packet e.now p }
+    ensures { packet_view result ≡ revoked_packet e.now p }
 {
     point_packet(e, p, PointStatus::HoldRevoked, e.progress)
 }
@@ -152,7 +152,7 @@ pub fn country(p: Place) -> u16
 
 // Packet 65 for an accepted load.
 fn jp_received(e: &Engine, r: Received) -> Packet
-    ensures { result ≡ jp_received_view e.now r }
+    ensures { packet_view result ≡ jp_received_view e.now r }
 {
     Packet::JpReceived(JpReceived {
         header: header(e),
@@ -168,7 +168,7 @@ fn jp_received(e: &Engine, r: Received) -> Packet
 // Packet 61 for a traction request.
 #[tactic(auto, unfolding(call_values::specs::Packets::traction_brake))]
 fn traction_brake(e: &Engine, requested: Requested) -> Packet
-    ensures { result ≡ traction_brake (route_in e.now) e.now.train.position requested }
+    ensures { packet_view result ≡ traction_brake (route_in e.now) e.now.train.position requested }
 {
     Packet::TractionBrake(TractionBrake {
         header: header(e),
@@ -179,7 +179,7 @@ fn traction_brake(e: &Engine, requested: Requested) -> Packet
 // Packet 68 with the engine's state.
 #[tactic(auto, unfolding(call_values::specs::Packets::ato_status))]
 fn ato_status(e: &Engine, conditions: OperationalConditions) -> Packet
-    ensures { result ≡ ato_status (route_in e.now) e.now.train.position e.now.control.state conditions }
+    ensures { packet_view result ≡ ato_status (route_in e.now) e.now.train.position e.now.control.state conditions }
 {
     Packet::AtoStatus(AtoStatus {
         header: header(e),
@@ -246,7 +246,7 @@ impl<'a> Output<'a> {
     #[tactic(auto, using(crate::proofs::Stored::put_one))]
     fn put(&mut self, p: Option<Packet>)
         ensures same_reference { self.new.memory.ghost_name ≡ self.old.memory.ghost_name }
-        ensures put { Put self.old.at (listed p) self.old.memory.now self.new.memory.now self.new.at }
+        ensures put { Put self.old.at (listed (option_map packet_view p)) self.old.memory.now self.new.memory.now self.new.at }
     {
         let Some(p) = p else {
             return;
@@ -285,7 +285,7 @@ impl<'a> Output<'a> {
     }
 
     // The points from `from` to `to`, without that one, pass.
-    #[tactic(auto, using(crate::proofs::Stored::passed_next, crate::proofs::Stored::passed_end))]
+    #[tactic(auto, using(crate::proofs::Stored::passed_end))]
     fn put_passed(&mut self, e: &Engine, from: u8, to: u8)
         ensures same_reference { self.new.memory.ghost_name ≡ self.old.memory.ghost_name }
         ensures put { Put self.old.at (packets62 e.now (passings (to - from) from)) self.old.memory.now self.new.memory.now self.new.at }

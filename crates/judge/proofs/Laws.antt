@@ -7,11 +7,11 @@ use Rattle.wire.specs.Judged.{row, then_judge}
 use Rattle.wire.specs.Judged.Judged.{refuse, accept}
 use Rattle.engine_value.specs.Engine.{route_in}
 use Rattle.engine_value.specs.declared.Engine.{Engine}
-use Rattle.event.specs.declared.Event.{Event}
+use Rattle.event.specs.Event.{Event}
 use Rattle.status_word.specs.Word.{conditions_of}
 use Rattle.status_word.specs.declared.OperationalConditions.{OperationalConditions}
 use Rattle.packets.specs.Packets.{joined}
-use Rattle.packets.specs.declared.Packet.{Packet}
+use Rattle.packets.specs.Packet.{Packet}
 use Rattle.position.specs.Standing.{standing}
 use Rattle.conditions.specs.Conditions.{nine, conditions}
 use Rattle.conditions.specs.declared.RouteConditions.{RouteConditions}

@@ -4,6 +4,7 @@
 ghost use Rattle.std.specs.Prelude.{◌≡◌, ◌≤◌, List, ℕ, length, IfOk};
 ghost use Rattle.wire.specs.View.{judged_by};
 ghost use Rattle.engine_value.specs.declared.Engine as engine;
+ghost use Rattle.event.specs.View.{event_view};
 ghost use Rattle.packets.specs.Packets.{joined};
 ghost use Rattle.call.specs.Call.{status_in, judge};
 ghost use Rattle.event_packets.specs.View.{status_view, packets_view};
@@ -56,7 +57,7 @@ fn status_in(o: &Occurrence) -> Status
 
 // The effect of an event, judged; `room` are the bytes of the output memory.
 pub fn judge<'a>(o: &Occurrence, f: &Effect<'a>, room: usize) -> Result<Judgement<'a>, Refusal>
-    ensures step { (memory : List ℕ) → room ≡ length memory → Beside o.now.engine.now f.now → judged_by (step_view o.now.engine.now) result ≡ judge o.now.engine.now o.now.event memory (effect_view f.now) }
+    ensures step { (memory : List ℕ) → room ≡ length memory → Beside o.now.engine.now f.now → judged_by (step_view o.now.engine.now) result ≡ judge o.now.engine.now (event_view o.now.event) memory (effect_view f.now) }
     ensures size { IfOk result (λ t. (m : engine.Engine) → t.size ≡ length (joined (packets_view m t.writes))) }
     ensures fits { IfOk result (λ t. t.size ≤ room) }
 {

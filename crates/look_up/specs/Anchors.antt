@@ -4,7 +4,7 @@ use Rattle.std.specs.Prelude.{ℕ, ◌≡◌, Option, Some, None, [], ◌∷◌,
 use Rattle.engine_value.specs.Engine.{progress, fresh, undefined}
 use Rattle.engine_value.specs.declared.Progress.{Progress}
 use Rattle.engine_value.specs.declared.Engine.{Engine}
-use Rattle.event.specs.declared.Event.TheVariants.{Press, PositionReport, Length, Load, Skip, Revoke}
+use Rattle.event.specs.Event.Event.{Press, PositionReport, Length, Load, Skip, Revoke}
 use Rattle.event.specs.Kinds.{report, load, other, skip}
 use Rattle.position.specs.Sample.{at, engine_at}
 use Rattle.position.specs.declared.Named.{Named}

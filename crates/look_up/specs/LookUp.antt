@@ -3,7 +3,7 @@ use Rattle.std.specs.Prelude.{Option, None, if◌then◌else◌}
 use Rattle.engine_value.specs.Engine.{route_in}
 use Rattle.engine_value.specs.declared.Position.{Position}
 use Rattle.engine_value.specs.declared.Engine.{Engine}
-use Rattle.event.specs.declared.Event.{Event}
+use Rattle.event.specs.Event.{Event}
 use Rattle.event.specs.Kinds.{Role, is_report, is_skip, skip_name, newer, role_of, carried}
 use Rattle.position.specs.Position.{segment_named}
 use Rattle.position.specs.Skips.{stop_in}

@@ -2,6 +2,7 @@
 #![tactic(auto)]
 
 ghost use Rattle.std.specs.Prelude.{◌≡◌};
+ghost use Rattle.event.specs.View.{event_view};
 ghost use Rattle.look_up.specs.LookUp.{look_up};
 
 use conditions::RouteConditions;
@@ -27,13 +28,13 @@ pub struct Occurrence<'a> {
     pub engine: &'a Engine,
     pub event: Event,
     pub looked: LookedUp,
-    ghost found: { looked ≡ look_up engine.now event },
+    ghost found: { looked ≡ look_up engine.now (event_view event) },
 }
 
 impl<'a> Occurrence<'a> {
     pub fn new(engine: &'a Engine, event: Event) -> Occurrence<'a>
         ensures engine { result.engine.now ≡ engine.now }
-        ensures event { result.event ≡ event }
+        ensures event { event_view result.event ≡ event_view event }
     {
         Occurrence {
             engine,
@@ -44,7 +45,7 @@ impl<'a> Occurrence<'a> {
 }
 
 pub fn look_up(e: &Engine, v: Event) -> LookedUp
-    ensures { result ≡ look_up e.now v }
+    ensures { result ≡ look_up e.now (event_view v) }
 {
     let before = conditions::route_conditions(Place::new(e.route(), e.train.position), e.progress);
     let place = Place::new(e.route(), v.position_after(e.train.position));

@@ -1,6 +1,6 @@
 -- "The packet reader returns the packet's fields": each value of a packet in the field of its name, worked out by hand from its bytes.
 use Rattle.std.specs.Prelude.{ℕ, ◌≡◌, true, false, List, [], ◌∷◌, map}
-use Rattle.packets.specs.declared.Packet.{Packet}
+use Rattle.packets.specs.Packet.{Packet}
 use Rattle.packets.specs.Packets.{packet_of}
 use Rattle.packets.specs.Anchors.{header, timing_point_bytes, jp_received_bytes, ato_status_bytes, traction_brake_bytes}
 use Rattle.packet_fields.specs.View.{packet_fields_view, fields_view}

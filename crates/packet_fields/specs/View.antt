@@ -3,8 +3,8 @@ use Rattle.std.specs.Prelude.{ℕ, List, [], ◌∷◌, Bool, true, false, get_o
 use Rattle.wire.specs.Judged.{Judged}
 use Rattle.wire.specs.Judged.Judged.{refuse, accept}
 use Rattle.packets.specs.declared.Header.{Header}
-use Rattle.packets.specs.declared.Packet.{Packet}
-use Rattle.packets.specs.View.{packet_view}
+use Rattle.packets.specs.Packet.{Packet}
+use Rattle.packets.specs.View.{packet_values}
 use Rattle.status_word.specs.View.{conditions_number}
 use Rattle.packets.specs.Packets.{size_of}
 use Rattle.packet_fields.specs.declared.PacketFields.{PacketFields}
@@ -44,7 +44,7 @@ begun_view kind size h = fields true 0 kind size h []
 
 -- "The packet reader returns the packet's fields"
 abbrev read : Packet → Header → List ℕ → PacketFields
-read p = fields true 0 (packet_view p).kind.number (size_of p)
+read p = fields true 0 (packet_values p).kind.number (size_of p)
 
 abbrev pub packet_fields_view : Packet → PacketFields
 packet_fields_view (Packet.TimingPoint p) =

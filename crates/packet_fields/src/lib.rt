@@ -4,7 +4,7 @@
 ghost use Rattle.std.specs.Prelude.{◌≡◌, true};
 ghost use Rattle.wire.specs.Refusals.{number_of};
 ghost use Rattle.packets.specs.Layouts.{header_of};
-ghost use Rattle.packets.specs.View.{packet_view};
+ghost use Rattle.packets.specs.View.{packet_view, packet_values};
 ghost use Rattle.packets.specs.Packets.{size_of, packet_fits, packet_of};
 ghost use Rattle.packet_fields.specs.View.{refused_view, begun_view, packet_fields_view, fields_view};
 
@@ -50,7 +50,7 @@ fn refused(r: Refusal) -> PacketFields
 
 // A packet that was read, its content still to come.
 fn begun(p: Packet) -> PacketFields
-    ensures { result ≡ begun_view (packet_view p).kind.number (size_of p) (header_of (packet_view p).header) }
+    ensures { result ≡ begun_view (packet_values (packet_view p)).kind.number (size_of (packet_view p)) (header_of (packet_values (packet_view p)).header) }
 {
     PacketFields {
         accepted: true,
@@ -63,7 +63,7 @@ fn begun(p: Packet) -> PacketFields
 
 // Promised of a packet that is in its ranges, as each that was read.
 impl From<Packet> for PacketFields {
-    ghost from_gives = { λ p f. packet_fits p ≡ true → f ≡ packet_fields_view p };
+    ghost from_gives = { λ p f. packet_fits (packet_view p) ≡ true → f ≡ packet_fields_view (packet_view p) };
 
     fn from(p: Packet) -> PacketFields {
         let begun = begun(p);

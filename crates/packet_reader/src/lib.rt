@@ -5,8 +5,9 @@ ghost use Rattle.std.specs.Prelude.{◌≡◌};
 ghost use Rattle.layout.specs.Layout.{values_at};
 ghost use Rattle.packets.specs.Layouts.{header_layout, header_of, kind62, kind65, kind68, kind61};
 ghost use Rattle.packets.specs.Packets.{packet_at, judged_packet, packet_of};
-ghost use Rattle.packets.specs.View.{kind_view};
-ghost use Rattle.wire.specs.View.{judged};
+ghost use Rattle.packets.specs.Packet as model;
+ghost use Rattle.packets.specs.View.{kind_view, packet_view};
+ghost use Rattle.wire.specs.View.{judged_by};
 
 use packets::{
     AtoStatus, Header, JpReceived, Packet, PacketKind, Requested, TimingPoint, TractionBrake,
@@ -30,7 +31,7 @@ pub fn get_header(s: &[u8]) -> Header
 
 #[tactic(auto, unfolding(layout::specs::Layout::values_at))]
 fn get_timing_point(s: &[u8]) -> TimingPoint
-    ensures { Packet.TimingPoint result ≡ packet_at kind62 s.now }
+    ensures { model.Packet.TimingPoint result ≡ packet_at kind62 s.now }
 {
     let info = u8::get(s, 23);
     TimingPoint {
@@ -46,7 +47,7 @@ fn get_timing_point(s: &[u8]) -> TimingPoint
 
 #[tactic(auto, unfolding(layout::specs::Layout::values_at))]
 pub fn get_jp_received(s: &[u8]) -> JpReceived
-    ensures { Packet.JpReceived result ≡ packet_at kind65 s.now }
+    ensures { model.Packet.JpReceived result ≡ packet_at kind65 s.now }
 {
     JpReceived {
         header: get_header(s),
@@ -61,7 +62,7 @@ pub fn get_jp_received(s: &[u8]) -> JpReceived
 
 #[tactic(auto, unfolding(layout::specs::Layout::values_at))]
 fn get_ato_status(s: &[u8]) -> AtoStatus
-    ensures { Packet.AtoStatus result ≡ packet_at kind68 s.now }
+    ensures { model.Packet.AtoStatus result ≡ packet_at kind68 s.now }
 {
     let word = u16::get(s, 17);
     AtoStatus {
@@ -73,7 +74,7 @@ fn get_ato_status(s: &[u8]) -> AtoStatus
 
 #[tactic(auto, unfolding(layout::specs::Layout::values_at))]
 pub fn get_traction_brake(s: &[u8]) -> TractionBrake
-    ensures { Packet.TractionBrake result ≡ packet_at kind61 s.now }
+    ensures { model.Packet.TractionBrake result ≡ packet_at kind61 s.now }
 {
     TractionBrake {
         header: get_header(s),
@@ -83,7 +84,7 @@ pub fn get_traction_brake(s: &[u8]) -> TractionBrake
 
 // The packet of a kind, with the values that stand in its bytes.
 fn get_packet(kind: PacketKind, s: &[u8]) -> Packet
-    ensures { result ≡ packet_at (kind_view kind) s.now }
+    ensures { packet_view result ≡ packet_at (kind_view kind) s.now }
 {
     match kind {
         PacketKind::TimingPoint => Packet::TimingPoint(get_timing_point(s)),
@@ -96,7 +97,7 @@ fn get_packet(kind: PacketKind, s: &[u8]) -> Packet
 // A packet whose values were read from so many bytes, judged by its length and its ranges.
 #[tactic(auto, unfolding(packets::specs::Packets::judged_packet))]
 fn judge(n: usize, p: Packet) -> Result<Packet, Refusal>
-    ensures { judged result ≡ judged_packet n p }
+    ensures { judged_by packet_view result ≡ judged_packet n (packet_view p) }
 {
     if n != p.size() {
         Err(Refusal::PacketLength)
@@ -110,7 +111,7 @@ fn judge(n: usize, p: Packet) -> Result<Packet, Refusal>
 // One packet, exactly.
 #[tactic(auto, unfolding(packets::specs::Packets::packet_of))]
 pub fn read_packet(s: &[u8]) -> Result<Packet, Refusal>
-    ensures { judged result ≡ packet_of s.now }
+    ensures { judged_by packet_view result ≡ packet_of s.now }
 {
     let number = s.first().ok_or(Refusal::PacketLength)?;
     let kind = PacketKind::try_from(*number)?;

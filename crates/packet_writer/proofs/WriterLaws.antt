@@ -7,14 +7,15 @@ use lib.Seq.{sets, sets-eq}
 use native.Mathlib.Omega.{arith}
 use Rattle.wire.specs.Numbers.{bytes_of}
 use Rattle.layout.specs.Layout.{bytes}
+use Rattle.layout.specs.Body.{body_bytes}
 use Rattle.packets.specs.Layouts.{header_layout, content_at}
 use Rattle.packets.specs.View.{PacketValues}
 use Rattle.packets.specs.Packets.{value_bytes, packet_bytes, size_of}
 use Rattle.packets.proofs.PacketLaws.{length-packet_bytes}
-use Rattle.packets.specs.declared.Packet.{Packet}
+use Rattle.packets.specs.Packet.{Packet}
 
 -- the content is stored behind number and header
-pub behind-header : (v : PacketValues) (l : List ℕ) → sets (sets l 0 (v.kind.number ∷ bytes header_layout v.header)) content_at (bytes v.kind.content v.content) ≡ sets l 0 (value_bytes v)
+pub behind-header : (v : PacketValues) (l : List ℕ) → sets (sets l 0 (v.kind.number ∷ bytes header_layout v.header)) content_at (body_bytes v.kind.content v.content) ≡ sets l 0 (value_bytes v)
 unfolding value_bytes bytes bytes_of
 behind-header v l = refl
 

@@ -5,7 +5,7 @@ ghost use Rattle.std.specs.Prelude.{◌≡◌, [], ◌∷◌, ◌++◌, ◌+◌,
 ghost use Rattle.std.proofs.lemmas.List.Edits.{sets};
 ghost use Rattle.layout.specs.Layout.{weighed, bytes};
 ghost use Rattle.packets.specs.Layouts.{header_layout, content_at, content62, content65, content68, content61};
-ghost use Rattle.packets.specs.View.{kind_view, header_view, timing_point_view, jp_received_view, ato_status_view, requested_view};
+ghost use Rattle.packets.specs.View.{packet_view, kind_view, header_view, timing_point_view, jp_received_view, ato_status_view, requested_view};
 ghost use Rattle.packets.specs.Packets.{packet_bytes, written_count, written_memory};
 ghost use Rattle.wire.specs.View.{judged};
 
@@ -78,7 +78,7 @@ fn put_requested(r: Requested, out: &mut [u8])
 
 // The packet's bytes at the front, whatever its values; stores past the end store nothing. For a caller that has counted the bytes.
 pub fn put_packet(p: Packet, out: &mut [u8])
-    ensures { out.new ≡ sets out.old 0 (packet_bytes p) }
+    ensures { out.new ≡ sets out.old 0 (packet_bytes (packet_view p)) }
 {
     put_header(p.kind(), p.header(), out);
     match p {
@@ -92,8 +92,8 @@ pub fn put_packet(p: Packet, out: &mut [u8])
 // The packet at the front of the memory; the bytes behind it stay.
 #[tactic(auto, using(crate::proofs::WriterLaws::stored_front), unfolding(packets::specs::Packets::written_count, packets::specs::Packets::written_memory))]
 pub fn write_packet(p: Packet, out: &mut [u8]) -> Result<usize, Refusal>
-    ensures count { judged result ≡ written_count p out.old }
-    ensures memory { out.new ≡ written_memory p out.old }
+    ensures count { judged result ≡ written_count (packet_view p) out.old }
+    ensures memory { out.new ≡ written_memory (packet_view p) out.old }
 {
     let size = p.size();
     if !p.fits() {
@@ -108,8 +108,8 @@ pub fn write_packet(p: Packet, out: &mut [u8]) -> Result<usize, Refusal>
 
 // The packet from a position on; the bytes before it stay, too. Memory and position each by itself, as its callers have them: it is public.
 pub fn append_packet(p: Packet, out: &mut [u8], at: usize) -> Result<usize, Refusal>
-    ensures count { judged result ≡ written_count p (drop at out.old) }
-    ensures memory { out.new ≡ take at out.old ++ written_memory p (drop at out.old) }
+    ensures count { judged result ≡ written_count (packet_view p) (drop at out.old) }
+    ensures memory { out.new ≡ take at out.old ++ written_memory (packet_view p) (drop at out.old) }
 {
     let start = at.min(out.len());
     let (_, rest) = out.split_at_mut(start);

@@ -17,7 +17,7 @@ use Rattle.packets.specs.Layouts.{header_layout, content68}
 use Rattle.packets.specs.View.{header_view, ato_status_view}
 use Rattle.packets.specs.Packets.{packet_fits}
 use Rattle.packets.specs.declared.AtoStatus.{AtoStatus}
-use Rattle.packets.specs.declared.Packet.{Packet}
+use Rattle.packets.specs.Packet.{Packet}
 
 parts_most : (n : ℕ) (weight : ℕ → ℕ) (l : List ℕ) → length l ≡ n
     → parts_fit (tabulate n (λ k. part (weight k) 1)) (in_parts (tabulate n (λ k. part (weight k) 1)) l) ≡ true → All (λ (c : ℕ). c ≤ 1) l

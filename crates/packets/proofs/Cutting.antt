@@ -2,17 +2,25 @@
 use Rattle.std.specs.Prelude.{if◌then◌else◌}
 use Prim.Native.Nat.{ℕ, zero, suc, ◌+◌, ◌≤◌, min}
 use mathlib.Core.Path.{◌≡◌, refl, ap, ◌∙◌}
-use mathlib.Core.List.{List, [], ◌∷◌, ◌++◌, map}
-use mathlib.Core.Bool.{Bool, true, false}
+use mathlib.Core.List.{List, [], ◌∷◌, ◌++◌, map, append_assoc}
+use mathlib.Core.Bool.{Bool, true, false, ◌&&◌}
 use lib.ListN.{length, take, drop, length-append, length-drop}
-use lib.Seq.{take-append_seam, drop-append_seam}
+use lib.Seq.{take-append_seam, drop-append_seam, drop_at}
 use lib.Dec.{eqb}
 use native.Mathlib.Omega.{arith}
 use borrow.Author.Tests.{eqb-false, ne_eqb}
-use Rattle.packets.specs.Packets.{value_bytes, packet_bytes, joined, size_of, size_at, size_for, front_size, cut, cut_packets}
+use Rattle.wire.specs.Lists.{All}
+use Rattle.wire.proofs.ListLaws.{and_left, and_right}
+use Rattle.layout.specs.Layout.{bytes, fits}
+use Rattle.layout.specs.Body.{body_bytes, body_fits}
+use Rattle.layout.proofs.LayoutLaws.{length-bytes}
+use Rattle.layout.proofs.BodyLaws.{size_told}
+use Rattle.packets.specs.Layouts.{header_layout, content_at}
+use Rattle.packets.specs.View.{packet_values}
+use Rattle.packets.specs.Packets.{value_bytes, packet_bytes, joined, size_of, packet_fits, size_at, size_for, front_size, cut, cut_packets}
 use Rattle.packets.proofs.PacketLaws.{length-packet_bytes}
 use Rattle.packets.proofs.RoundTrips.{known}
-use Rattle.packets.specs.declared.Packet.{Packet}
+use Rattle.packets.specs.Packet.{Packet}
 
 -- ---- the piece in front
 
@@ -53,20 +61,27 @@ cut-first (b ∷ l) h =
 
 -- ---- packets that were joined
 
--- a packet's number tells its size
-size-told : (p : Packet) (rest : List ℕ) → size_at (packet_bytes p ++ rest) ≡ size_of p
+-- the bytes of a packet in its ranges tell its size
+size-told : (p : Packet) (rest : List ℕ) → packet_fits p ≡ true → size_at (packet_bytes p ++ rest) ≡ size_of p
 unfolding value_bytes
-size-told p rest = ap size_for (known p).told
+size-told p rest f =
+    let v = packet_values p in
+    let s = packet_bytes p ++ rest in
+    let front : List ℕ = v.kind.number ∷ bytes header_layout v.header in
+    let behind : drop content_at s ≡ body_bytes v.kind.content v.content ++ rest
+    = ap (drop content_at) (append_assoc front (body_bytes v.kind.content v.content) rest) ∙ drop_at front _ content_at (ap suc (length-bytes header_layout v.header)) in
+    let fit = and_right (fits header_layout v.header) _ (and_left (fits header_layout v.header && body_fits v.kind.content v.content) _ f) in
+    ap (λ j. size_for j s) (known p).told ∙ ap (λ n. content_at + n) (size_told v.kind.content v.content content_at s rest (known p).sound_content fit behind)
 
-front-packet : (p : Packet) (rest : List ℕ) → front_size (packet_bytes p ++ rest) ≡ length (packet_bytes p)
-front-packet p rest =
+front-packet : (p : Packet) (rest : List ℕ) → packet_fits p ≡ true → front_size (packet_bytes p ++ rest) ≡ length (packet_bytes p)
+front-packet p rest f =
     let n : length (packet_bytes p) ≡ size_of p = length-packet_bytes p in
     let m : length (packet_bytes p ++ rest) ≡ length (packet_bytes p) + length rest = length-append (packet_bytes p) rest in
-    rw (size-told p rest, ne_eqb (size_of p) 0 (λ e. omega arith)) (omega arith)
+    rw (size-told p rest f, ne_eqb (size_of p) 0 (λ e. omega arith)) (omega arith)
 
-pub cut-joined : (ps : List Packet) → cut_packets (joined ps) ≡ map packet_bytes ps
-cut-joined [] = cut-none
-cut-joined (p ∷ ps) =
+pub cut-joined : (ps : List Packet) → All (λ (p : Packet). packet_fits p ≡ true) ps → cut_packets (joined ps) ≡ map packet_bytes ps
+cut-joined [] f = cut-none
+cut-joined (p ∷ ps) f =
     let some : 1 ≤ length (packet_bytes p ++ joined ps) = rw length-append (omega (arith, length-packet_bytes p)) in
     cut-first (packet_bytes p ++ joined ps) some
-    ∙ rw (front-packet p (joined ps), take-append_seam, drop-append_seam, cut-joined ps)
+    ∙ rw (front-packet p (joined ps) f.0, take-append_seam, drop-append_seam, cut-joined ps f.1)

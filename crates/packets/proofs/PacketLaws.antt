@@ -13,22 +13,24 @@ use Rattle.std.specs.Slice.{IsGetRangeResult}
 use Rattle.wire.specs.Judged.Judged.{accept}
 use Rattle.wire.proofs.NumberLaws.{rest_from}
 use Rattle.layout.specs.Layout.{bytes, values_at}
+use Rattle.layout.specs.Body.{body_bytes}
 use Rattle.layout.proofs.LayoutLaws.{length-bytes, values_from}
-use Rattle.packets.specs.Layouts.{header_layout, kind_size, content61, requested_of}
-use Rattle.packets.specs.View.{PacketValues, packet_view}
-use Rattle.packets.specs.Packets.{value_bytes, packet_bytes, joined, size_of, packet_fits, written_count, written_memory}
-use Rattle.packets.specs.declared.Packet.{Packet}
+use Rattle.layout.proofs.BodyLaws.{length-body}
+use Rattle.packets.specs.Layouts.{header_layout, content61, requested_of}
+use Rattle.packets.specs.View.{PacketValues, packet_values}
+use Rattle.packets.specs.Packets.{value_bytes, values_size, packet_bytes, joined, size_of, packet_fits, written_count, written_memory}
+use Rattle.packets.specs.Packet.{Packet}
 
-pub length-values : (v : PacketValues) → length (value_bytes v) ≡ kind_size v.kind
+pub length-values : (v : PacketValues) → length (value_bytes v) ≡ values_size v
 unfolding value_bytes
 length-values v =
-    let a = length-append (bytes header_layout v.header) (bytes v.kind.content v.content) in
+    let a = length-append (bytes header_layout v.header) (body_bytes v.kind.content v.content) in
     let b = length-bytes header_layout v.header in
-    let c = length-bytes v.kind.content v.content in
+    let c = length-body v.kind.content v.content in
     omega arith
 
 pub length-packet_bytes : (p : Packet) → length (packet_bytes p) ≡ size_of p
-length-packet_bytes p = length-values (packet_view p)
+length-packet_bytes p = length-values (packet_values p)
 
 -- ---- several packets
 

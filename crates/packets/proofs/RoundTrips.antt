@@ -1,6 +1,6 @@
 -- Writing and reading undo each other, in both orders; so no packet has two byte forms and no bytes have two readings.
 use Rattle.std.specs.Prelude.{if◌then◌else◌}
-use Prim.Native.Nat.{ℕ, zero, suc, ◌≤◌}
+use Prim.Native.Nat.{ℕ, zero, suc, ◌+◌, ◌≤◌}
 use mathlib.Core.Path.{◌≡◌, refl, sym, ap, ◌∙◌, subst}
 use mathlib.Core.List.{List, [], ◌∷◌, ◌++◌, append-nil}
 use mathlib.Core.Bool.{Bool, true, false, not, ◌&&◌}
@@ -15,27 +15,29 @@ use Rattle.wire.specs.Judged.{Judged, then_judge, row}
 use Rattle.wire.specs.Judged.Judged.{accept}
 use Rattle.wire.proofs.ListLaws.{and_left, and_right}
 use Rattle.layout.specs.Layout.{Values, bytes, values_at, fits}
-use Rattle.layout.proofs.LayoutLaws.{length-bytes, sound, Typed, read-written as values-back, written_read as bytes_back, read_typed as values-typed}
-use Rattle.packets.specs.Layouts.{PacketKind, header_layout, content_at, kind_size, kinds}
-use Rattle.packets.specs.View.{PacketValues, packet_view}
-use Rattle.packets.specs.Packets.{value_bytes, packet_bytes, size_of, values_fit, packet_fits, kind_from, packet_at, judged_packet, packet_of, written_count, written_memory}
+use Rattle.layout.specs.Body.{BodyValues, body_bytes, body_size, body_at, body_fits}
+use Rattle.layout.proofs.LayoutLaws.{length-bytes, Typed, read-written as values-back, written_read as bytes_back, read_typed as values-typed}
+use Rattle.layout.proofs.BodyLaws.{body_sound, BodyTyped, body_back, body_again, body_typed}
+use Rattle.packets.specs.Layouts.{PacketKind, header_layout, content_at, kinds}
+use Rattle.packets.specs.View.{PacketValues, packet_values}
+use Rattle.packets.specs.Packets.{value_bytes, values_size, packet_bytes, size_of, values_fit, packet_fits, kind_from, packet_at, judged_packet, packet_of, written_count, written_memory}
 use Rattle.packets.proofs.PacketLaws.{length-values, written_all}
-use Rattle.packets.specs.declared.Packet.{Packet}
+use Rattle.packets.specs.Packet.{Packet}
 
 -- ---- each kind
 
 -- the packet that a kind makes has that kind and the values it was made of
 abbrev Made : PacketKind → Type 0
-Made k = (h : Values header_layout) (c : Values k.content) → packet_view (k.packet h c) ≡ record { kind = k; header = h; content = c }
+Made k = (h : Values header_layout) (c : BodyValues k.content) → packet_values (k.packet h c) ≡ record { kind = k; header = h; content = c }
 
 made : All Made kinds
 made = (λ h c. refl, (λ h c. refl, (λ h c. refl, (λ h c. refl, tt))))
 
 -- a packet is made of its values by its kind, which its number tells and whose layout holds its ranges
 pub record Known (p : Packet) : Type 0 where
-  pub remade : (packet_view p).kind.packet (packet_view p).header (packet_view p).content ≡ p
-  pub told : kind_from kinds (packet_view p).kind.number ≡ accept (packet_view p).kind
-  pub sound_content : sound (packet_view p).kind.content ≡ true
+  pub remade : (packet_values p).kind.packet (packet_values p).header (packet_values p).content ≡ p
+  pub told : kind_from kinds (packet_values p).kind.number ≡ accept (packet_values p).kind
+  pub sound_content : body_sound (packet_values p).kind.content ≡ true
 
 pub known : (p : Packet) → Known p
 known (Packet.TimingPoint p) = record { remade = refl; told = refl; sound_content = refl }
@@ -47,36 +49,36 @@ known (Packet.TractionBrake p) = record { remade = refl; told = refl; sound_cont
 
 -- the fields that are free are within their types
 abbrev pub TypedValues : PacketValues → Type 0
-TypedValues v = Typed header_layout v.header × Typed v.kind.content v.content
+TypedValues v = Typed header_layout v.header × BodyTyped v.kind.content v.content
 
 abbrev pub TypedPacket : Packet → Type 0
-TypedPacket p = TypedValues (packet_view p)
+TypedPacket p = TypedValues (packet_values p)
 
 module _ (v : PacketValues) (f : values_fit v ≡ true) (t : TypedValues v) where
-  both : (fits header_layout v.header && fits v.kind.content v.content) ≡ true
-  both = and_left (fits header_layout v.header && fits v.kind.content v.content) _ f
+  both : (fits header_layout v.header && body_fits v.kind.content v.content) ≡ true
+  both = and_left (fits header_layout v.header && body_fits v.kind.content v.content) _ f
 
   header_back : values_at header_layout 1 (value_bytes v) ≡ v.header
   unfolding value_bytes
-  header_back = values-back header_layout v.header 1 (value_bytes v) (bytes v.kind.content v.content) refl (and_left (fits header_layout v.header) _ both) t.0 refl
+  header_back = values-back header_layout v.header 1 (value_bytes v) (body_bytes v.kind.content v.content) refl (and_left (fits header_layout v.header) _ both) t.0 refl
 
-  content_back : sound v.kind.content ≡ true → values_at v.kind.content content_at (value_bytes v) ≡ v.content
+  content_back : body_sound v.kind.content ≡ true → body_at v.kind.content content_at (value_bytes v) ≡ v.content
   unfolding value_bytes
   content_back o =
-      values-back v.kind.content v.content content_at (value_bytes v) [] o (and_right (fits header_layout v.header) _ both) t.1
+      body_back v.kind.content v.content content_at (value_bytes v) [] o (and_right (fits header_layout v.header) _ both) t.1
       (drop_at (v.kind.number ∷ bytes header_layout v.header) _ content_at (ap suc (length-bytes header_layout v.header)) ∙ sym (append-nil _))
 
-packet-back : (p : Packet) → packet_fits p ≡ true → TypedPacket p → packet_at (packet_view p).kind (packet_bytes p) ≡ p
+packet-back : (p : Packet) → packet_fits p ≡ true → TypedPacket p → packet_at (packet_values p).kind (packet_bytes p) ≡ p
 packet-back p f t =
-    let v = packet_view p in
+    let v = packet_values p in
     (λ i. v.kind.packet (header_back v f t i) (content_back v f t (known p).sound_content i)) ∙ (known p).remade
 
 -- reading a written packet gives it back
 pub read-written : (p : Packet) → packet_fits p ≡ true → TypedPacket p → packet_of (packet_bytes p) ≡ accept p
 unfolding packet_of judged_packet value_bytes
 read-written p f t =
-    let n : length (packet_bytes p) ≡ size_of p = length-values (packet_view p) in
-    let some : eqb (length (packet_bytes p)) 0 ≡ false = eqb-suc-zero (length (bytes header_layout (packet_view p).header ++ bytes (packet_view p).kind.content (packet_view p).content)) in
+    let n : length (packet_bytes p) ≡ size_of p = length-values (packet_values p) in
+    let some : eqb (length (packet_bytes p)) 0 ≡ false = eqb-suc-zero (length (bytes header_layout (packet_values p).header ++ body_bytes (packet_values p).kind.content (packet_values p).content)) in
     rw (some, (known p).told, packet-back p f t, eq-eqb _ _ n, f)
 
 -- no bytes have two readings: packets with the same bytes are equal
@@ -88,25 +90,26 @@ one_reading p q f t g u e =
 -- ---- what was read is written
 
 abbrev values_in : PacketKind → List ℕ → PacketValues
-values_in k s = record { kind = k; header = values_at header_layout 1 s; content = values_at k.content content_at s }
+values_in k s = record { kind = k; header = values_at header_layout 1 s; content = body_at k.content content_at s }
 
-values_same : (k : PacketKind) (s : List ℕ) → sound k.content ≡ true → Bytes s → length s ≡ kind_size k → get_or s 0 0 ≡ k.number → value_bytes (values_in k s) ≡ s
+values_same : (k : PacketKind) (s : List ℕ) → body_sound k.content ≡ true → Bytes s → length s ≡ values_size (values_in k s) → get_or s 0 0 ≡ k.number → value_bytes (values_in k s) ≡ s
 unfolding value_bytes
 values_same k s o b n e =
-    let all : drop (kind_size k) s ≡ [] = drop_of_length-le s {i = kind_size k} (omega arith) in
-    let c : bytes k.content (values_at k.content content_at s) ≡ drop content_at s
-    = sym (append-nil _) ∙ ap (λ (l : List ℕ). bytes k.content (values_at k.content content_at s) ++ l) (sym all) ∙ bytes_back k.content content_at s o b (omega arith) in
+    let end = content_at + body_size k.content (body_at k.content content_at s) in
+    let all : drop end s ≡ [] = drop_of_length-le s {i = end} (omega arith) in
+    let c : body_bytes k.content (body_at k.content content_at s) ≡ drop content_at s
+    = sym (append-nil _) ∙ ap (λ (l : List ℕ). body_bytes k.content (body_at k.content content_at s) ++ l) (sym all) ∙ body_again k.content content_at s o b (omega arith) in
     rw (c, bytes_back header_layout 1 s refl b (omega arith), ← e) (sym (drop-cons s 0 0 (omega arith)))
 
 -- what an accepted reading tells
 record ReadAs (s : List ℕ) (p : Packet) : Type 0 where
   kind : PacketKind
-  values : packet_view p ≡ values_in kind s
+  values : packet_values p ≡ values_in kind s
   number : get_or s 0 0 ≡ kind.number
-  whole : length s ≡ kind_size kind
+  whole : length s ≡ values_size (values_in kind s)
   fit : packet_fits p ≡ true
 
-judged-inv : (s : List ℕ) (k : PacketKind) (q p : Packet) → packet_view q ≡ values_in k s → get_or s 0 0 ≡ k.number → judged_packet (length s) q ≡ accept p → ReadAs s p
+judged-inv : (s : List ℕ) (k : PacketKind) (q p : Packet) → packet_values q ≡ values_in k s → get_or s 0 0 ≡ k.number → judged_packet (length s) q ≡ accept p → ReadAs s p
 unfolding judged_packet
 judged-inv s k q p v m = go _ refl _ refl
   where
@@ -114,7 +117,7 @@ judged-inv s k q p v m = go _ refl _ refl
         → then_judge (row 17 (not a)) (λ _. then_judge (row 19 (not b)) (λ _. accept q)) ≡ accept p → ReadAs s p
     go true n true f e =
         let same : q ≡ p = cc in
-        subst (ReadAs s) same (record { kind = k; values = v; number = m; whole = eqb-true _ _ n ∙ ap (λ (w : PacketValues). kind_size w.kind) v; fit = f })
+        subst (ReadAs s) same (record { kind = k; values = v; number = m; whole = eqb-true _ _ n ∙ ap values_size v; fit = f })
     go true n false f e = let z : ◌≡◌ {A = ℕ} 0 1 = cc in absurd (omega arith)
     go false n b f e = let z : ◌≡◌ {A = ℕ} 0 1 = cc in absurd (omega arith)
 
@@ -143,7 +146,7 @@ module _ (s : List ℕ) (p : Packet) (e : packet_of s ≡ accept p) where
   pub written_read : Bytes s → packet_bytes p ≡ s
   written_read b =
       let r = read-inv s p e in
-      let sound-kind : sound r.kind.content ≡ true = ap (λ (v : PacketValues). sound v.kind.content) (sym r.values) ∙ (known p).sound_content in
+      let sound-kind : body_sound r.kind.content ≡ true = ap (λ (v : PacketValues). body_sound v.kind.content) (sym r.values) ∙ (known p).sound_content in
       ap value_bytes r.values ∙ values_same r.kind s sound-kind b r.whole r.number
 
   -- a packet that was read is in its ranges and within its types, so the writer takes it
@@ -153,7 +156,7 @@ module _ (s : List ℕ) (p : Packet) (e : packet_of s ≡ accept p) where
   pub read_typed : Bytes s → TypedPacket p
   read_typed b =
       let r = read-inv s p e in
-      subst TypedValues (sym r.values) (values-typed header_layout 1 s b, values-typed r.kind.content content_at s b)
+      subst TypedValues (sym r.values) (values-typed header_layout 1 s b, body_typed r.kind.content content_at s b)
 
 -- no packet has two byte forms
 pub one_form : (s t : List ℕ) (p : Packet) → Bytes s → Bytes t → packet_of s ≡ accept p → packet_of t ≡ accept p → s ≡ t
@@ -182,7 +185,7 @@ written_inv p memory n = go _ refl _ refl
 pub read_memory : (p : Packet) (memory : List ℕ) (n : ℕ) → TypedPacket p → written_count p memory ≡ accept n → packet_of (take n (written_memory p memory)) ≡ accept p
 read_memory p memory n t e =
     let w = written_inv p memory n e in
-    let front : take n (packet_bytes p ++ drop (size_of p) memory) ≡ packet_bytes p = take_at (packet_bytes p) _ n (length-values (packet_view p) ∙ w.2) in
+    let front : take n (packet_bytes p ++ drop (size_of p) memory) ≡ packet_bytes p = take_at (packet_bytes p) _ n (length-values (packet_values p) ∙ w.2) in
     ap (λ (m : List ℕ). packet_of (take n m)) (written_all p memory w.0 w.1).1 ∙ ap packet_of front ∙ read-written p w.0 t
 
 -- what was read and is written again restores its bytes, wherever there is room; the bytes behind are kept
@@ -190,7 +193,7 @@ pub write_read : (s memory : List ℕ) (p : Packet) → Bytes s → packet_of s 
     → (written_count p memory ≡ accept (length s)) × (written_memory p memory ≡ s ++ drop (length s) memory)
 write_read s memory p b e h =
     let same : packet_bytes p ≡ s = written_read s p e b in
-    let n : length s ≡ size_of p = ap length (sym same) ∙ length-values (packet_view p) in
+    let n : length s ≡ size_of p = ap length (sym same) ∙ length-values (packet_values p) in
     let w = written_all p memory (read_fits s p e) (omega arith) in
     (w.0 ∙ ap accept (sym n), w.1 ∙ rw (same, n))
 

@@ -8,7 +8,7 @@ use Rattle.packets.specs.Layouts.{content_at, unknown_nidc}
 use Rattle.packets.specs.Packets.{packet_bytes, joined, size_of, packet_of, written_count, written_memory, size_at, front_size, cut_packets}
 use Rattle.packets.specs.View.{status_number, jp_status_number}
 use Rattle.packets.specs.declared.Header.{Header}
-use Rattle.packets.specs.declared.Packet.{Packet}
+use Rattle.packets.specs.Packet.{Packet}
 use Rattle.packets.specs.declared.PointStatus.{PointStatus}
 use Rattle.packets.specs.declared.JpStatus.{JpStatus}
 

@@ -4,6 +4,8 @@
 -- 02, Q-4: "The reader now takes status 0 or 1 in packet 65"
 use Rattle.std.specs.Prelude.{ℕ, ◌+◌, List, [], ◌∷◌, Bool, true, ◌||◌, eqb}
 use Rattle.layout.specs.Layout.{Layout, Values, part, field, listed, size}
+use Rattle.layout.specs.Body.{Body, BodyValues, least_size}
+use Rattle.layout.specs.Body.Body.{fields}
 use Rattle.layout.specs.Layout.Content.{free, up_to, weighted}
 use Rattle.status_word.specs.Word.{condition_parts, conditions_of}
 use Rattle.packets.specs.declared.Header.{Header}
@@ -12,7 +14,7 @@ use Rattle.packets.specs.declared.JpReceived.{JpReceived}
 use Rattle.packets.specs.declared.AtoStatus.{AtoStatus}
 use Rattle.packets.specs.declared.Requested.{Requested}
 use Rattle.packets.specs.declared.TractionBrake.{TractionBrake}
-use Rattle.packets.specs.declared.Packet.{Packet}
+use Rattle.packets.specs.Packet.{Packet}
 
 -- "header: NID_C (2), NID_SP (4), offset (4), speed (2), NID_OPERATIONAL (4; ..)"
 abbrev pub header_layout : Layout
@@ -29,19 +31,20 @@ header_of v =
     let (nidc, (nidsp, (offset, (speed, (operational, _))))) = v in
     record { nidc = nidc; nidsp = nidsp; offset = offset; speed = speed; operational = operational }
 
--- "Number (1), header .., then content": a kind of packet has a number, the layout of its content, what must hold between
--- the fields of the content, and the packet that its values make.
+-- "Number (1), header .., then content": a kind of packet has a number, the body that is its content, what must hold between
+-- the values of the content, and the packet that its values make.
 pub record PacketKind : Type 0 where
   pub number : ℕ
-  pub content : Layout
-  pub between : Values content → Bool
-  pub packet : Values header_layout → Values content → Packet
+  pub content : Body
+  pub between : BodyValues content → Bool
+  pub packet : Values header_layout → BodyValues content → Packet
 
 abbrev pub content_at : ℕ
 content_at = 1 + size header_layout
 
+-- the bytes of a packet of a kind, but for its rows
 abbrev pub kind_size : PacketKind → ℕ
-kind_size k = content_at + size k.content
+kind_size k = content_at + least_size k.content
 
 -- "62: point's NID_C (2), NID_TP (4), info: Q_EOJ_REACHED .. + 2 × alignment + 8 × status .., stopping data (1; 0 unless status 1)."
 abbrev pub content62 : Layout
@@ -62,7 +65,7 @@ timing_point_of h v =
     record { header = header_of h; nidc = nidc; nidtp = nidtp; q_eoj_reached = reached; alignment = alignment; status = status; stopping = stopping }
 
 abbrev pub kind62 : PacketKind
-kind62 = record { number = 62; content = content62; between = stopping_allowed; packet = λ h v. Packet.TimingPoint (timing_point_of h v) }
+kind62 = record { number = 62; content = fields content62; between = stopping_allowed; packet = λ h v. Packet.TimingPoint (timing_point_of h v) }
 
 -- of packet 65: "NID_C (1,024 unless the position is known)"
 abbrev pub unknown_nidc : ℕ
@@ -85,7 +88,7 @@ jp_received_of h v =
     record { header = header_of h; nidc = nidc; atots = atots; date = date; seconds = seconds; counter = counter; status = status }
 
 abbrev pub kind65 : PacketKind
-kind65 = record { number = 65; content = content65; between = λ v. true; packet = λ h v. Packet.JpReceived (jp_received_of h v) }
+kind65 = record { number = 65; content = fields content65; between = λ v. true; packet = λ h v. Packet.JpReceived (jp_received_of h v) }
 
 -- "68: state + 16 × conditions (2)."; by 02, Q-2, each condition by its weight
 abbrev pub content68 : Layout
@@ -97,7 +100,7 @@ ato_status_of h v =
     record { header = header_of h; state = state; conditions = conditions_of (listed condition_parts conditions) }
 
 abbrev pub kind68 : PacketKind
-kind68 = record { number = 68; content = content68; between = λ v. true; packet = λ h v. Packet.AtoStatus (ato_status_of h v) }
+kind68 = record { number = 68; content = fields content68; between = λ v. true; packet = λ h v. Packet.AtoStatus (ato_status_of h v) }
 
 -- 02: "the five bytes of packet 61 as SUBSET-140 lists them", Table 4: UINT8, UINT8, BITSET8, INT16. "For the reader packet 61 has 22 bytes; its
 -- content is free"
@@ -118,7 +121,7 @@ abbrev pub traction_brake_of : Values header_layout → Values content61 → Tra
 traction_brake_of h v = record { header = header_of h; requested = requested_of v }
 
 abbrev pub kind61 : PacketKind
-kind61 = record { number = 61; content = content61; between = λ v. true; packet = λ h v. Packet.TractionBrake (traction_brake_of h v) }
+kind61 = record { number = 61; content = fields content61; between = λ v. true; packet = λ h v. Packet.TractionBrake (traction_brake_of h v) }
 
 abbrev pub kinds : List PacketKind
 kinds = kind62 ∷ kind65 ∷ kind68 ∷ kind61 ∷ []

@@ -1,20 +1,21 @@
 -- Document 01, "Packets": bytes, size and ranges of a packet; the reader and the writer of one packet.
-use Rattle.std.specs.Prelude.{ℕ, zero, suc, min, List, [], ◌∷◌, ◌++◌, Bool, not, ◌&&◌, length, get_or, take, drop, eqb, ltb, if◌then◌else◌}
+use Rattle.std.specs.Prelude.{ℕ, zero, suc, ◌+◌, min, List, [], ◌∷◌, ◌++◌, Bool, not, ◌&&◌, length, get_or, take, drop, eqb, ltb, if◌then◌else◌}
 use Rattle.wire.specs.Judged.{Judged, row, ◌>>=◌, ◌>>◌}
 use Rattle.wire.specs.Judged.Judged.{refuse, accept}
 use Rattle.layout.specs.Layout.{bytes, values_at, fits}
-use Rattle.packets.specs.Layouts.{PacketKind, header_layout, content_at, kind_size, kinds}
-use Rattle.packets.specs.View.{PacketValues, packet_view}
-use Rattle.packets.specs.declared.Packet.{Packet}
+use Rattle.layout.specs.Body.{body_bytes, body_size, body_at, body_fits}
+use Rattle.packets.specs.Layouts.{PacketKind, header_layout, content_at, kinds}
+use Rattle.packets.specs.View.{PacketValues, packet_values}
+use Rattle.packets.specs.Packet.{Packet}
 
 -- ---- bytes, size, ranges
 
 -- "Number (1), header .., then content."
 unfoldable pub value_bytes : PacketValues → List ℕ
-value_bytes v = v.kind.number ∷ bytes header_layout v.header ++ bytes v.kind.content v.content
+value_bytes v = v.kind.number ∷ bytes header_layout v.header ++ body_bytes v.kind.content v.content
 
 abbrev pub packet_bytes : Packet → List ℕ
-packet_bytes p = value_bytes (packet_view p)
+packet_bytes p = value_bytes (packet_values p)
 
 -- packets one after the other
 abbrev pub joined : List Packet → List ℕ
@@ -22,14 +23,17 @@ joined [] = []
 joined (p ∷ ps) = packet_bytes p ++ joined ps
 
 -- "for 62, 65, 68 .. 25, 29, 19 bytes"; 02: "packet 61 has 22 bytes"
+abbrev pub values_size : PacketValues → ℕ
+values_size v = content_at + body_size v.kind.content v.content
+
 abbrev pub size_of : Packet → ℕ
-size_of p = kind_size (packet_view p).kind
+size_of p = values_size (packet_values p)
 
 abbrev pub values_fit : PacketValues → Bool
-values_fit v = fits header_layout v.header && fits v.kind.content v.content && v.kind.between v.content
+values_fit v = fits header_layout v.header && body_fits v.kind.content v.content && v.kind.between v.content
 
 abbrev pub packet_fits : Packet → Bool
-packet_fits p = values_fit (packet_view p)
+packet_fits p = values_fit (packet_values p)
 
 -- ---- the reader of one packet
 
@@ -40,7 +44,7 @@ kind_from (k ∷ ks) n = if eqb n k.number then accept k else kind_from ks n
 
 -- the packet of a kind, with the values that stand in its bytes
 abbrev pub packet_at : PacketKind → List ℕ → Packet
-packet_at k s = k.packet (values_at header_layout 1 s) (values_at k.content content_at s)
+packet_at k s = k.packet (values_at header_layout 1 s) (body_at k.content content_at s)
 
 -- "17 .. for 62, 65, 68 not 25, 29, 19 bytes", for 61 not 22; ".. 19 value out of range": p has the values that stand in n bytes
 unfoldable pub judged_packet : ℕ → Packet → Judged Packet
@@ -75,13 +79,13 @@ written_memory p memory = memory_after (written_count p memory) p memory
 
 -- ---- packets in memory
 
--- the bytes of the packet in front, by its number; 0 where no packet has it
-abbrev pub size_for : Judged PacketKind → ℕ
-size_for (refuse n) = 0
-size_for (accept k) = kind_size k
+-- the bytes of the packet in front, by its number and what stands behind it; 0 where no packet has that number
+abbrev pub size_for : Judged PacketKind → List ℕ → ℕ
+size_for (refuse n) s = 0
+size_for (accept k) s = content_at + body_size k.content (body_at k.content content_at s)
 
 abbrev pub size_at : List ℕ → ℕ
-size_at s = size_for (kind_from kinds (get_or s 0 0))
+size_at s = size_for (kind_from kinds (get_or s 0 0)) s
 
 -- the bytes of the piece in front: a packet or, where no packet has the number, all that are left
 abbrev pub front_size : List ℕ → ℕ

@@ -8,7 +8,7 @@ use Rattle.packets.specs.Layouts.{header_layout}
 use Rattle.packets.specs.View.{header_view}
 use Rattle.packets.specs.Packets.{packet_bytes}
 use Rattle.packets.specs.declared.AtoStatus.{AtoStatus}
-use Rattle.packets.specs.declared.Packet.{Packet}
+use Rattle.packets.specs.Packet.{Packet}
 
 pub record Sentences : Type 0 where
   -- "the sixteen bits of packet 68", behind its header, are the sum's

@@ -1,10 +1,11 @@
 -- The values that a packet's struct stands for.
 use Rattle.std.specs.Prelude.{ℕ}
 use Rattle.layout.specs.Layout.{Values, in_parts}
+use Rattle.layout.specs.Body.{BodyValues}
 use Rattle.status_word.specs.Word.{condition_parts}
 use Rattle.status_word.specs.View.{conditions_view}
 use Rattle.packets.specs.Layouts.{PacketKind, header_layout, content62, content65, content68, content61, kind62, kind65, kind68, kind61}
-use Rattle.packets.specs.declared.PacketKind as code
+use Rattle.packets.specs.declared.PacketKind as kind
 use Rattle.packets.specs.declared.Header.{Header}
 use Rattle.packets.specs.declared.TimingPoint.{TimingPoint}
 use Rattle.packets.specs.declared.PointStatus.{PointStatus}
@@ -14,7 +15,8 @@ use Rattle.packets.specs.declared.JpStatus.TheVariants.{Accepted, TurnedDown}
 use Rattle.packets.specs.declared.JpReceived.{JpReceived}
 use Rattle.packets.specs.declared.AtoStatus.{AtoStatus}
 use Rattle.packets.specs.declared.Requested.{Requested}
-use Rattle.packets.specs.declared.Packet.{Packet}
+use Rattle.packets.specs.Packet.{Packet}
+use Rattle.packets.specs.declared.Packet as code
 
 abbrev pub header_view : Header → Values header_layout
 header_view h = (h.nidc, (h.nidsp, (h.offset, (h.speed, (h.operational, tt)))))
@@ -49,21 +51,28 @@ ato_status_view p = ((p.state, in_parts condition_parts (conditions_view p.condi
 abbrev pub requested_view : Requested → Values content61
 requested_view r = (r.m_ato_trabrrq, (r.m_ato_locobrrq, (r.q_ato_suptb, (r.m_ato_rtbrq, tt))))
 
+-- a packet of the code
+abbrev pub packet_view : code.Packet → Packet
+packet_view (code.Packet.TimingPoint p) = Packet.TimingPoint p
+packet_view (code.Packet.JpReceived p) = Packet.JpReceived p
+packet_view (code.Packet.AtoStatus p) = Packet.AtoStatus p
+packet_view (code.Packet.TractionBrake p) = Packet.TractionBrake p
+
 -- the values of one packet, by its kind
 pub record PacketValues : Type 0 where
   pub kind : PacketKind
   pub header : Values header_layout
-  pub content : Values kind.content
+  pub content : BodyValues kind.content
 
-abbrev pub packet_view : Packet → PacketValues
-packet_view (Packet.TimingPoint p) = record { kind = kind62; header = header_view p.header; content = timing_point_view p }
-packet_view (Packet.JpReceived p) = record { kind = kind65; header = header_view p.header; content = jp_received_view p }
-packet_view (Packet.AtoStatus p) = record { kind = kind68; header = header_view p.header; content = ato_status_view p }
-packet_view (Packet.TractionBrake p) = record { kind = kind61; header = header_view p.header; content = requested_view p.requested }
+abbrev pub packet_values : Packet → PacketValues
+packet_values (Packet.TimingPoint p) = record { kind = kind62; header = header_view p.header; content = timing_point_view p }
+packet_values (Packet.JpReceived p) = record { kind = kind65; header = header_view p.header; content = jp_received_view p }
+packet_values (Packet.AtoStatus p) = record { kind = kind68; header = header_view p.header; content = ato_status_view p }
+packet_values (Packet.TractionBrake p) = record { kind = kind61; header = header_view p.header; content = requested_view p.requested }
 
 -- the kind of a packet
-abbrev pub kind_view : code.PacketKind → PacketKind
-kind_view code.PacketKind.TimingPoint = kind62
-kind_view code.PacketKind.JpReceived = kind65
-kind_view code.PacketKind.AtoStatus = kind68
-kind_view code.PacketKind.TractionBrake = kind61
+abbrev pub kind_view : kind.PacketKind → PacketKind
+kind_view kind.PacketKind.TimingPoint = kind62
+kind_view kind.PacketKind.JpReceived = kind65
+kind_view kind.PacketKind.AtoStatus = kind68
+kind_view kind.PacketKind.TractionBrake = kind61

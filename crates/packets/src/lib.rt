@@ -288,11 +288,11 @@ impl AtoStatus {
 }
 
 impl Packet {
-    ghost use Rattle.packets.specs.View.{header_view, kind_view, packet_view};
+    ghost use Rattle.packets.specs.View.{header_view, kind_view, packet_view, packet_values};
     ghost use Rattle.packets.specs.Packets.{size_of, packet_fits};
 
     pub fn kind(self) -> PacketKind
-        ensures { kind_view result ≡ (packet_view self).kind }
+        ensures { kind_view result ≡ (packet_values (packet_view self)).kind }
     {
         match self {
             Packet::TimingPoint(_) => PacketKind::TimingPoint,
@@ -303,7 +303,7 @@ impl Packet {
     }
 
     pub fn header(self) -> Header
-        ensures { header_view result ≡ (packet_view self).header }
+        ensures { header_view result ≡ (packet_values (packet_view self)).header }
     {
         match self {
             Packet::TimingPoint(x) => x.header,
@@ -315,14 +315,14 @@ impl Packet {
 
     // Its bytes.
     pub fn size(self) -> usize
-        ensures { result ≡ size_of self }
+        ensures { result ≡ size_of (packet_view self) }
     {
         self.kind().size()
     }
 
     // Each value is in its range.
     pub fn fits(self) -> bool
-        ensures { result ≡ packet_fits self }
+        ensures { result ≡ packet_fits (packet_view self) }
     {
         let header = self.header().fits();
         match self {

@@ -16,7 +16,7 @@ use Rattle.fields.proofs.ReaderLaws.{field_good}
 use Rattle.packets.specs.Packets.{front_size, cut, cut_packets}
 use Rattle.packets.proofs.Cutting.{front-some}
 use Rattle.event.specs.Kinds.{kind_of}
-use Rattle.event.specs.declared.Event.TheVariants.{Load}
+use Rattle.event.specs.Event.Event.{Load}
 use Rattle.call_values.specs.Call.{Answer, refused, accepted, bytes_written}
 use Rattle.player_text.specs.Calls.{Given, some, block, profiles, call}
 use Rattle.player_text.specs.Lines.{hex, hex_lines, decimal, most_digits, answer_line, lines, output_bytes, most_lines}

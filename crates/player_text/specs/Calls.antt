@@ -5,7 +5,7 @@ use Rattle.fields.specs.Parse.{Reader, field, give, ◌>>=◌}
 use Rattle.fields.specs.Parse.Parse.{bad, good}
 use Rattle.engine_value.specs.Engine.{max2}
 use Rattle.event.specs.Kinds.{kind_of}
-use Rattle.event.specs.declared.Event.TheVariants.{Load}
+use Rattle.event.specs.Event.Event.{Load}
 
 -- an event with its profiles
 pub record Given : Type 0 where

@@ -5,7 +5,7 @@ use Rattle.engine_value.specs.declared.Control.{Control}
 use Rattle.engine_value.specs.declared.Inputs.{Inputs}
 use Rattle.status_word.specs.Anchors.{numbered}
 use Rattle.event.specs.Kinds.{Row, SwitchOn, Configure, SwitchOff, Fail, EngagePress, ByState, kinds}
-use Rattle.event.specs.declared.Event.TheVariants.{PowerOn, Configured, PowerOff, Fault, Reports, Mode, Lever, Press, PositionReport}
+use Rattle.event.specs.Event.Event.{PowerOn, Configured, PowerOff, Fault, Reports, Mode, Lever, Press, PositionReport}
 use Rattle.state_codes.specs.declared.State.{State}
 use Rattle.state_codes.specs.declared.State.TheVariants.{NP, CO, NA, AV, RE, EG, DE, FA}
 use Rattle.state_codes.specs.declared.EtcsMode.{EtcsMode}

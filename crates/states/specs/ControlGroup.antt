@@ -4,7 +4,7 @@ use Rattle.engine_value.specs.declared.Control.{Control}
 use Rattle.engine_value.specs.declared.Inputs.{Inputs}
 use Rattle.status_word.specs.View.{all_nine}
 use Rattle.status_word.specs.declared.OperationalConditions.{OperationalConditions}
-use Rattle.event.specs.declared.Event.{Event}
+use Rattle.event.specs.Event.{Event}
 use Rattle.state_codes.specs.Codes.{code, state_at, mode_at, lever_at}
 use Rattle.states.specs.States.{machine, T, machine_after, given}
 use Rattle.states.specs.declared.Values.{Values}

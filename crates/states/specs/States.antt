@@ -1,7 +1,7 @@
 -- The rows of the states, the press, the AD request.
 use Rattle.std.specs.Prelude.{Bool, true, false, not, ◌&&◌, ◌||◌, ℕ, if◌then◌else◌}
 use Rattle.wire.specs.Numbers.{bit}
-use Rattle.event.specs.declared.Event.{Event}
+use Rattle.event.specs.Event.{Event}
 use Rattle.event.specs.Kinds.{Row, SwitchOn, Configure, SwitchOff, Fail, EngagePress, ByState, row_of}
 use Rattle.state_codes.specs.Codes.{is, is_ad, is_neutral, is_brake}
 use Rattle.state_codes.specs.declared.State.{State}

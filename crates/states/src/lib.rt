@@ -3,6 +3,7 @@
 
 ghost use Rattle.std.specs.Prelude.{◌≡◌, false, not, ◌&&◌, ◌||◌};
 ghost use Rattle.state_codes.specs.Codes.{is_ad, is_brake};
+ghost use Rattle.event.specs.View.{event_view};
 ghost use Rattle.states.specs.States.{machine, N, U, from_re, from_eg, from_de, by_state, machine_after, wanted, given};
 ghost use Rattle.states.specs.ControlGroup.{values_in, machine_in, control_after};
 
@@ -112,7 +113,7 @@ fn by_state(s: State, press: bool, reached: bool, v: Values) -> Machine
 // State and press after an event.
 #[tactic(auto, unfolding(crate::specs::States::machine_after))]
 fn machine_after(m: Machine, event: Event, reached: bool, v: Values) -> Machine
-    ensures { result ≡ machine_after m event reached v }
+    ensures { result ≡ machine_after m (event_view event) reached v }
 {
     let s = m.state;
     match event {
@@ -183,7 +184,7 @@ pub fn control_after(
     reached: bool,
     conditions: OperationalConditions,
 ) -> Control
-    ensures { result ≡ control_after inputs c event reached conditions }
+    ensures { result ≡ control_after inputs c (event_view event) reached conditions }
 {
     let v = values_in(inputs, conditions);
     let m = machine_after(Machine::from(c), event, reached, v);

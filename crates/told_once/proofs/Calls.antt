@@ -9,7 +9,7 @@ use Rattle.engine_value.specs.Engine.{Route, fresh, progress}
 use Rattle.engine_value.specs.declared.Engine.{Engine}
 use Rattle.engine_value.specs.declared.Position.{Position}
 use Rattle.engine_value.specs.declared.Progress.{Progress}
-use Rattle.event.specs.declared.Event.TheVariants.{PositionReport}
+use Rattle.event.specs.Event.Event.{PositionReport}
 use Rattle.event.specs.Kinds.{Role, off, load, report, other, skip}
 use Rattle.event.proofs.Known.{OfRole, known}
 use Rattle.timing.specs.Report.{run}
@@ -20,7 +20,7 @@ use Rattle.whole_list.specs.Table.{packets_by, table_by, packets_refused_by}
 use Rattle.whole_list.specs.Calls.{play, trace, with_accepted, accepted_in, history_of}
 use Rattle.whole_list.specs.Recorded.{packets_after}
 use Rattle.whole_list.specs.WholeList.{bytes_of_each}
-use Rattle.whole_list.proofs.Recorded.{memory_read}
+use Rattle.whole_list.proofs.Readable.{packets_fit, refused_fit, memory_read}
 use Rattle.whole_list.proofs.Fields.{progress_run, engine_of, in-range}
 use Rattle.whole_list.proofs.FieldsStep.{run_kept, route_kept, progress_new}
 use Rattle.whole_list.proofs.WholeList.{outcome_if, step_by_rules, kept}
@@ -96,12 +96,12 @@ one-call h c l s = subst (Next c h l) (sym (step_by_rules h c)) (go (table_by h 
   where
     go : (t : Judged (Unit {0})) → Next c h l (outcome_if h c t)
     go (refuse n) =
-        let w = memory_read (packets_refused_by h c n) c.memory in
+        let w = memory_read (packets_refused_by h c n) (refused_fit h c n) c.memory in
         let e : told_in (l ++ bytes_of_each (packets_refused_by h c n)) ≡ told_in l =
         told-append l (bytes_of_each (packets_refused_by h c n)) ∙ ap (λ (m : List Told). told_in l ++ m) (refused-tells h c n) ∙ append-nil (told_in l) in
         (refl, subst (λ x. StoryBy h (told_in (l ++ x))) (sym w) (subst (StoryBy h) (sym e) s))
     go (accept u) =
-        (refl, subst (λ w. StoryBy (c ∷ h) (told_in (goes_on (role_of_call c) l w))) (sym (memory_read (packets_by h c) c.memory)) (after_call h c l s))
+        (refl, subst (λ w. StoryBy (c ∷ h) (told_in (goes_on (role_of_call c) l w))) (sym (memory_read (packets_by h c) (packets_fit h c) c.memory)) (after_call h c l s))
 
 all_calls : (calls : List Call) (e : Engine) (h : History) (l : List (List ℕ)) → e ≡ engine_of h → StoryBy h (told_in l)
     → StoryBy (accepted_in h (trace e calls)) (told_in (recording_from l (trace e calls)))

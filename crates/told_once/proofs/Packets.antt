@@ -11,7 +11,7 @@ use Rattle.std.proofs.lemmas.List.Elements.{filter-append}
 use Rattle.wire.specs.Lists.{those}
 use Rattle.engine_value.specs.Engine.{Route}
 use Rattle.engine_value.specs.declared.Position.{Position}
-use Rattle.event.specs.declared.Event.TheVariants.{PositionReport}
+use Rattle.event.specs.Event.Event.{PositionReport}
 use Rattle.event.specs.Kinds.{Role, off, load, report, other, skip, role_of}
 use Rattle.packets.specs.declared.TimingPoint.{TimingPoint}
 use Rattle.timing.specs.Changes.{Change, report_changes}

@@ -3,7 +3,7 @@ use Rattle.std.specs.Prelude.{ℕ, Bool, true, false, not, ◌&&◌, ◌||◌, O
 use Rattle.wire.specs.Numbers.{magnitude}
 use Rattle.event.specs.Kinds.{is_off, role_of, carried}
 use Rattle.event.specs.declared.TractionRequest.{TractionRequest}
-use Rattle.event.specs.declared.Event.{Event}
+use Rattle.event.specs.Event.{Event}
 use Rattle.packets.specs.declared.Requested.{Requested}
 use Rattle.state_codes.specs.Codes.{is}
 use Rattle.state_codes.specs.declared.State.{State}

@@ -10,7 +10,7 @@ use Rattle.engine_value.specs.Engine.{route_in}
 use Rattle.engine_value.specs.declared.Engine.{Engine}
 use Rattle.packets.specs.Packets.{packet_bytes, joined}
 use Rattle.timing.specs.Changes.{when}
-use Rattle.packets.specs.declared.Packet.{Packet}
+use Rattle.packets.specs.Packet.{Packet}
 use Rattle.packet_writer.proofs.WriterLaws.{stored_front}
 use Rattle.call_values.specs.Packets.{jp_turned_down, packets_refused}
 use Rattle.call_values.proofs.Laws.{size_turned_down}

@@ -5,6 +5,7 @@ ghost use Rattle.std.specs.Prelude.{◌≡◌, length};
 ghost use Rattle.wire.specs.Refusals.{number_of};
 ghost use Rattle.engine_value.specs.Engine.{route_in};
 ghost use Rattle.packets.specs.Packets.{joined};
+ghost use Rattle.packets.specs.View.{packet_view};
 ghost use Rattle.call_values.specs.Packets.{jp_turned_down};
 ghost use Rattle.call.specs.Call.{packets_refused_in, with_packets};
 
@@ -16,7 +17,7 @@ use wire::Refusal;
 // Nothing of the journey that was refused is told: stamp 0, and the NID_ATOTS of a journey that has none.
 #[tactic(auto, unfolding(call_values::specs::Packets::jp_turned_down))]
 fn jp_turned_down(e: &Engine) -> Packet
-    ensures { result ≡ jp_turned_down (route_in e.now) e.now.train.position }
+    ensures { packet_view result ≡ jp_turned_down (route_in e.now) e.now.train.position }
 {
     let place = Place::new(e.route(), e.train.position);
     Packet::JpReceived(JpReceived {

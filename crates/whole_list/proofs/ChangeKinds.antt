@@ -11,7 +11,7 @@ use Rattle.engine_value.specs.declared.Point.{Point}
 use Rattle.engine_value.specs.declared.Position.{Position}
 use Rattle.event.specs.Kinds.{Role, off, load, report, other, skip}
 use Rattle.event.proofs.Known.{OfRole, known}
-use Rattle.event.specs.declared.Event.TheVariants.{PositionReport}
+use Rattle.event.specs.Event.Event.{PositionReport}
 use Rattle.position.specs.Position.{point, point_count}
 use Rattle.position.specs.Skips.{stop_named}
 use Rattle.timing.specs.Changes.{Change, status_hold_revoked, report_changes}

@@ -13,12 +13,12 @@ use Rattle.engine_value.specs.declared.Engine.{Engine}
 use Rattle.engine_value.specs.declared.Point.{Point}
 use Rattle.engine_value.specs.declared.Position.{Position}
 use Rattle.engine_value.specs.declared.Progress.{Progress}
-use Rattle.event.specs.declared.Event.TheVariants.{PositionReport}
+use Rattle.event.specs.Event.Event.{PositionReport}
 use Rattle.event.specs.Kinds.{Role, off, load, report, other, skip}
 use Rattle.event.proofs.Known.{OfRole, known}
 use Rattle.packets.specs.Packets.{packet_bytes}
 use Rattle.packets.specs.declared.TimingPoint.{TimingPoint}
-use Rattle.packets.specs.declared.Packet.{Packet}
+use Rattle.packets.specs.Packet.{Packet}
 use Rattle.position.specs.Position.{point, point_count, front_at}
 use Rattle.position.specs.Standing.{standing}
 use Rattle.position.specs.declared.Standing.{Standing}

@@ -13,8 +13,8 @@ use Rattle.engine_value.specs.declared.Segment.{Segment}
 use Rattle.engine_value.specs.declared.Position.{Position}
 use Rattle.event.specs.Events.{event_of}
 use Rattle.event.proofs.Accepted.{PositionFits, Fits, position_fits, event-fits}
-use Rattle.event.specs.declared.Event.{Event}
-use Rattle.event.specs.declared.Event.TheVariants.{PowerOn}
+use Rattle.event.specs.Event.{Event}
+use Rattle.event.specs.Event.Event.{PowerOn}
 use Rattle.event.proofs.Known.{OfPosition, position_of}
 use Rattle.event.specs.Kinds.{carried, Role, off, load, report, other, skip, newer, is_off}
 use Rattle.route.specs.Route.{LoadValue, load_of}

@@ -13,8 +13,8 @@ use Rattle.wire.specs.Judged.Judged.{refuse, accept}
 use Rattle.engine_value.specs.Engine.{mode}
 use Rattle.event.specs.Events.{event_of}
 use Rattle.event.specs.Kinds.{kind_of, carried, Role, off, load, report, other, skip, role_of, newer, is_off}
-use Rattle.event.specs.declared.Event.{Event}
-use Rattle.event.specs.declared.Event.TheVariants.{PowerOff, Press, Mode, PositionReport}
+use Rattle.event.specs.Event.{Event}
+use Rattle.event.specs.Event.Event.{PowerOff, Press, Mode, PositionReport}
 use Rattle.event.proofs.Known.{OfRole, OfMode, known, mode_of}
 use Rattle.engine_value.specs.declared.Point.{Point}
 use Rattle.engine_value.specs.declared.Position.{Position}

@@ -5,7 +5,7 @@ use mathlib.Core.List.{◌∷◌}
 use Rattle.std.specs.Prelude.{Option}
 use Rattle.engine_value.specs.Engine.{with_control}
 use Rattle.engine_value.specs.declared.Control.{Control}
-use Rattle.event.specs.declared.Event.{Event}
+use Rattle.event.specs.Event.{Event}
 use Rattle.event.specs.Kinds.{Role, off, load, report, other, skip, row_of, role_of}
 use Rattle.event.proofs.Known.{OfRole, known}
 use Rattle.state_codes.specs.Codes.{code, state_at, mode_at, lever_at}

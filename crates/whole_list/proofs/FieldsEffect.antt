@@ -11,8 +11,8 @@ use Rattle.engine_value.specs.Engine.{Value, train_of, inputs_of, Route, no_rout
 use Rattle.engine_value.specs.declared.Position.{Position}
 use Rattle.engine_value.specs.declared.Progress.{Progress}
 use Rattle.engine_value.specs.declared.Control.{Control}
-use Rattle.event.specs.declared.Event.{Event}
-use Rattle.event.specs.declared.Event.TheVariants.{PowerOff, PositionReport, Load, Skip, Revoke}
+use Rattle.event.specs.Event.{Event}
+use Rattle.event.specs.Event.Event.{PowerOff, PositionReport, Load, Skip, Revoke}
 use Rattle.event.specs.Kinds.{Carried, carried, Role, off, load, report, other, skip, role_of, newer, is_off}
 use Rattle.event.proofs.Known.{OfRole, known}
 use Rattle.route.specs.Route.{LoadValue, load_of}

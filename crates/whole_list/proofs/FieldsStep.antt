@@ -11,8 +11,8 @@ use Rattle.engine_value.specs.Engine.{Route, progress}
 use Rattle.engine_value.specs.declared.Point.{Point}
 use Rattle.engine_value.specs.declared.Position.{Position}
 use Rattle.engine_value.specs.declared.Progress.{Progress}
-use Rattle.event.specs.declared.Event.{Event}
-use Rattle.event.specs.declared.Event.TheVariants.{PositionReport, Load}
+use Rattle.event.specs.Event.{Event}
+use Rattle.event.specs.Event.Event.{PositionReport, Load}
 use Rattle.event.specs.Kinds.{Role, off, load, report, other, skip, role_of}
 use Rattle.event.proofs.Known.{OfRole, known}
 use Rattle.route.specs.Route.{LoadValue, load_of}

@@ -14,10 +14,10 @@ use Rattle.engine_value.specs.declared.Point.{Point}
 use Rattle.engine_value.specs.declared.Position.{Position}
 use Rattle.engine_value.specs.declared.Progress.{Progress}
 use Rattle.event.specs.Kinds.{kind_of}
-use Rattle.event.specs.declared.Event.TheVariants.{Press, PositionReport}
+use Rattle.event.specs.Event.Event.{Press, PositionReport}
 use Rattle.event.proofs.Known.{press_of}
 use Rattle.packets.specs.Packets.{value_bytes, packet_bytes}
-use Rattle.packets.specs.declared.Packet.{Packet}
+use Rattle.packets.specs.Packet.{Packet}
 use Rattle.position.specs.Position.{point, point_count}
 use Rattle.position.specs.Standing.{standing}
 use Rattle.position.specs.declared.Standing.TheVariants.{Reached}

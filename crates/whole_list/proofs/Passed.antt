@@ -13,13 +13,13 @@ use Rattle.wire.specs.Judged.Judged.{refuse, accept}
 use Rattle.wire.specs.Refusals.{turns_down}
 use Rattle.engine_value.specs.Engine.{Route}
 use Rattle.engine_value.specs.declared.Position.{Position}
-use Rattle.event.specs.declared.Event.TheVariants as kind
+use Rattle.event.specs.Event as kind
 use Rattle.packets.specs.Layouts.{kind65, kind_size}
 use Rattle.packets.specs.Packets.{packet_of}
 use Rattle.packets.specs.declared.TimingPoint.{TimingPoint}
 use Rattle.status_word.specs.declared.OperationalConditions.{OperationalConditions}
 use Rattle.packets.specs.declared.Requested.{Requested}
-use Rattle.packets.specs.declared.Packet.{Packet}
+use Rattle.packets.specs.Packet.{Packet}
 use Rattle.position.specs.Position.{point}
 use Rattle.timing.specs.Changes.{Change, status_passed, status_held, when, report_changes}
 use Rattle.timing.proofs.Changes.{Behind, recorded_behind, index_below}
@@ -122,7 +122,7 @@ told_by h c d i = (_, in_packets h c d i, refl, refl)
 -- what a packet 62 of status 0 to 3 stands for: a change of the steps, at a position report
 pub record Told (h : History) (c : Call) (packet : List ℕ) (p : TimingPoint) : Type 0 where
   pub position : Position
-  pub is_report_lem : event_of_call c ≡ kind.PositionReport position
+  pub is_report_lem : event_of_call c ≡ kind.Event.PositionReport position
   pub change : Change
   pub one_of_them : Memᴰ change (report_changes (route_by h) (report_at (c ∷ h)) (progress_run h))
   pub status_is : change.status ≡ p.status

@@ -19,7 +19,7 @@ use Rattle.packets.specs.Layouts.{kind65, kind_size}
 use Rattle.packets.specs.Packets.{packet_bytes}
 use Rattle.packets.specs.declared.Requested.{Requested}
 use Rattle.packets.specs.declared.TimingPoint.{TimingPoint}
-use Rattle.packets.specs.declared.Packet.{Packet}
+use Rattle.packets.specs.Packet.{Packet}
 use Rattle.packets.proofs.RoundTrips.{read-written}
 use Rattle.status_word.specs.declared.OperationalConditions.{OperationalConditions}
 use Rattle.timing.specs.Changes.{status_stopped, when}

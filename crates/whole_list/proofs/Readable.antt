@@ -7,7 +7,8 @@ use mathlib.Core.List.{List, [], ◌∷◌, ◌++◌, map}
 use Prim.Native.Nat.{ℕ, zero, suc, ◌+◌, ◌≤◌}
 use native.Mathlib.Omega.{arith}
 use lib.Dec.{eqb, leb}
-use lib.ListN.{length}
+use lib.ListN.{length, take, drop}
+use lib.Seq.{take-append_seam}
 use borrow.Author.Tests.{le-leb}
 use Rattle.wire.specs.Numbers.{flag}
 use Rattle.wire.specs.Judged.{Judged}
@@ -21,7 +22,7 @@ use Rattle.journey.proofs.Accepted.{HeadFits}
 use Rattle.journey.specs.declared.Head.{Head}
 use Rattle.event.specs.Kinds.{Role, off, load, report, other, skip}
 use Rattle.event.specs.declared.TractionRequest.{TractionRequest}
-use Rattle.event.specs.declared.Event.{Event}
+use Rattle.event.specs.Event.{Event}
 use Rattle.event.proofs.Known.{OfTraction, traction-of}
 use Rattle.event.proofs.Accepted.{ContentFits, content-fits, Fits as EventFits}
 use Rattle.route.specs.Route.{LoadValue}
@@ -32,12 +33,13 @@ use Rattle.packets.specs.Layouts.{header_layout, unknown_nidc, kind65, kind_size
 use Rattle.packets.specs.View.{header_view}
 use Rattle.status_word.specs.View.{conditions_view}
 use Rattle.status_word.specs.Sentences.{ZerosAndOnes}
-use Rattle.packets.specs.Packets.{packet_bytes, packet_fits, packet_of}
+use Rattle.packets.specs.Packets.{packet_bytes, joined, packet_fits, packet_of, cut_packets}
+use Rattle.packets.proofs.Cutting.{cut-joined}
 use Rattle.packets.proofs.ConditionLaws.{status_fits}
 use Rattle.packets.proofs.RoundTrips.{TypedPacket, read-written}
 use Rattle.status_word.specs.declared.OperationalConditions.{OperationalConditions}
 use Rattle.packets.specs.declared.Requested.{Requested}
-use Rattle.packets.specs.declared.Packet.{Packet}
+use Rattle.packets.specs.Packet.{Packet}
 use Rattle.traction.specs.Requests.{written_content}
 use Rattle.traction.proofs.Laws.{written_inv, written_is}
 use Rattle.position.specs.Position.{point, point_count, known}
@@ -289,6 +291,14 @@ module _ (h : History) (c : Call) where
       go : (t : Judged (Unit {0})) → All Fits (packets_if h c t)
       go (refuse n) = refused_fit n
       go (accept u) = packets_fit
+
+in_ranges : (ps : List Packet) → All Fits ps → All (λ (p : Packet). packet_fits p ≡ true) ps
+in_ranges [] a = tt
+in_ranges (p ∷ ps) a = (a.0.0, in_ranges ps a.1)
+
+-- the packets in the memory of a call
+pub memory_read : (ps : List Packet) → All Fits ps → (memory : List ℕ) → cut_packets (take (length (joined ps)) (joined ps ++ drop (length (joined ps)) memory)) ≡ bytes_of_each ps
+memory_read ps a memory = rw take-append_seam (cut-joined ps (in_ranges ps a))
 
 -- each is read back as it was
 pub read_back : (ps : List Packet) → All Fits ps → map packet_of (bytes_of_each ps) ≡ map accept ps

@@ -1,4 +1,4 @@
--- What an event writes is read again in memory, packet by packet; which packet 68 is the last one; and what it tells.
+-- Which packet 68 of an event is the last one, and what it tells.
 use Rattle.std.specs.Prelude.{if◌then◌else◌, Option, Some, None}
 use mathlib.Core.Path.{◌≡◌, refl, ◌∙◌, ap}
 use mathlib.Core.Bool.{Bool, true, false, ◌&&◌}
@@ -6,16 +6,14 @@ use mathlib.Core.List.{List, [], ◌∷◌, ◌++◌, map}
 use Prim.Native.Nat.{ℕ, ◌≤◌}
 use native.Mathlib.Omega.{arith}
 use lib.Dec.{leb}
-use lib.ListN.{length, take, drop}
-use lib.Seq.{take-append_seam}
+use lib.ListN.{length}
 use borrow.Author.Tests.{le-leb}
 use Rattle.wire.specs.Refusals.{turns_down}
 use Rattle.engine_value.specs.Engine.{Route, max2, max4, undefined}
 use Rattle.engine_value.specs.declared.Position.{Position}
 use Rattle.journey.specs.declared.Head.{Head}
 use Rattle.packets.specs.Layouts.{kind65, kind_size}
-use Rattle.packets.specs.Packets.{value_bytes, packet_bytes, joined, cut_packets}
-use Rattle.packets.proofs.Cutting.{cut-joined}
+use Rattle.packets.specs.Packets.{value_bytes, packet_bytes}
 use Rattle.status_word.specs.View.{conditions_view}
 use Rattle.status_word.specs.Sentences.{ZerosAndOnes}
 use Rattle.packets.proofs.ConditionLaws.{status_fits}
@@ -23,15 +21,11 @@ use Rattle.packets.proofs.RoundTrips.{read-written}
 use Rattle.status_word.specs.declared.OperationalConditions.{OperationalConditions}
 use Rattle.packets.specs.declared.Requested.{Requested}
 use Rattle.packets.specs.declared.AtoStatus.{AtoStatus}
-use Rattle.packets.specs.declared.Packet.{Packet}
+use Rattle.packets.specs.Packet.{Packet}
 use Rattle.timing.specs.Changes.{when}
 use Rattle.call_values.specs.Packets.{PointChange, header, timing_point, jp_received, traction_brake, traction_brakes, ato_status, Status, status_due, received, packets_of, jp_turned_down, packets_refused}
 use Rattle.whole_list.specs.Recorded.{newest}
 use Rattle.whole_list.specs.WholeList.{bytes_of_each, StatusPacket}
-
--- the packets in the memory of a call
-pub memory_read : (ps : List Packet) (memory : List ℕ) → cut_packets (take (length (joined ps)) (joined ps ++ drop (length (joined ps)) memory)) ≡ bytes_of_each ps
-memory_read ps memory = rw take-append_seam (cut-joined ps)
 
 -- ---- the last packet 68 of an event
 

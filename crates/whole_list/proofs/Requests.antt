@@ -10,13 +10,13 @@ use Rattle.engine_value.specs.Engine.{Route}
 use Rattle.engine_value.specs.declared.Position.{Position}
 use Rattle.event.specs.Kinds.{carried}
 use Rattle.event.specs.declared.TractionRequest.{TractionRequest}
-use Rattle.event.specs.declared.Event.{Event}
+use Rattle.event.specs.Event.{Event}
 use Rattle.event.proofs.Known.{OfTraction, traction-of}
 use Rattle.journey.specs.declared.Head.{Head}
 use Rattle.packets.specs.Packets.{value_bytes, packet_bytes}
 use Rattle.status_word.specs.declared.OperationalConditions.{OperationalConditions}
 use Rattle.packets.specs.declared.Requested.{Requested}
-use Rattle.packets.specs.declared.Packet.{Packet}
+use Rattle.packets.specs.Packet.{Packet}
 use Rattle.timing.specs.Changes.{when}
 use Rattle.traction.specs.Requests.{made, forgets, with_request, remembered_after, written_content}
 use Rattle.traction.specs.declared.Remembered.{Remembered}

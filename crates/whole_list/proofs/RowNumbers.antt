@@ -11,10 +11,10 @@ use Rattle.wire.specs.Judged.{Judged, then_judge, row}
 use Rattle.wire.specs.Judged.Judged.{refuse, accept}
 use Rattle.wire.specs.Lists.{every, any, twice, falls, strictly_rises}
 use Rattle.wire.proofs.ListLaws.{and_left, and_right}
-use Rattle.layout.specs.Layout.{size, values_at, fits}
+use Rattle.layout.specs.Body.{body_size, body_at, body_fits}
 use Rattle.engine_value.specs.Engine.{max_segments}
 use Rattle.engine_value.specs.declared.Point.{Point}
-use Rattle.event.specs.declared.Event.{Event}
+use Rattle.event.specs.Event.{Event}
 use Rattle.packets.specs.Packets.{joined}
 use Rattle.event.specs.Kinds.{Content, kind, kinds, kind_of, Role, off, load, report, other, skip}
 use Rattle.event.specs.Events.{event_rows, event_with, content_among, event_of_kind, event_of}
@@ -96,8 +96,8 @@ event_refuses l =
   where
     fields : (c : Content) → Refuses (1 ∷ 2 ∷ []) (event_with c l)
     fields c =
-        then-refuses (1 ∷ []) (2 ∷ []) (row 1 (not (eqb (length l) (1 + size c.fields)))) _ (row_refuses 1 _)
-        (λ u. then-refuses (2 ∷ []) [] (row 2 (not (fits c.fields (values_at c.fields 1 l)))) _ (row_refuses 2 _) (λ v. never (c.event (values_at c.fields 1 l))))
+        then-refuses (1 ∷ []) (2 ∷ []) (row 1 (not (eqb (length l) (1 + body_size c.body (body_at c.body 1 l))))) _ (row_refuses 1 _)
+        (λ u. then-refuses (2 ∷ []) [] (row 2 (not (body_fits c.body (body_at c.body 1 l)))) _ (row_refuses 2 _) (λ v. never (c.event (body_at c.body 1 l))))
 
 power_refuses : (s : State) (k : ℕ) → Refuses (3 ∷ 4 ∷ 5 ∷ []) (power_rows s k)
 unfolding power_rows

@@ -9,9 +9,9 @@ use Rattle.wire.specs.Judged.{Judged, then_judge, row}
 use Rattle.wire.specs.Judged.Judged.{refuse, accept}
 use Rattle.event.specs.Events.{event_of}
 use Rattle.event.specs.Kinds.{kind_of}
-use Rattle.event.specs.declared.Event.{Event}
+use Rattle.event.specs.Event.{Event}
 use Rattle.packets.specs.Packets.{joined}
-use Rattle.packets.specs.declared.Packet.{Packet}
+use Rattle.packets.specs.Packet.{Packet}
 use Rattle.packets.specs.declared.Requested.{Requested}
 use Rattle.state_codes.specs.Codes.{code, state_at}
 use Rattle.state_codes.proofs.CodeLaws.{state_code}

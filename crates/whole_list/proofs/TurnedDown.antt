@@ -21,7 +21,7 @@ use Rattle.status_word.specs.declared.OperationalConditions.{OperationalConditio
 use Rattle.packets.specs.Packets.{packet_bytes, joined}
 use Rattle.packets.specs.declared.Requested.{Requested}
 use Rattle.packets.specs.declared.JpReceived.{JpReceived}
-use Rattle.packets.specs.declared.Packet.{Packet}
+use Rattle.packets.specs.Packet.{Packet}
 use Rattle.journey.specs.declared.Head.{Head}
 use Rattle.timing.specs.Changes.{when}
 use Rattle.state_codes.specs.Numbers.{power_rows, state_row}

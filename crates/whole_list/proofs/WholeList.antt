@@ -11,7 +11,7 @@ use Rattle.wire.specs.Judged.Judged.{refuse, accept}
 use Rattle.engine_value.specs.Engine.{fresh, route_in}
 use Rattle.engine_value.specs.declared.Engine.{Engine}
 use Rattle.event.specs.Kinds.{Row, SwitchOn, Configure, SwitchOff, Fail, EngagePress, ByState, kind_of, row_of}
-use Rattle.event.specs.declared.Event.{Event}
+use Rattle.event.specs.Event.{Event}
 use Rattle.event.proofs.Known.{OfRow, known}
 use Rattle.packets.specs.Packets.{packet_of, joined, cut_packets}
 use Rattle.timing.specs.Report.{run}
@@ -39,8 +39,8 @@ use Rattle.whole_list.proofs.Fields.{skips_of, progress_run, engine_of, stands_a
 use Rattle.whole_list.proofs.FieldsControl.{conditions-in}
 use Rattle.whole_list.proofs.TableRows.{ruled, judged_is}
 use Rattle.whole_list.proofs.Engaged.{Good, power_accepts, stands_exactly, saw, held_exactly, engaged_exactly, requested_exactly}
-use Rattle.whole_list.proofs.Recorded.{memory_read, newest_refused}
-use Rattle.whole_list.proofs.Readable.{written_fit, read_back}
+use Rattle.whole_list.proofs.Recorded.{newest_refused}
+use Rattle.whole_list.proofs.Readable.{packets_fit, refused_fit, written_fit, memory_read, read_back}
 use Rattle.whole_list.proofs.Shown.{shown_by}
 use Rattle.whole_list.proofs.Passed as passed
 use Rattle.whole_list.proofs.Status.{Names, names_next, names_first}
@@ -82,7 +82,7 @@ module _ (h : History) (c : Call) where
   written_is =
       ap (λ r. cut_packets (take (bytes_written (step_of (engine_of h) c).answer) r.memory)) step_by_rules
       ∙ ap (λ n. cut_packets (take n (with_packets (written_by h c) c.memory))) bytes_are
-      ∙ memory_read (written_by h c) c.memory
+      ∙ memory_read (written_by h c) (written_fit h c) c.memory
 
   accepted_if : (t : Judged (Unit {0})) → ((a : Accepted) × (answer_if h c t ≡ accepted a)) ↔ (t ≡ accept tt)
   accepted_if (refuse n) = ((λ p. let q = p.1 in cc), (λ e. cc))
@@ -165,14 +165,14 @@ keeps_one h o a c g n s = subst (Next c h o a) (sym (step_by_rules h c)) (go (ta
         record {
           seen = refl;
           good = g;
-          named = rw (memory_read (packets_refused_by h c m) c.memory, newest_refused (route_by h) (position_by h) o m (length c.memory)) n;
+          named = rw (memory_read (packets_refused_by h c m) (refused_fit h c m) c.memory, newest_refused (route_by h) (position_by h) o m (length c.memory)) n;
           answered = s;
         }
     go (accept u) e =
         record {
           seen = refl;
           good = (e, g);
-          named = rw (memory_read (packets_by h c) c.memory) (named_more h c o e n);
+          named = rw (memory_read (packets_by h c) (packets_fit h c) c.memory) (named_more h c o e n);
           answered = (accepted_by h c, refl, refl);
         }
 

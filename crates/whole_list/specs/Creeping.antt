@@ -3,11 +3,11 @@
 use Rattle.std.specs.Prelude.{◌≡◌, ◌≢◌, true, List, ◌∷◌, ◌++◌, ℕ, ◌<◌, Some}
 use Rattle.wire.specs.Judged.Judged.{accept}
 use Rattle.engine_value.specs.declared.Position.{Position}
-use Rattle.event.specs.declared.Event.TheVariants.{PositionReport}
+use Rattle.event.specs.Event.Event.{PositionReport}
 use Rattle.event.specs.Kinds.{off, load}
 use Rattle.packets.specs.Packets.{packet_of}
 use Rattle.packets.specs.declared.TimingPoint.{TimingPoint}
-use Rattle.packets.specs.declared.Packet.{Packet}
+use Rattle.packets.specs.Packet.{Packet}
 use Rattle.position.specs.Position.{point, front_at}
 use Rattle.timing.specs.Distance.{exceeds_reach}
 use Rattle.timing.specs.Changes.{status_departed}

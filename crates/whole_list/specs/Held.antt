@@ -5,10 +5,10 @@ use Rattle.engine_value.specs.declared.Point.{Point}
 use Rattle.engine_value.specs.declared.Position.{Position}
 use Rattle.event.specs.Events.{event_of}
 use Rattle.event.specs.Kinds.{load}
-use Rattle.event.specs.declared.Event.TheVariants.{Press, PositionReport}
+use Rattle.event.specs.Event.Event.{Press, PositionReport}
 use Rattle.packets.specs.Packets.{packet_of, packet_bytes}
 use Rattle.packets.specs.declared.TimingPoint.{TimingPoint}
-use Rattle.packets.specs.declared.Packet.{Packet}
+use Rattle.packets.specs.Packet.{Packet}
 use Rattle.position.specs.Position.{point, point_count}
 use Rattle.position.specs.declared.Standing.TheVariants.{Reached}
 use Rattle.timing.specs.Changes.{status_stopped, status_held, status_hold_revoked}

@@ -5,7 +5,7 @@ use Rattle.wire.specs.Judged.{Judged}
 use Rattle.wire.specs.Judged.Judged.{refuse, accept}
 use Rattle.packets.specs.Packets.{packet_of, cut_packets}
 use Rattle.packets.specs.declared.TimingPoint.{TimingPoint}
-use Rattle.packets.specs.declared.Packet.{Packet}
+use Rattle.packets.specs.Packet.{Packet}
 use Rattle.call_values.specs.Call.{Answer, bytes_written}
 use Rattle.whole_list.specs.Calls.{Done}
 

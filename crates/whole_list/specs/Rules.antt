@@ -1,7 +1,7 @@
 -- The rules over a history: where the points stand, the conditions, the state, the AD request, the engagement rule. Nothing here is of crate `call`.
 use Rattle.std.specs.Prelude.{◌≡◌, Bool, true, false, not, ◌&&◌, ◌||◌, [], ◌∷◌, ℕ, zero, suc, ◌-◌, ◌<◌, length, drop, get_or}
 use Rattle.engine_value.specs.declared.Position.{Position}
-use Rattle.event.specs.declared.Event.TheVariants.{PositionReport}
+use Rattle.event.specs.Event.Event.{PositionReport}
 use Rattle.event.specs.Kinds.{off, load, report, other, skip}
 use Rattle.status_word.specs.declared.OperationalConditions.{OperationalConditions}
 use Rattle.position.specs.Position.{point, point_count}

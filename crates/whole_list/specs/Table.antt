@@ -9,7 +9,7 @@ use Rattle.event.specs.Kinds.{kind_of, off, load, report, other, skip}
 use Rattle.journey.specs.declared.Head.{Head}
 use Rattle.route.specs.Route.{LoadValue, load_of}
 use Rattle.packets.specs.Packets.{joined}
-use Rattle.packets.specs.declared.Packet.{Packet}
+use Rattle.packets.specs.Packet.{Packet}
 use Rattle.position.specs.Position.{point, point_count, segment_named}
 use Rattle.position.specs.Standing.{behind}
 use Rattle.timing.specs.Changes.{status_passed, status_stopped, status_departed, status_held, status_skipped, status_revoked, when}

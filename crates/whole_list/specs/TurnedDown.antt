@@ -4,7 +4,7 @@ use Rattle.wire.specs.Judged.Judged.{refuse, accept}
 use Rattle.event.specs.Kinds.{load}
 use Rattle.packets.specs.Packets.{packet_of}
 use Rattle.packets.specs.declared.JpReceived.{JpReceived}
-use Rattle.packets.specs.declared.Packet.{Packet}
+use Rattle.packets.specs.Packet.{Packet}
 use Rattle.call_values.specs.Call.{Call}
 use Rattle.call_values.specs.Packets.{jp_turned_down}
 use Rattle.call.specs.Call.{Outcome, step_of}

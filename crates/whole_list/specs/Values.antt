@@ -5,8 +5,8 @@ use Rattle.wire.specs.Judged.Judged.{refuse, accept}
 use Rattle.engine_value.specs.Engine.{Value, mode, lever, reports, train_length, Route, no_route, fresh_position}
 use Rattle.engine_value.specs.declared.Position.{Position}
 use Rattle.event.specs.Events.{event_of}
-use Rattle.event.specs.declared.Event.{Event}
-use Rattle.event.specs.declared.Event.TheVariants.{PowerOn}
+use Rattle.event.specs.Event.{Event}
+use Rattle.event.specs.Event.Event.{PowerOn}
 use Rattle.event.specs.Kinds.{Role, off, load, report, other, skip, is_off, Carried, newer, role_of, carried}
 use Rattle.route.specs.Route.{LoadValue, load_of}
 use Rattle.timing.specs.Distance as distance

@@ -5,13 +5,13 @@ use Rattle.engine_value.specs.Engine.{route_in, fresh, max_points}
 use Rattle.engine_value.specs.declared.Position.{Position}
 use Rattle.engine_value.specs.declared.Engine.{Engine}
 use Rattle.event.specs.declared.TractionRequest.{TractionRequest}
-use Rattle.event.specs.declared.Event.TheVariants.{PositionReport, Traction}
+use Rattle.event.specs.Event.Event.{PositionReport, Traction}
 use Rattle.status_word.specs.View.{conditions_number}
 use Rattle.packets.specs.Packets.{packet_of, packet_bytes, joined}
 use Rattle.status_word.specs.declared.OperationalConditions.{OperationalConditions}
 use Rattle.packets.specs.declared.TimingPoint.{TimingPoint}
 use Rattle.packets.specs.declared.AtoStatus.{AtoStatus}
-use Rattle.packets.specs.declared.Packet.{Packet}
+use Rattle.packets.specs.Packet.{Packet}
 use Rattle.position.specs.Position.{point, point_count, known, placed}
 use Rattle.timing.specs.Distance.{beyond}
 use Rattle.position.specs.Standing.{standing, standing_code}

@@ -6,6 +6,7 @@ use Rattle.event.specs.Kinds.{off, report, skip, other, kind_of, role_of}
 use Rattle.call.specs.Call as model
 use Rattle.effects.specs.View.{effect_view, Beside}
 use Rattle.judge.specs.View.{engine_after}
+use Rattle.event.specs.View.{event_view}
 use Rattle.engine.specs.View.{call}
 use Rattle.engine.proofs.Laws.{refused_by, accepted_by, unread, not_allowed, Occurs, no_effect, has_effect}
 use Rattle.engine.proofs.take.Goals as goal
@@ -32,7 +33,7 @@ returns-in_err-rows_of_state c =
     let a = c.args in
     let k = call a.event.now a.journey.now a.book.now a.out.now in
     refused_by a.e.now k c.from_residual-in_err-rows_of_state.result c.in_err-rows_of_state.field-0.0 (search rules)
-    (not_allowed a.e.now k c.in_ok-v.v c.in_ok-v.ensures _ (c.in_err-rows_of_state.ensures ∙ ap (rows_of_state a.e.now) c.kind.ensures))
+    (not_allowed a.e.now k (event_view c.in_ok-v.v) c.in_ok-v.ensures _ (c.in_err-rows_of_state.ensures ∙ ap (rows_of_state a.e.now) c.kind.ensures))
 
 pub returns-in_err-f-in-Report : goal.returns-in_err-f-in-Report
 returns-in_err-f-in-Report c =
@@ -59,7 +60,7 @@ returns-in-Load c =
 -- so is that of another event
 judged : (c : After-judge) → Occurs c.args.e.now (call c.args.event.now c.args.journey.now c.args.book.now c.args.out.now) c.new-o.result
     → (Beside c.new-o.result.engine.now c.match-role.f)
-    × (model.judge c.new-o.result.engine.now c.new-o.result.event c.args.out.now (effect_view c.match-role.f)
+    × (model.judge c.new-o.result.engine.now (event_view c.new-o.result.event) c.args.out.now (effect_view c.match-role.f)
     ≡ model.judged c.args.e.now (call c.args.event.now c.args.journey.now c.args.book.now c.args.out.now))
 judged c o =
     let e = c.args.e.now in

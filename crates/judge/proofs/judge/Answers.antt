@@ -10,6 +10,7 @@ use Rattle.conditions.specs.Conditions.{nine}
 use Rattle.states.specs.ControlGroup.{control_after}
 use Rattle.call_values.specs.Packets.{status_due}
 use Rattle.call.specs.Call as model
+use Rattle.event.specs.View.{event_view}
 use Rattle.event_packets.specs.View.{status_view}
 use Rattle.effects.specs.View.{effect_view, Beside}
 use Rattle.judge.specs.View.{engine_after, step_view}
@@ -31,7 +32,7 @@ judgement c =
 
 -- the judgement, whether or not the packets fit
 judged : (c : After-size-size) (memory : List ℕ) → c.args.room ≡ length memory → Beside c.args.o.now.engine.now c.args.f.now
-    → model.judge c.args.o.now.engine.now c.args.o.now.event memory (effect_view c.args.f.now)
+    → model.judge c.args.o.now.engine.now (event_view c.args.o.now.event) memory (effect_view c.args.f.now)
     ≡ (if ltb c.args.room c.size-size.result then refuse 16 else accept (step_view c.args.o.now.engine.now (judgement c)))
 judged c memory r k =
     let o = c.args.o.now in
@@ -39,9 +40,9 @@ judged c memory r k =
     let f = c.args.f.now in
     let shows = c.conditions_of-conditions.result in
     let due = c.status_due-due.ensures ∙ ap₂ status_due c.status_in.ensures (ap status_view c.status.ensures) in
-    by_room e o.event memory f (judgement c) refl k shows
+    by_room e (event_view o.event) memory f (judgement c) refl k shows
     (c.conditions_of-conditions.ensures ∙ ap (λ l. conditions_of (map flag (nine l f.inputs.reports f.after (standing f.progress)))) c.load.ensures)
-    (c.control_after-control.ensures ∙ ap (λ b. control_after f.inputs f.control o.event b shows) c.is_some.ensures) (rw (c.from-state.ensures, c.from-after.ensures) at c.traction_after-traction.ensures) refl refl refl (rw c.from-state.ensures at c.content_written.ensures)
+    (c.control_after-control.ensures ∙ ap (λ b. control_after f.inputs f.control (event_view o.event) b shows) c.is_some.ensures) (rw (c.from-state.ensures, c.from-after.ensures) at c.traction_after-traction.ensures) refl refl refl (rw c.from-state.ensures at c.content_written.ensures)
     (c.then_some.ensures ∙ ap (λ d. then_some d shows) due) c.args.room c.size-size.result r (c.size-size.ensures (engine_after e (judgement c)))
 
 pub returns-then-room-size-clause-step : goal.returns-then-room-size-clause-step
