@@ -19,6 +19,12 @@ procedure Example is
    Book : constant Byte_Array :=
      (16#0F#, 0, 17, 0, 0, 16#01#, 16#F4#, 0, 16#01#, 16#86#, 16#A0#, 2,
       0, 0, 16#1B#, 16#59#, 0, 0, 16#9C#, 16#40#, 0, 150, 0, 0, 16#1B#, 16#5A#, 0, 16#01#, 16#5F#, 16#90#, 0, 0);
+   --  Two rows of slippery rail on that segment: from 30,000 to 45,000, and from 60,000 to 61,000.
+   Slippery : constant Byte_Array :=
+     (Kind_Adhesion, 2, 0, 17, 0, 0, 16#01#, 16#F4#, 1, 2, 0, 0, 16#75#, 16#30#, 0, 0, 16#AF#, 16#C8#,
+      0, 17, 0, 0, 16#01#, 16#F4#, 3, 0, 0, 0, 16#EA#, 16#60#, 0, 0, 16#EE#, 16#48#);
+   --  The same, but for a byte of the second one's end, so that its start exceeds it.
+   Reversed : constant Byte_Array := Slippery (0 .. 31) & 0 & Slippery (33);
    E : Engine;
    Output : Byte_Array (0 .. Bytes_Most - 1) := (others => 0);
 
@@ -31,6 +37,12 @@ procedure Example is
    Symbols : constant String := "0123456789ABCDEF";
    function Hex (N : Unsigned_32; Width : Natural) return String is
      (if Width = 0 then "" else Hex (N / 16, Width - 1) & Symbols (Natural (N mod 16) + 1));
+
+   procedure Show_Row (C : Constraint) is
+   begin
+      Put_Line ("  " & C.Nidc & "/" & C.Nidsp & " category " & C.Category & " range " & C.The_Range
+                & " from " & C.Start & " to " & C.The_End);
+   end Show_Row;
 
    procedure Show_Packet (Packet : Byte_Array) is
       P : constant Packet_Fields := Read (Packet);
@@ -52,6 +64,11 @@ procedure Example is
          when Packet_Traction_Brake =>
             Put_Line (": trabrrq " & P.M_Ato_Trabrrq & " locobrrq " & P.M_Ato_Locobrrq & " suptb " & P.Q_Ato_Suptb
                       & " rtbrq " & Signed (P.M_Ato_Rtbrq));
+         when Packet_Adhesion_System =>
+            Put_Line (": rows " & P.Constraint_Count);
+            for K in 1 .. size_t (P.Constraint_Count) loop
+               Show_Row (Read_Constraint (Packet, K - 1));
+            end loop;
          when others =>
             Put_Line (": state " & P.State & " conditions " & Hex (Unsigned_32 (P.Conditions), 3));
       end case;
@@ -102,6 +119,9 @@ procedure Example is
          Put (" " & S.Standings (K));
       end loop;
       New_Line;
+      for K in 1 .. size_t (S.Constraint_Count) loop
+         Show_Row (Show_Constraint (E, K - 1));
+      end loop;
    end Show;
 
    --  A packet 68 whose other bytes are 0, then what the reader refuses, and how each is cut.
@@ -131,6 +151,8 @@ begin
    Position (20_000, 0);
    Call ((Kind_Reports, 31));
    Call ((1 => Kind_Configured));         --  P8
+   Call (Slippery);                       --  two rows: packet 64
+   Call (Reversed);                       --  refused by 21
    Show;
    Call ((1 => Kind_Press));
    Call ((Kind_Mode, Mode_AD));           --  engaged
@@ -151,6 +173,7 @@ begin
    Position (40_150, 50);                 --  a creep within R 150: still reached
    Position (40_151, 50);                 --  beyond R: departed
    Position (90_001, 50);                 --  P6: 7002 is passed
+   Call ((Kind_Adhesion, 0));             --  no row: packet 64 too
    Show;
    --  7002 is skipped no longer: a packet 62 with status 8, though it is put behind
    Call ((1 => Kind_Load));

@@ -12,8 +12,16 @@ static const uint8_t book[] = {0x0F, 0, 17, 0, 0, 0x01, 0xF4, 0, 0x01, 0x86, 0xA
 /* The same journey, with the train held at 7001: byte 16 is that point's map; and with 7002 as a stop that trackside
  * skips: byte 22 is its map. */
 static uint8_t held[sizeof journey], skipping[sizeof journey];
+/* Two rows of slippery rail on that segment: from 30,000 to 45,000, and from 60,000 to 61,000. */
+static uint8_t slippery[] = {HOLLWERN_KIND_ADHESION, 2,
+                             0, 17, 0, 0, 0x01, 0xF4, 1, 2, 0, 0, 0x75, 0x30, 0, 0, 0xAF, 0xC8,
+                             0, 17, 0, 0, 0x01, 0xF4, 3, 0, 0, 0, 0xEA, 0x60, 0, 0, 0xEE, 0x48};
 static hollwern_engine engine;
 static uint8_t out[HOLLWERN_BYTES_MOST];
+
+static void show_row(hollwern_constraint c) {
+    printf("  %u/%u category %u range %u from %u to %u\n", c.nidc, c.nidsp, c.category, c.range, c.start, c.end);
+}
 
 static void show_packet(const uint8_t *bytes, size_t n) {
     hollwern_packet_fields p = hollwern_read(bytes, n);
@@ -32,7 +40,10 @@ static void show_packet(const uint8_t *bytes, size_t n) {
     else if (p.kind == HOLLWERN_PACKET_TRACTION_BRAKE)
         printf(" trabrrq %u locobrrq %u suptb %u rtbrq %d\n", p.m_ato_trabrrq, p.m_ato_locobrrq, p.q_ato_suptb,
                (int16_t)p.m_ato_rtbrq);
-    else
+    else if (p.kind == HOLLWERN_PACKET_ADHESION_SYSTEM) {
+        printf(" rows %u\n", p.constraint_count);
+        for (uint8_t k = 0; k < p.constraint_count; k++) show_row(hollwern_read_constraint(bytes, n, k));
+    } else
         printf(" state %u conditions %03X\n", p.state, p.conditions);
 }
 
@@ -73,6 +84,7 @@ static void show(void) {
     printf("state %u request %u conditions %03X points", s.state, s.request, s.conditions);
     for (uint8_t k = 0; k < s.point_count; k++) printf(" %u", s.standings[k]);
     printf("\n");
+    for (uint8_t k = 0; k < s.constraint_count; k++) show_row(hollwern_show_constraint(&engine, k));
 }
 
 /* A packet 68 whose other bytes are 0, then what the reader refuses, and how each is cut. */
@@ -94,6 +106,7 @@ int main(void) {
     const uint8_t mode_ad[] = {HOLLWERN_KIND_MODE, HOLLWERN_MODE_AD};
     const uint8_t mode_other[] = {HOLLWERN_KIND_MODE, HOLLWERN_MODE_OTHER};
     const uint8_t load[] = {HOLLWERN_KIND_LOAD};
+    const uint8_t dry[] = {HOLLWERN_KIND_ADHESION, 0};
     if (hollwern_version() != HOLLWERN_VERSION) {
         fprintf(stderr, "example: header and libhollwern.a are of different versions\n");
         return 1;
@@ -109,6 +122,9 @@ int main(void) {
     position(20000, 0);
     call(all_reports, sizeof all_reports);
     call_kind(HOLLWERN_KIND_CONFIGURED); /* P8 */
+    call(slippery, sizeof slippery);     /* two rows: packet 64 */
+    slippery[32] = 0;                    /* in the second one's end, so that its start exceeds it: */
+    call(slippery, sizeof slippery);     /* refused by 21 */
     show();
     call_kind(HOLLWERN_KIND_PRESS);
     call(mode_ad, sizeof mode_ad); /* engaged */
@@ -128,6 +144,7 @@ int main(void) {
     position(40150, 50); /* a creep within R 150: still reached */
     position(40151, 50); /* beyond R: departed */
     position(90001, 50); /* P6: 7002 is passed */
+    call(dry, sizeof dry); /* no row: packet 64 too */
     show();
     call(load, 1); /* 7002 is skipped no longer: a packet 62 with status 8, though it is put behind */
     damaged_packets();

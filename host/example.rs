@@ -14,6 +14,17 @@ const BOOK: [u8; 32] = [
     0, 0x01, 0x5F, 0x90, 0, 0,
 ];
 
+/// Two rows of slippery rail on that segment: from 30,000 to 45,000, and from 60,000 to 61,000.
+const SLIPPERY: [u8; 34] = [
+    KIND_ADHESION, 2,
+    0, 17, 0, 0, 0x01, 0xF4, 1, 2, 0, 0, 0x75, 0x30, 0, 0, 0xAF, 0xC8,
+    0, 17, 0, 0, 0x01, 0xF4, 3, 0, 0, 0, 0xEA, 0x60, 0, 0, 0xEE, 0x48,
+];
+
+fn show_row(c: Constraint) {
+    println!("  {}/{} category {} range {} from {} to {}", c.nidc, c.nidsp, c.category, c.range, c.start, c.end);
+}
+
 fn show_packet(bytes: &[u8]) {
     let p = read(bytes);
     if !p.accepted {
@@ -34,6 +45,10 @@ fn show_packet(bytes: &[u8]) {
         PACKET_TRACTION_BRAKE => {
             print!(" trabrrq {} locobrrq {} suptb {}", p.m_ato_trabrrq, p.m_ato_locobrrq, p.q_ato_suptb);
             println!(" rtbrq {}", p.m_ato_rtbrq as i16)
+        }
+        PACKET_ADHESION_SYSTEM => {
+            println!(" rows {}", p.constraint_count);
+            (0..p.constraint_count.into()).for_each(|k| show_row(read_constraint(bytes, k)))
         }
         _ => println!(" state {} conditions {:03X}", p.state, p.conditions),
     }
@@ -74,6 +89,7 @@ fn show(e: &Engine) {
     print!("state {} request {} conditions {:03X} points", s.state, s.request as u8, s.conditions);
     s.standings[..s.point_count.into()].iter().for_each(|standing| print!(" {standing}"));
     println!();
+    (0..s.constraint_count.into()).for_each(|k| show_row(e.show_constraint(k)));
 }
 
 /// A packet 68 whose other bytes are 0, then what the reader refuses, and how each is cut.
@@ -103,6 +119,10 @@ fn main() {
     position(&mut e, 20_000, 0);
     call(&mut e, &[KIND_REPORTS, 31]);
     call(&mut e, &[KIND_CONFIGURED]); // P8
+    call(&mut e, &SLIPPERY); // two rows: packet 64
+    let mut reversed = SLIPPERY;
+    reversed[32] = 0; // in the second one's end, so that its start exceeds it
+    call(&mut e, &reversed); // refused by 21
     show(&e);
     call(&mut e, &[KIND_PRESS]);
     call(&mut e, &[KIND_MODE, MODE_AD]); // engaged
@@ -126,6 +146,7 @@ fn main() {
     position(&mut e, 40_150, 50); // a creep within R 150: still reached
     position(&mut e, 40_151, 50); // beyond R: departed
     position(&mut e, 90_001, 50); // P6: 7002 is passed
+    call(&mut e, &[KIND_ADHESION, 0]); // no row: packet 64 too
     show(&e);
     call(&mut e, &[KIND_LOAD]); // 7002 is skipped no longer: a packet 62 with status 8, though it is put behind
     damaged_packets();

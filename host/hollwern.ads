@@ -9,12 +9,12 @@ private with System;
 package Hollwern is
    --  The version of these declarations; Linked_Version tells that of the archive. They must be equal.
    Version_Major : constant := 2;
-   Version_Minor : constant := 2;
+   Version_Minor : constant := 3;
    Version_Patch : constant := 0;
    Version : constant := Version_Major * 65_536 + Version_Minor * 256 + Version_Patch;
 
    --  Bytes of an engine.
-   Engine_Size : constant := 3_460;
+   Engine_Size : constant := 3_960;
    --  No event writes more bytes than this.
    Bytes_Most : constant := 1_673;
    --  The most points of a journey.
@@ -31,6 +31,8 @@ package Hollwern is
    Journey_Bytes_Most : constant := 768;
    --  The most bytes of a book that is not refused.
    Book_Bytes_Most : constant := 8_200;
+   --  The most rows of kind 15 and of packet 64.
+   Constraints_Most : constant := 31;
    --  Bytes of stack that a load takes.
    Stack_Load : constant := 30_720;
    --  Bytes of stack that any other call takes.
@@ -51,6 +53,7 @@ package Hollwern is
    Kind_Skip : constant := 12;
    Kind_Revoke : constant := 13;
    Kind_Traction : constant := 14;
+   Kind_Adhesion : constant := 15;
 
    --  Kind 5: bits of the reports.
    Report_Etcs : constant := 1;
@@ -126,6 +129,7 @@ package Hollwern is
    --  Packets: the first byte of each.
    Packet_Traction_Brake : constant := 61;
    Packet_Timing_Point : constant := 62;
+   Packet_Adhesion_System : constant := 64;
    Packet_Jp_Received : constant := 65;
    Packet_Ato_Status : constant := 68;
 
@@ -165,6 +169,7 @@ package Hollwern is
    Refused_Packet_Number : constant := 18;
    Refused_Packet_Range : constant := 19;
    Refused_Held : constant := 20;
+   Refused_Reversed : constant := 21;
 
    type Byte_Array is array (size_t range <>) of Unsigned_8;
 
@@ -181,7 +186,8 @@ package Hollwern is
       Bytes : size_t;
    end record with Convention => C_Pass_By_Copy, Object_Size => 8 * 16;
 
-   --  What an engine shows. Standings goes by the order of the journey in force; from Point_Count on it is 0.
+   --  What an engine shows. Standings goes by the order of the journey in force; from Point_Count on it is 0. Of the
+   --  rows of slippery rail it has the count: Show_Constraint shows each.
    type Standing_Array is array (0 .. Points_Most - 1) of Unsigned_8;
    type Shown is record
       State : Unsigned_8;
@@ -189,7 +195,19 @@ package Hollwern is
       Conditions : Unsigned_16;
       Point_Count : Unsigned_8;
       Standings : Standing_Array;
+      Constraint_Count : Unsigned_8;
    end record with Convention => C_Pass_By_Copy, Object_Size => 8 * 70;
+
+   --  A row of kind 15 and packet 64, a temporary constraint: a stretch of slippery rail. In the bytes the fields stand
+   --  in another order: NID_C, NID_SP, category, range, start, end. Words of Ada have The_ before them.
+   type Constraint is record
+      Nidsp : Unsigned_32;
+      Start : Unsigned_32;
+      The_End : Unsigned_32;
+      Nidc : Unsigned_16;
+      Category : Unsigned_8;
+      The_Range : Unsigned_8;
+   end record with Convention => C_Pass_By_Copy, Object_Size => 8 * 16;
 
    --  Header of a packet: NID_C, NID_SP, offset in cm, speed in cm/s, NID_OPERATIONAL.
    type Header is record
@@ -201,7 +219,8 @@ package Hollwern is
    end record with Convention => C_Pass_By_Copy, Object_Size => 8 * 20;
 
    --  Where accepted: Number 0, Kind the packet's number, Size its bytes, the header and the fields that the kind has;
-   --  M_ATO_RTBRq, an INT16, as its unsigned 16 bits. Where refused: Number. All else is 0.
+   --  M_ATO_RTBRq, an INT16, as its unsigned 16 bits; of a packet 64 the count of its rows: Read_Constraint reads each.
+   --  Where refused: Number. All else is 0.
    type Packet_Fields is record
       Accepted : C_bool;
       Number : Unsigned_8;
@@ -224,6 +243,7 @@ package Hollwern is
       M_Ato_Locobrrq : Unsigned_8;
       Q_Ato_Suptb : Unsigned_8;
       M_Ato_Rtbrq : Unsigned_16;
+      Constraint_Count : Unsigned_8;
    end record with Convention => C_Pass_By_Copy, Object_Size => 8 * 72;
 
    --  The version of the archive, to be compared with Version.
@@ -239,11 +259,18 @@ package Hollwern is
 
    function Show (E : Engine) return Shown with Import, Convention => C, External_Name => "hollwern_show";
 
+   --  Row K, from 0 on, of the latest accepted kind 15 since power off; blank where there is none.
+   function Show_Constraint (E : Engine; K : size_t) return Constraint
+      with Import, Convention => C, External_Name => "hollwern_show_constraint";
+
    --  The bytes of the packet in front: all where no packet has that number or fewer are left than it takes.
    function Front_Size (Bytes : Byte_Array) return size_t;
 
    --  Reads one packet, exactly.
    function Read (Bytes : Byte_Array) return Packet_Fields;
+
+   --  Reads row K, from 0 on, of a packet 64; blank where there is none.
+   function Read_Constraint (Bytes : Byte_Array; K : size_t) return Constraint;
 
 private
    use System;
@@ -262,10 +289,14 @@ private
       with Import, Convention => C, External_Name => "hollwern_front_size";
    function C_Read (Bytes : Address; N : size_t) return Packet_Fields
       with Import, Convention => C, External_Name => "hollwern_read";
+   function C_Read_Constraint (Bytes : Address; N : size_t; K : size_t) return Constraint
+      with Import, Convention => C, External_Name => "hollwern_read_constraint";
 
    function Step (E : in out Engine; Event, Journey, Book : Byte_Array; Output : in out Byte_Array) return Answer is
      (C_Step (E, Event'Address, Event'Length, Journey'Address, Journey'Length, Book'Address, Book'Length,
               Output'Address, Output'Length));
    function Front_Size (Bytes : Byte_Array) return size_t is (C_Front_Size (Bytes'Address, Bytes'Length));
    function Read (Bytes : Byte_Array) return Packet_Fields is (C_Read (Bytes'Address, Bytes'Length));
+   function Read_Constraint (Bytes : Byte_Array; K : size_t) return Constraint is
+     (C_Read_Constraint (Bytes'Address, Bytes'Length, K));
 end Hollwern;

@@ -37,12 +37,12 @@
 
 /* The version of these declarations; hollwern_version tells that of the archive. They must be equal. */
 #define HOLLWERN_VERSION_MAJOR 2
-#define HOLLWERN_VERSION_MINOR 2
+#define HOLLWERN_VERSION_MINOR 3
 #define HOLLWERN_VERSION_PATCH 0
 #define HOLLWERN_VERSION (HOLLWERN_VERSION_MAJOR * 65536 + HOLLWERN_VERSION_MINOR * 256 + HOLLWERN_VERSION_PATCH)
 
 /* Bytes of an engine; its alignment is 4. */
-#define HOLLWERN_ENGINE_SIZE 3460
+#define HOLLWERN_ENGINE_SIZE 3960
 /* No event writes more bytes than this. */
 #define HOLLWERN_BYTES_MOST 1673
 /* The most points and segments of a journey, records of a book, points and zones of a record; and so the most bytes of
@@ -54,6 +54,8 @@
 #define HOLLWERN_ZONES_MOST 4
 #define HOLLWERN_JOURNEY_BYTES_MOST 768
 #define HOLLWERN_BOOK_BYTES_MOST 8200
+/* The most rows of kind 15 and of packet 64. */
+#define HOLLWERN_CONSTRAINTS_MOST 31
 /* Bytes of stack that a load (kind 11) takes, and any other call. Not proved, but the frames of the archive's functions
  * and 128 bytes for memcpy and memset, rounded up to 1,024: a test of the repository reads them and fails where these
  * differ. A program that binds memcpy and memset only at their first use runs the dynamic linker on the same stack
@@ -76,6 +78,7 @@
 #define HOLLWERN_KIND_SKIP 12
 #define HOLLWERN_KIND_REVOKE 13
 #define HOLLWERN_KIND_TRACTION 14 /* its first field is signed: the request, -100 to 100 */
+#define HOLLWERN_KIND_ADHESION 15 /* a count, 0 to 31, and so many rows of 16 bytes: 2 + 16 * count bytes in all */
 
 /* Kind 5: bits of the reports. */
 #define HOLLWERN_REPORT_ETCS 1
@@ -150,6 +153,7 @@
 /* Packets: the first byte of each. */
 #define HOLLWERN_PACKET_TRACTION_BRAKE 61
 #define HOLLWERN_PACKET_TIMING_POINT 62
+#define HOLLWERN_PACKET_ADHESION_SYSTEM 64
 #define HOLLWERN_PACKET_JP_RECEIVED 65
 #define HOLLWERN_PACKET_ATO_STATUS 68
 
@@ -168,8 +172,8 @@
 #define HOLLWERN_JP_ACCEPTED 0
 #define HOLLWERN_JP_TURNED_DOWN 1 /* a load that 7 to 12 refuse; the packet tells no stamp of it */
 
-/* Why a call was refused: the first of these that holds, 20 being looked at right after 6. hollwern_step has 1 to 16 and
- * 20, hollwern_read 17 to 19. */
+/* Why a call was refused: the first of these that holds, 20 being looked at right after 6 and 21 right after 2.
+ * hollwern_step has 1 to 16, 20 and 21, hollwern_read 17 to 19. */
 #define HOLLWERN_REFUSED_EVENT_FORM 1      /* event empty, of unknown kind or of wrong length */
 #define HOLLWERN_REFUSED_EVENT_RANGE 2     /* field of the event out of its range */
 #define HOLLWERN_REFUSED_NO_POWER 3        /* in NP, and not power on */
@@ -186,10 +190,11 @@
 #define HOLLWERN_REFUSED_NO_STOP 14        /* skip or revocation: no stop of that name */
 #define HOLLWERN_REFUSED_SKIP 15           /* point reached or passed; skip given already, or none to revoke */
 #define HOLLWERN_REFUSED_OUTPUT 16         /* `out` shorter than the event's packets */
-#define HOLLWERN_REFUSED_PACKET_LENGTH 17  /* empty, or 61, 62, 65 or 68 of wrong length */
-#define HOLLWERN_REFUSED_PACKET_NUMBER 18  /* another number than 61, 62, 65 and 68 */
+#define HOLLWERN_REFUSED_PACKET_LENGTH 17  /* empty, or 61, 62, 64, 65 or 68 of wrong length */
+#define HOLLWERN_REFUSED_PACKET_NUMBER 18  /* another number than 61, 62, 64, 65 and 68 */
 #define HOLLWERN_REFUSED_PACKET_RANGE 19   /* field of the packet out of its range */
 #define HOLLWERN_REFUSED_HELD 20           /* press while a held stop is reached */
+#define HOLLWERN_REFUSED_REVERSED 21       /* a row whose start exceeds its end */
 
 /* An engine. Only the calls below look inside. */
 typedef struct hollwern_engine {
@@ -208,14 +213,28 @@ typedef struct hollwern_answer {
     size_t bytes;
 } hollwern_answer;
 
-/* What hollwern_show shows. `standings` goes by the order of the journey in force; from `point_count` on it is 0. */
+/* What hollwern_show shows. `standings` goes by the order of the journey in force; from `point_count` on it is 0.
+ * `constraint_count`: the rows that hollwern_show_constraint shows, those of the latest accepted kind 15 since power
+ * off, else none. */
 typedef struct hollwern_shown {
     uint8_t state;
     bool request;
     uint16_t conditions;
     uint8_t point_count;
     uint8_t standings[HOLLWERN_POINTS_MOST];
+    uint8_t constraint_count;
 } hollwern_shown;
+
+/* A row of kind 15 and packet 64, a temporary constraint: a stretch of slippery rail. In the bytes the fields stand in
+ * another order: NID_C, NID_SP, category, range, start, end. */
+typedef struct hollwern_constraint {
+    uint32_t nidsp;
+    uint32_t start;
+    uint32_t end;
+    uint16_t nidc;
+    uint8_t category;
+    uint8_t range;
+} hollwern_constraint;
 
 /* Header of a packet: NID_C, NID_SP, offset in cm, speed in cm/s, NID_OPERATIONAL. */
 typedef struct hollwern_header {
@@ -231,6 +250,7 @@ typedef struct hollwern_header {
  * - 65: nidc, atots, date, seconds, counter, status;
  * - 68: state, conditions;
  * - 61: m_ato_trabrrq, m_ato_locobrrq, q_ato_suptb, and m_ato_rtbrq, an INT16, as its unsigned 16 bits;
+ * - 64: constraint_count, the number of its rows, which hollwern_read_constraint reads;
  * all else 0. Refused: `number`, all else 0. */
 typedef struct hollwern_packet_fields {
     bool accepted;
@@ -254,6 +274,7 @@ typedef struct hollwern_packet_fields {
     uint8_t m_ato_locobrrq;
     uint8_t q_ato_suptb;
     uint16_t m_ato_rtbrq;
+    uint8_t constraint_count;
 } hollwern_packet_fields;
 
 #if defined(__cplusplus) && __cplusplus >= 201103L
@@ -266,10 +287,11 @@ typedef struct hollwern_packet_fields {
 HOLLWERN_ASSERT(scalars, sizeof(bool) == 1 && sizeof(size_t) == 8);
 HOLLWERN_ASSERT(engine, sizeof(hollwern_engine) == HOLLWERN_ENGINE_SIZE);
 HOLLWERN_ASSERT(answer, sizeof(hollwern_answer) == 16 && offsetof(hollwern_answer, bytes) == 8);
-HOLLWERN_ASSERT(shown, sizeof(hollwern_shown) == 70 && offsetof(hollwern_shown, standings) == 5);
+HOLLWERN_ASSERT(shown, sizeof(hollwern_shown) == 70 && offsetof(hollwern_shown, constraint_count) == 69);
+HOLLWERN_ASSERT(constraint, sizeof(hollwern_constraint) == 16 && offsetof(hollwern_constraint, range) == 15);
 HOLLWERN_ASSERT(header, sizeof(hollwern_header) == 20 && offsetof(hollwern_header, operational) == 16);
 HOLLWERN_ASSERT(packet_fields,
-                sizeof(hollwern_packet_fields) == 72 && offsetof(hollwern_packet_fields, m_ato_rtbrq) == 64);
+                sizeof(hollwern_packet_fields) == 72 && offsetof(hollwern_packet_fields, constraint_count) == 66);
 #undef HOLLWERN_ASSERT
 
 /* No pointer may be null: GCC and Clang warn where they see one. */
@@ -310,8 +332,13 @@ hollwern_answer hollwern_step(hollwern_engine *e, const uint8_t *event, size_t e
 HOLLWERN_NONNULL
 hollwern_shown hollwern_show(const hollwern_engine *e);
 
+/* Shows row `k`, from 0 on, of the latest accepted kind 15 since power off; from `constraint_count` on it is blank,
+ * every field 0. */
+HOLLWERN_NONNULL
+hollwern_constraint hollwern_show_constraint(const hollwern_engine *e, size_t k);
+
 /* The bytes of the packet in front of `n` bytes: all `n` where no packet has that number or fewer bytes are left than
- * it takes; 0 where `n` is 0, and only there. So cut, what a call wrote falls into its packets:
+ * it takes, a 64 by its count; 0 where `n` is 0, and only there. So cut, what a call wrote falls into its packets:
  *     for (at = 0; at < a.bytes; at += size) {
  *         size = hollwern_front_size(out + at, a.bytes - at);
  *         .. the packet is at out + at, size bytes long
@@ -323,6 +350,11 @@ size_t hollwern_front_size(const uint8_t *bytes, size_t n);
  * hollwern_step wrote is accepted. */
 HOLLWERN_NONNULL
 hollwern_packet_fields hollwern_read(const uint8_t *bytes, size_t n);
+
+/* Reads row `k`, from 0 on, of a packet 64; blank, every field 0, from `constraint_count` on, of another packet, and
+ * where hollwern_read refuses the bytes. */
+HOLLWERN_NONNULL
+hollwern_constraint hollwern_read_constraint(const uint8_t *bytes, size_t n, size_t k);
 
 #ifdef __cplusplus
 }

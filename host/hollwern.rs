@@ -10,12 +10,12 @@ compile_error!("hollwern.rs: libhollwern.a is for x86-64 Linux only");
 
 /// The version of these declarations; `version` tells that of the archive. They must be equal.
 pub const VERSION_MAJOR: u32 = 2;
-pub const VERSION_MINOR: u32 = 2;
+pub const VERSION_MINOR: u32 = 3;
 pub const VERSION_PATCH: u32 = 0;
 pub const VERSION: u32 = VERSION_MAJOR * 65_536 + VERSION_MINOR * 256 + VERSION_PATCH;
 
 /// Bytes of an engine.
-pub const ENGINE_SIZE: usize = 3_460;
+pub const ENGINE_SIZE: usize = 3_960;
 /// No event writes more bytes than this.
 pub const BYTES_MOST: usize = 1_673;
 /// The most points of a journey.
@@ -32,6 +32,8 @@ pub const ZONES_MOST: usize = 4;
 pub const JOURNEY_BYTES_MOST: usize = 768;
 /// The most bytes of a book that is not refused.
 pub const BOOK_BYTES_MOST: usize = 8_200;
+/// The most rows of kind 15 and of packet 64.
+pub const CONSTRAINTS_MOST: usize = 31;
 /// Bytes of stack that a load takes.
 pub const STACK_LOAD: usize = 30_720;
 /// Bytes of stack that any other call takes.
@@ -52,6 +54,7 @@ pub const KIND_LOAD: u8 = 11;
 pub const KIND_SKIP: u8 = 12;
 pub const KIND_REVOKE: u8 = 13;
 pub const KIND_TRACTION: u8 = 14;
+pub const KIND_ADHESION: u8 = 15;
 
 // Kind 5: bits of the reports.
 pub const REPORT_ETCS: u8 = 1;
@@ -127,6 +130,7 @@ pub const STANDING_PASSED: u8 = 3;
 // Packets: the first byte of each.
 pub const PACKET_TRACTION_BRAKE: u8 = 61;
 pub const PACKET_TIMING_POINT: u8 = 62;
+pub const PACKET_ADHESION_SYSTEM: u8 = 64;
 pub const PACKET_JP_RECEIVED: u8 = 65;
 pub const PACKET_ATO_STATUS: u8 = 68;
 
@@ -166,6 +170,7 @@ pub const REFUSED_PACKET_LENGTH: u8 = 17;
 pub const REFUSED_PACKET_NUMBER: u8 = 18;
 pub const REFUSED_PACKET_RANGE: u8 = 19;
 pub const REFUSED_HELD: u8 = 20;
+pub const REFUSED_REVERSED: u8 = 21;
 
 /// An engine. Equal calls on equal engines leave equal ones.
 #[repr(C)]
@@ -186,7 +191,8 @@ pub struct Answer {
     pub bytes: usize,
 }
 
-/// What an engine shows. `standings` goes by the order of the journey in force; from `point_count` on it is 0.
+/// What an engine shows. `standings` goes by the order of the journey in force; from `point_count` on it is 0. Of the
+/// rows of slippery rail it has the count: `show_constraint` shows each.
 #[repr(C)]
 #[derive(Clone, Copy, PartialEq, Eq, Debug)]
 pub struct Shown {
@@ -195,6 +201,20 @@ pub struct Shown {
     pub conditions: u16,
     pub point_count: u8,
     pub standings: [u8; POINTS_MOST],
+    pub constraint_count: u8,
+}
+
+/// A row of kind 15 and packet 64, a temporary constraint: a stretch of slippery rail. In the bytes the fields stand in
+/// another order: NID_C, NID_SP, category, range, start, end.
+#[repr(C)]
+#[derive(Clone, Copy, PartialEq, Eq, Debug, Default)]
+pub struct Constraint {
+    pub nidsp: u32,
+    pub start: u32,
+    pub end: u32,
+    pub nidc: u16,
+    pub category: u8,
+    pub range: u8,
 }
 
 /// Header of a packet: NID_C, NID_SP, offset in cm, speed in cm/s, NID_OPERATIONAL.
@@ -209,7 +229,8 @@ pub struct Header {
 }
 
 /// Where accepted: `number` 0, `kind` the packet's number, `size` its bytes, the header and the fields that the kind
-/// has; M_ATO_RTBRq, an INT16, as its unsigned 16 bits. Where refused: `number`. All else is 0.
+/// has; M_ATO_RTBRq, an INT16, as its unsigned 16 bits; of a packet 64 the count of its rows, which `read_constraint`
+/// reads. Where refused: `number`. All else is 0.
 #[repr(C)]
 #[derive(Clone, Copy, PartialEq, Eq, Debug, Default)]
 pub struct PacketFields {
@@ -234,6 +255,7 @@ pub struct PacketFields {
     pub m_ato_locobrrq: u8,
     pub q_ato_suptb: u8,
     pub m_ato_rtbrq: u16,
+    pub constraint_count: u8,
 }
 
 unsafe extern "C" {
@@ -251,8 +273,10 @@ unsafe extern "C" {
         out_n: usize,
     ) -> Answer;
     fn hollwern_show(e: *const Engine) -> Shown;
+    fn hollwern_show_constraint(e: *const Engine, k: usize) -> Constraint;
     fn hollwern_front_size(bytes: *const u8, n: usize) -> usize;
     fn hollwern_read(bytes: *const u8, n: usize) -> PacketFields;
+    fn hollwern_read_constraint(bytes: *const u8, n: usize, k: usize) -> Constraint;
 }
 
 /// The version of the archive, to be compared with `VERSION`.
@@ -263,6 +287,11 @@ pub fn version() -> u32 {
 /// Reads one packet, exactly.
 pub fn read(bytes: &[u8]) -> PacketFields {
     unsafe { hollwern_read(bytes.as_ptr(), bytes.len()) }
+}
+
+/// Reads row `k`, from 0 on, of a packet 64; blank where there is none.
+pub fn read_constraint(bytes: &[u8], k: usize) -> Constraint {
+    unsafe { hollwern_read_constraint(bytes.as_ptr(), bytes.len(), k) }
 }
 
 /// The bytes of the packet in front: all where no packet has that number or fewer are left than it takes.
@@ -309,5 +338,10 @@ impl Engine {
 
     pub fn show(&self) -> Shown {
         unsafe { hollwern_show(self) }
+    }
+
+    /// Row `k`, from 0 on, of the latest accepted kind 15 since power off; blank where there is none.
+    pub fn show_constraint(&self, k: usize) -> Constraint {
+        unsafe { hollwern_show_constraint(self, k) }
     }
 }

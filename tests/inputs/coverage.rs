@@ -1,12 +1,25 @@
 //! Counts what the lists of calls bring up.
 
+use crate::constraints::PLACE_MOST;
+use model::adhesion::{in_range, rows_of, Constraint, CONSTRAINTS_MOST};
 use model::calls::Call;
-use model::engine::{behind_front, written, Answer, Engine, Refused, Traction, DE, EG, FA, NP, RE, TURNED_DOWN};
-use model::events::{LOAD, POSITION_REPORT, TRACTION, UNDEFINED};
+use model::engine::{behind_front, written, Answer, Engine, Refused, Traction, TURNED_DOWN};
+use model::engine::{AV, CO, DE, EG, FA, NA, NP, RE};
+use model::events::{ADHESION, LOAD, POSITION_REPORT, TRACTION, UNDEFINED};
 use model::packets::{split_packets, Content, Packet};
 use model::route::{Point, Segment};
 use model::words::STATES;
 use std::collections::BTreeMap;
+
+/// A kind 15 that is taken, by the state that it comes in.
+const TAKEN_IN: [(u8, &str); 6] = [
+    (CO, "slippery rail in CO"),
+    (NA, "slippery rail in NA"),
+    (AV, "slippery rail in AV"),
+    (RE, "slippery rail in RE"),
+    (EG, "slippery rail in EG"),
+    (DE, "slippery rail in DE"),
+];
 
 #[derive(Default)]
 pub struct Coverage {
@@ -63,11 +76,15 @@ impl Coverage {
         if call.event.first() == Some(&TRACTION) {
             *self.requests.entry(before.now.state).or_default() += 1;
         }
+        self.count_rows_shown(call, before, after, answer.is_ok());
         match answer {
             Err(Refused { number, .. }) => {
                 *self.numbers.entry(number).or_default() += 1;
                 if TURNED_DOWN.contains(&number) {
                     self.count_turned_down(number, before);
+                }
+                if call.event.first() == Some(&ADHESION) {
+                    self.count_adhesion_refused(&call.event, before, number);
                 }
             }
             Ok(Answer { state, bytes, .. }) => {
@@ -78,8 +95,10 @@ impl Coverage {
                 self.count_creeps(call.event[0], before, after, bytes);
                 self.count_traction(call.event[0], before, after, bytes);
                 self.count_holds(call.event[0], before, after);
-                if call.event[0] == LOAD {
-                    self.count_trackside(before, after);
+                match call.event[0] {
+                    LOAD => self.count_trackside(before, after),
+                    ADHESION => self.count_adhesion(&rows_of(&call.event), before),
+                    _ => {}
                 }
             }
         }
@@ -271,6 +290,81 @@ impl Coverage {
         note("trackside skip, one turned down before", some && self.just_turned_down);
         note("trackside skips, ten and more", changed.len() >= 10);
         note("trackside skip, 68 behind", some && (was.state, was.conditions) != (now.state, now.conditions));
+    }
+
+    /// Slippery rail, by document 02: a kind 15 that is taken, the rows before it, and what it leaves as it is.
+    fn count_adhesion(&mut self, rows: &[Constraint], before: &Engine) {
+        let (was, count, had) = (&before.now, rows.len(), before.constraints.len());
+        let any = |holds: fn(&Constraint) -> bool| rows.iter().any(holds);
+        let mut note = |name, holds: bool| *self.situations.entry(name).or_default() += usize::from(holds);
+        TAKEN_IN.into_iter().for_each(|(state, name)| note(name, was.state == state));
+        note("slippery rail: no row, none before", count == 0 && had == 0);
+        note("slippery rail: no row in place of some", count == 0 && had > 0);
+        note("slippery rail: fewer rows than before", count > 0 && count < had);
+        note("slippery rail: more rows than before", had > 0 && count > had);
+        note("slippery rail: the same rows again", count > 0 && rows == before.constraints);
+        note("slippery rail: one row", count == 1);
+        note("slippery rail: 31 rows", count == CONSTRAINTS_MOST);
+        note("slippery rail: 31 rows in place of 31 others", had == count && count == CONSTRAINTS_MOST);
+        note("slippery rail: start is end", any(|row| row.start == row.end));
+        note("slippery rail: start and end at 16,777,215", any(|row| row.start == PLACE_MOST));
+        note("slippery rail: NID_C 1,023", any(|row| row.nidc == 1023));
+        note("slippery rail: no journey", !was.loaded);
+        note("slippery rail: offset undefined", was.position.offset == UNDEFINED);
+        note("slippery rail: the train moves", was.speed > 0);
+        note("slippery rail: a press pending", was.press);
+        note("slippery rail: at a reached stop", was.reached);
+        note("slippery rail: at a reached stop in EG", was.reached && was.state == EG);
+        note("slippery rail: a request remembered", was.traction.is_some());
+        note("slippery rail: driver skip in force", was.skips != 0);
+    }
+
+    /// Kinds 15 that are refused: what is wrong with them, and what is wrong further behind.
+    fn count_adhesion_refused(&mut self, event: &[u8], engine: &Engine, number: u8) {
+        let (rows, state) = (rows_of(event), engine.now.state);
+        let told = usize::from(event.get(1).copied().unwrap_or(0));
+        let (size, fitting) = (event.len(), 2 + 16 * told);
+        let reversed = rows.iter().position(|row| row.start > row.end);
+        let beyond = rows.iter().rposition(|row| !in_range(&[*row]));
+        let by = |which: u8| number == which;
+        let mut note = |name, holds: bool| *self.situations.entry(name).or_default() += usize::from(holds);
+        note("slippery rail, 1: one byte", by(1) && size == 1);
+        note("slippery rail, 1: a byte less", by(1) && size > 1 && size + 1 == fitting);
+        note("slippery rail, 1: a byte more", by(1) && size == fitting + 1);
+        note("slippery rail, 1: a row less", by(1) && size + 16 == fitting);
+        note("slippery rail, 1: a row more", by(1) && size == fitting + 16);
+        note("slippery rail, 1: a count over 31", by(1) && told > CONSTRAINTS_MOST);
+        note("slippery rail, 2: 32 rows", by(2) && told == 32);
+        note("slippery rail, 2: 255 rows", by(2) && told == 255);
+        note("slippery rail, 2: NID_C", by(2) && rows.iter().any(|row| row.nidc > 1023));
+        note("slippery rail, 2: start", by(2) && rows.iter().any(|row| row.start > PLACE_MOST));
+        note("slippery rail, 2: end", by(2) && rows.iter().any(|row| row.end > PLACE_MOST));
+        note("slippery rail, 2: in the last row of several", by(2) && told > 1 && beyond == Some(told - 1));
+        note("slippery rail, 2: a row before it reversed", by(2) && reversed.is_some() && reversed < beyond);
+        note("slippery rail, 21: the first row", by(21) && told > 1 && reversed == Some(0));
+        note("slippery rail, 21: the last row of several", by(21) && told > 1 && reversed == Some(told - 1));
+        note("slippery rail, 21: of 31 rows", by(21) && told == CONSTRAINTS_MOST);
+        note("slippery rail, 21: in NP", by(21) && state == NP);
+        note("slippery rail, 21: in FA", by(21) && state == FA);
+        note("slippery rail, 21: in EG", by(21) && state == EG);
+        note("slippery rail, 3", by(3));
+        note("slippery rail, 5", by(5));
+    }
+
+    /// What other events, and kinds 15 that are refused, leave of the rows.
+    fn count_rows_shown(&mut self, call: &Call, before: &Engine, after: &Engine, accepted: bool) {
+        let (was, now) = (&before.now, &after.now);
+        let some = !before.constraints.is_empty();
+        let kind = |which: u8| some && call.event.first() == Some(&which);
+        let mut note = |name, holds: bool| *self.situations.entry(name).or_default() += usize::from(holds);
+        note("rows kept over a load", accepted && kind(LOAD));
+        note("rows kept over a load that is refused", !accepted && kind(LOAD));
+        note("rows kept over a report", accepted && kind(POSITION_REPORT));
+        note("rows kept where EG is entered", some && was.state != EG && now.state == EG);
+        note("rows kept over a fault", some && was.state != FA && now.state == FA);
+        note("rows kept, others refused", !accepted && kind(ADHESION));
+        note("rows gone at power off", some && was.state != NP && now.state == NP);
+        note("rows gone at power off in FA", some && was.state == FA && now.state == NP);
     }
 
     /// Loads that are turned down, by document 02.

@@ -1,6 +1,7 @@
 //! A long fixed list of calls at the edges that document 01 names and one beside. Each case begins with power on and ends
 //! with power off.
 
+use crate::adhesion::slippery_rail;
 use crate::creeps::creeps;
 use crate::faults::good_events;
 use crate::held::held_stops;
@@ -374,7 +375,7 @@ fn odd_input(script: &mut Script) {
 
 pub fn all_edges() -> Vec<Call> {
     let mut script = Script::default();
-    let cases: [fn(&mut Script); 25] = [
+    let cases: [fn(&mut Script); 26] = [
         trials_p,
         kinds_in_states,
         pairs_of_events,
@@ -399,6 +400,7 @@ pub fn all_edges() -> Vec<Call> {
         loads_turned_down,
         held_stops,
         trackside_skips,
+        slippery_rail,
         |script| script.calls.extend(all_trials().into_iter().map(|trial| trial.call)),
     ];
     cases.iter().for_each(|case| case(&mut script));

@@ -1,6 +1,8 @@
-//! Wrong events, books and journeys: each cause of the numbers 1, 2 and 7 to 12 by itself.
+//! Wrong events, books and journeys: each cause of the numbers 1, 2, 21 and 7 to 12 by itself.
 
+use crate::constraints::{PLACE_MOST, SLIPPERY};
 use crate::profiles::Profiles;
+use model::adhesion::Constraint;
 use model::calls::Call;
 use model::packets::TractionBrake;
 use model::values::{JourneyPoint, Record, RecordPoint};
@@ -243,13 +245,14 @@ pub fn good_events() -> Vec<Vec<u8>> {
         Call::skip(100),
         Call::revoke(100),
         Call::traction(-20, TractionBrake { m_ato_trabrrq: 1, m_ato_locobrrq: 2, q_ato_suptb: 3, m_ato_rtbrq: 0x0405 }),
+        Call::adhesion(&SLIPPERY),
     ];
     calls.map(|call| call.event).to_vec()
 }
 
 /// Events that 1 refuses: empty, unknown kinds, each kind a byte too short and too long.
 pub fn wrong_lengths() -> Vec<Vec<u8>> {
-    let mut events = vec![vec![], vec![0], vec![15], vec![16], vec![128], vec![255], vec![0; 13]];
+    let mut events = vec![vec![], vec![0], vec![16], vec![17], vec![128], vec![255], vec![0; 13]];
     for event in good_events() {
         events.push([&event[..], &[0]].concat());
         if event.len() > 1 {
@@ -269,5 +272,23 @@ pub fn wrong_ranges() -> Vec<Vec<u8>> {
     calls.extend([position(1024, 5), position(65_535, 5), position(17, 16_777_216), position(17, u32::MAX)]);
     calls.extend([0, 100_001, u32::MAX].map(Call::length));
     calls.extend([101, 127, -101, -128].map(|request| Call::traction(request, TractionBrake::default())));
+    calls.extend([
+        Call::adhesion(&[Constraint::default(); 32]),
+        second_row(|row| row.nidc = 1024),
+        second_row(|row| row.start = PLACE_MOST + 1),
+        second_row(|row| row.end = PLACE_MOST + 1),
+    ]);
     calls.into_iter().map(|call| call.event).collect()
+}
+
+/// Events that 21 refuses: a row is reversed, the last one and both.
+pub fn reversed_rows() -> Vec<Vec<u8>> {
+    let both = SLIPPERY.map(|row| Constraint { start: row.end + 1, ..row });
+    [second_row(|row| row.start += 1), Call::adhesion(&both)].map(|call| call.event).to_vec()
+}
+
+fn second_row(change: fn(&mut Constraint)) -> Call {
+    let mut rows = SLIPPERY;
+    change(&mut rows[1]);
+    Call::adhesion(&rows)
 }

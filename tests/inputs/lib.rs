@@ -1,5 +1,8 @@
 //! What the engine is called with: fixed lists of calls and guided random ones, and a count of what they bring up.
 
+mod adhesion;
+mod adhesion_trials;
+mod constraints;
 pub mod coverage;
 mod creeps;
 pub mod edges;

@@ -1,5 +1,6 @@
 //! Guided random lists of calls. The model's engine runs along, so that every state comes up often.
 
+use crate::constraints::new_event;
 use crate::coverage::held_stop;
 use crate::faults::{good_events, wrong_lengths, wrong_ranges, Fault, BOOK_FAULTS, JOURNEY_FAULTS};
 use crate::journeys::{new_profiles, rewrite};
@@ -53,7 +54,7 @@ impl Generator {
         if held_stop(&self.engine).is_some() && self.random.chance(35) {
             return self.call_at_held_stop();
         }
-        match self.random.weighed(&[91, 4, 3, 2]) {
+        match self.random.weighed(&[88, 4, 3, 2, 3]) {
             0 => match now.state {
                 NP => Call::power_on(),
                 CO => self.call_in_configuration(),
@@ -65,7 +66,8 @@ impl Generator {
             },
             1 => self.any_call(),
             2 => self.wrong_event(),
-            _ => Call::of(self.any_of(&good_events())),
+            3 => Call::of(self.any_of(&good_events())),
+            _ => self.adhesion(),
         }
     }
 
@@ -79,7 +81,7 @@ impl Generator {
     }
 
     fn any_call(&mut self) -> Call {
-        match self.random.weighed(&[1, 1, 1, 1, 3, 3, 4, 3, 6, 3, 6, 5, 5, 5]) {
+        match self.random.weighed(&[1, 1, 1, 1, 3, 3, 4, 3, 6, 3, 6, 5, 5, 5, 6]) {
             0 => Call::power_on(),
             1 => Call::configured(),
             2 => Call::power_off(),
@@ -93,7 +95,8 @@ impl Generator {
             10 => self.load(),
             11 => self.skip(),
             12 => self.revoke(),
-            _ => self.traction(),
+            13 => self.traction(),
+            _ => self.adhesion(),
         }
     }
 
@@ -178,7 +181,7 @@ impl Generator {
             3 => Call::mode(1),
             _ => {
                 let speed = self.speed();
-                self.elsewhere(speed)
+                self.not_placed(speed)
             }
         }
     }
@@ -219,6 +222,10 @@ impl Generator {
         let m_ato_rtbrq = u16::from_be_bytes([any[4], any[5]]);
         let content = TractionBrake { m_ato_trabrrq: any[2], m_ato_locobrrq: any[3], q_ato_suptb, m_ato_rtbrq };
         Call::traction(request, content)
+    }
+
+    fn adhesion(&mut self) -> Call {
+        Call::of(new_event(&mut self.random, &self.engine.constraints))
     }
 
     fn skip(&mut self) -> Call {
@@ -383,6 +390,16 @@ impl Generator {
         let length = segment.length;
         let offset = self.random.pick(&[0, 1, length.saturating_sub(1), length, length + 1, 16_777_214]);
         Call::position(segment.nidc, segment.nidsp, offset, speed)
+    }
+
+    /// A journey segment on which the position is not known.
+    fn not_placed(&mut self, speed: u16) -> Call {
+        let segments = &self.engine.route.segments()[usize::from(self.engine.route.placed_segments)..];
+        if segments.is_empty() {
+            return self.elsewhere(speed);
+        }
+        let segment = segments[self.random.below(segments.len())];
+        Call::position(segment.nidc, segment.nidsp, self.random.pick(&[0, 10, 500]), speed)
     }
 
     /// Any journey segment, or none of the journey's.

@@ -1,6 +1,8 @@
 //! Trials of the reader and the writer of one packet: the input of `crates/packet_trials`, and the lines that the model
 //! answers. Each trial says which number it expects; `None` is accepted.
 
+use crate::adhesion_trials::{read64, written64};
+use model::adhesion::Constraint;
 use model::packets::{Content, Header, Packet, TractionBrake, SIZE_61, SIZE_62, SIZE_65, SIZE_68};
 use model::words::hex;
 
@@ -43,7 +45,10 @@ impl Tried {
     }
 }
 
-/// Number and values, each in bytes of its own, so that all may be out of range.
+/// Bytes that `crates/packet_trials` has for a packet, and as many for memory.
+const ROOM: usize = 600;
+
+/// Number and values, each in bytes of its own, so that all may be out of range; a 64 has as many rows as stand there.
 fn values_in_bytes(packet: &Packet) -> Vec<u8> {
     let Header { nidc, nidsp, offset, speed, operational } = packet.header;
     let header = [
@@ -65,6 +70,10 @@ fn values_in_bytes(packet: &Packet) -> Vec<u8> {
         }
         Content::State { state, conditions } => (68, [&[state][..], &conditions.to_be_bytes()].concat()),
         Content::Traction(content) => (61, content.bytes().to_vec()),
+        Content::Adhesion(ref rows) => {
+            let count = [rows.len() as u8].into_iter();
+            (64, count.chain(rows.iter().flat_map(Constraint::bytes)).collect())
+        }
     };
     [&[number][..], &header, &content].concat()
 }
@@ -85,17 +94,27 @@ fn values_in_words(packet: &Packet) -> String {
             let TractionBrake { m_ato_trabrrq, m_ato_locobrrq, q_ato_suptb, m_ato_rtbrq } = content;
             format!("61 {header} {m_ato_trabrrq} {m_ato_locobrrq} {q_ato_suptb} {m_ato_rtbrq}")
         }
+        Content::Adhesion(ref rows) => {
+            let words = |&Constraint { nidc, nidsp, category, range, start, end }: &Constraint| {
+                format!(" {nidc} {nidsp} {category} {range} {start} {end}")
+            };
+            format!("64 {header} {}{}", rows.len(), rows.iter().map(words).collect::<String>())
+        }
     }
 }
 
 impl PacketTrial {
-    /// What is tried, the position, the sizes of name, packet and memory, a byte each; then these three.
+    /// What is tried (1 byte), the position (2), the sizes of name (1), packet (2) and memory (2); then these three.
     pub fn write(&self, to: &mut Vec<u8>) {
         let packet = self.tried.packet();
-        let sizes = [self.name.len(), packet.len(), self.memory.len()];
-        let head = [&[self.tried.position()][..], &sizes].concat();
+        let two_bytes = |size: usize| {
+            assert!(size <= ROOM, "{}: {size} bytes", self.name);
+            (size as u16).to_be_bytes()
+        };
         to.push(self.tried.code());
-        to.extend(head.iter().map(|&size| u8::try_from(size).expect("a size in one byte")));
+        to.extend(two_bytes(self.tried.position()));
+        to.push(u8::try_from(self.name.len()).expect("a size in one byte"));
+        to.extend([packet.len(), self.memory.len()].map(two_bytes).concat());
         to.extend([self.name.as_bytes(), &packet, &self.memory].concat());
     }
 
@@ -120,7 +139,7 @@ impl PacketTrial {
 
 // ---- packets
 
-const NO_HEADER: Header = Header { nidc: 0, nidsp: 0, offset: 0, speed: 0, operational: 0 };
+pub(crate) const NO_HEADER: Header = Header { nidc: 0, nidsp: 0, offset: 0, speed: 0, operational: 0 };
 
 /// Zero but for the fields named.
 fn headed(nidc: u16, offset: u32) -> Packet {
@@ -175,7 +194,7 @@ fn most_requested() -> Packet {
 }
 
 /// "Input 00 01 01 prints .. 4400000000000000FFFFFF0000FFFFFFFF0801."
-fn power_on() -> Packet {
+pub(crate) fn power_on() -> Packet {
     let header = Header { offset: 16_777_215, operational: u32::MAX, ..NO_HEADER };
     Packet { header, content: Content::State { state: 1, conditions: 128 } }
 }
@@ -219,11 +238,11 @@ fn greatest() -> Packet {
 
 // ---- trials of the writer
 
-fn free(count: usize) -> Vec<u8> {
+pub(crate) fn free(count: usize) -> Vec<u8> {
     vec![0xAA; count]
 }
 
-fn write(name: &'static str, packet: Packet, count: usize, expected: Option<u8>) -> PacketTrial {
+pub(crate) fn write(name: &'static str, packet: Packet, count: usize, expected: Option<u8>) -> PacketTrial {
     PacketTrial { name, tried: Tried::Write(packet), memory: free(count), expected }
 }
 
@@ -252,13 +271,17 @@ fn written() -> Vec<PacketTrial> {
     ]
 }
 
+/// The second packet behind the first in so much memory.
+pub(crate) fn append(name: &'static str, packets: [Packet; 2], count: usize, expected: Option<u8>) -> PacketTrial {
+    let [first, second] = packets;
+    let mut memory = free(count);
+    let at = first.put(&mut memory);
+    PacketTrial { name, tried: Tried::Append(second, at), memory, expected }
+}
+
 /// P7 behind the power on packet: 19 and 25 of 45 bytes, then one that stays; in 43 bytes the second packet is refused.
 fn appended() -> Vec<PacketTrial> {
-    let append = |name, count, expected| {
-        let mut memory = free(count);
-        let at = power_on().put(&mut memory);
-        PacketTrial { name, tried: Tried::Append(stopped(), at), memory, expected }
-    };
+    let append = |name, count, expected| append(name, [power_on(), stopped()], count, expected);
     vec![append("P7 behind power on", 45, None), append("P7 with one byte less than it needs", 43, Some(16))]
 }
 
@@ -309,17 +332,20 @@ fn out_of_range() -> Vec<PacketTrial> {
 
 // ---- trials of the reader
 
-fn read(name: &'static str, bytes: Vec<u8>, expected: Option<u8>) -> PacketTrial {
+pub(crate) fn read(name: &'static str, bytes: Vec<u8>, expected: Option<u8>) -> PacketTrial {
     PacketTrial { name, tried: Tried::Read(bytes), memory: Vec::new(), expected }
+}
+
+/// The packet's bytes, its values in range or not.
+pub(crate) fn read_packet(name: &'static str, packet: Packet, expected: Option<u8>) -> PacketTrial {
+    let mut bytes = vec![0; packet.size()];
+    packet.put(&mut bytes);
+    read(name, bytes, expected)
 }
 
 /// The packets of `written`, and their fields.
 fn read_back() -> Vec<PacketTrial> {
-    let back = |name, packet: Packet| {
-        let mut bytes = vec![0; packet.size()];
-        packet.put(&mut bytes);
-        read(name, bytes, None)
-    };
+    let back = |name, packet| read_packet(name, packet, None);
     vec![
         back("power on", power_on()),
         back("P7", stopped()),
@@ -338,7 +364,7 @@ fn read_back() -> Vec<PacketTrial> {
 }
 
 /// So many bytes, zero but for the number.
-fn zeros(number: u8, count: usize) -> Vec<u8> {
+pub(crate) fn zeros(number: u8, count: usize) -> Vec<u8> {
     let mut bytes = vec![0; count];
     bytes.iter_mut().take(1).for_each(|first| *first = number);
     bytes
@@ -367,7 +393,7 @@ fn lengths_and_numbers() -> Vec<PacketTrial> {
 }
 
 /// A packet's bytes, with one byte altered.
-fn altered(name: &'static str, base: &[u8], at: usize, byte: u8, expected: Option<u8>) -> PacketTrial {
+pub(crate) fn altered(name: &'static str, base: &[u8], at: usize, byte: u8, expected: Option<u8>) -> PacketTrial {
     let mut bytes = base.to_vec();
     bytes[at] = byte;
     read(name, bytes, expected)
@@ -433,7 +459,7 @@ fn alter61() -> Vec<PacketTrial> {
 }
 
 pub fn packet_trials() -> Vec<PacketTrial> {
-    let writer = [written(), appended(), no_room(), out_of_range()];
-    let reader = [read_back(), lengths_and_numbers(), alter62(), alter65(), alter68(), alter61()];
+    let writer = [written(), appended(), no_room(), out_of_range(), written64()];
+    let reader = [read_back(), lengths_and_numbers(), alter62(), alter65(), alter68(), alter61(), read64()];
     writer.into_iter().chain(reader).flatten().chain(every_word()).collect()
 }

@@ -1,7 +1,9 @@
 //! Calls to be measured: each kind of event, costly reports and loads, small loads, refusals.
 
+use crate::constraints;
 use crate::profiles::Profiles;
 use crate::sizes::{largest, point_name, profiles, reversed, segment};
+use model::adhesion::CONSTRAINTS_MOST;
 use model::calls::Call;
 use model::packets::TractionBrake;
 
@@ -69,6 +71,7 @@ pub fn rows() -> Vec<Row> {
     ];
     rows.extend(at_held_stop(largest.clone()));
     rows.extend(skips(&first));
+    rows.extend(slippery_rail(&first));
     rows.extend(loads(&first, largest));
     rows
 }
@@ -92,6 +95,22 @@ fn skips(ready: &[Call]) -> Vec<Row> {
         bounded("its revocation", &skipped, Call::revoke(point_63)),
         bounded("refused: skip of an unknown name", ready, Call::skip(99_999_999)),
         bounded("refused: unknown kind", ready, Call::of(vec![255])),
+    ]
+}
+
+/// As many rows of slippery rail as there can be.
+pub fn most_rows() -> Call {
+    Call::adhesion(&constraints::rows(CONSTRAINTS_MOST))
+}
+
+/// In place of as many.
+fn slippery_rail(ready: &[Call]) -> Vec<Row> {
+    let before = [ready, &[most_rows()]].concat();
+    let reversed = constraints::changed(CONSTRAINTS_MOST, 30, |row| row.end = 0);
+    vec![
+        bounded("slippery rail, 31 rows", &before, most_rows()),
+        bounded("slippery rail, no row", &before, Call::adhesion(&[])),
+        bounded("refused: last of 31 rows reversed", &before, Call::adhesion(&reversed)),
     ]
 }
 

@@ -1,6 +1,7 @@
 //! Fixed lists of calls, written one event after the other.
 
 use crate::profiles::{p_journey, Profiles};
+use model::adhesion::Constraint;
 use model::calls::Call;
 use model::events::UNDEFINED;
 use model::packets::TractionBrake;
@@ -95,6 +96,10 @@ impl Script {
     pub fn traction(&mut self, request: i8, q_ato_suptb: u8) -> &mut Script {
         let content = TractionBrake { m_ato_trabrrq: request.unsigned_abs(), q_ato_suptb, ..TractionBrake::default() };
         self.call(Call::traction(request, content))
+    }
+
+    pub fn adhesion(&mut self, rows: &[Constraint]) -> &mut Script {
+        self.call(Call::adhesion(rows))
     }
 
     /// Offset undefined, standing.

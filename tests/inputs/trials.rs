@@ -1,8 +1,10 @@
 //! Trials of events, books and journeys alone: each cause of a number by itself, pairs of rows, and the last values that
 //! are still accepted. Each says which number it expects; `None` is accepted.
 
-use crate::faults::{good_events, wrong_lengths, wrong_ranges, Fault, BOOK_FAULTS, JOURNEY_FAULTS};
+use crate::constraints::GREATEST;
+use crate::faults::{good_events, reversed_rows, wrong_lengths, wrong_ranges, Fault, BOOK_FAULTS, JOURNEY_FAULTS};
 use crate::profiles::{base, greatest_values, record, Profiles};
+use model::adhesion::CONSTRAINTS_MOST;
 use model::calls::Call;
 use model::packets::TractionBrake;
 use model::values::{JourneyPoint, Record, RecordPoint};
@@ -17,17 +19,19 @@ fn trial(name: impl Into<String>, call: Call, expected: Option<u8>) -> Trial {
     Trial { name: name.into(), call, expected }
 }
 
-/// The events of 1 and 2, each by itself and both at once; they are refused alike in every state.
+/// The events of 1, 2 and 21, each by itself and 1 with one of the others; they are refused alike in every state.
 fn event_trials() -> Vec<Trial> {
     let name = |event: &[u8]| format!("event {event:02X?}");
     let mut trials = Vec::new();
     for event in wrong_lengths() {
         trials.push(trial(name(&event), Call::of(event), Some(1)));
     }
-    for event in wrong_ranges() {
-        trials.push(trial(name(&event), Call::of(event.clone()), Some(2)));
-        let longer = [&event[..], &[0]].concat();
-        trials.push(trial(name(&longer), Call::of(longer), Some(1)));
+    for (events, number) in [(wrong_ranges(), 2), (reversed_rows(), 21)] {
+        for event in events {
+            trials.push(trial(name(&event), Call::of(event.clone()), Some(number)));
+            let longer = [&event[..], &[0]].concat();
+            trials.push(trial(name(&longer), Call::of(longer), Some(1)));
+        }
     }
     trials
 }
@@ -244,6 +248,9 @@ pub fn all_trials() -> Vec<Trial> {
     let content = TractionBrake { m_ato_trabrrq: 255, m_ato_locobrrq: 255, q_ato_suptb: 255, m_ato_rtbrq: 65_535 };
     for request in [-100, 100] {
         trials.push(trial(format!("request {request}, greatest content"), Call::traction(request, content), None));
+    }
+    for count in [0, 1, CONSTRAINTS_MOST] {
+        trials.push(trial(format!("{count} greatest rows"), Call::adhesion(&vec![GREATEST; count]), None));
     }
     trials.extend(load_trials());
     trials.push(trial("fault", Call::fault(), None));

@@ -1,7 +1,8 @@
 //! The player's input as a list of calls, and the player's lines for an answer, written and read.
 
+use crate::adhesion::Constraint;
 use crate::engine::{written, Answer, Engine, Refused, TURNED_DOWN};
-use crate::events::{LOAD, POSITION_REPORT, REVOKE, SKIP, TRACTION};
+use crate::events::{ADHESION, LOAD, POSITION_REPORT, REVOKE, SKIP, TRACTION};
 use crate::numbers::Numbers;
 use crate::packets::{split_packets, TractionBrake, SIZE_65};
 use crate::words::{hex, STATES};
@@ -84,6 +85,12 @@ impl Call {
         Call::of([&[TRACTION][..], &request.to_be_bytes(), &content.bytes()].concat())
     }
 
+    pub fn adhesion(rows: &[Constraint]) -> Call {
+        let head = [ADHESION, rows.len() as u8];
+        let rows = rows.iter().flat_map(Constraint::bytes);
+        Call::of(head.into_iter().chain(rows).collect())
+    }
+
     /// A load of wrong length still brings its profiles.
     pub fn lends_profiles(&self) -> bool {
         self.event.first() == Some(&LOAD)
@@ -144,7 +151,7 @@ pub fn read_answer(line: &str) -> Option<Result<Answer, Refused>> {
     let words: Vec<&str> = line.split(' ').collect();
     let answer = match words[..] {
         ["R", number, _] => {
-            let number = number.parse().ok().filter(|number| matches!(number, 1..=16 | 20))?;
+            let number = number.parse().ok().filter(|number| matches!(number, 1..=16 | 20 | 21))?;
             Err(Refused { number, bytes: if TURNED_DOWN.contains(&number) { SIZE_65 } else { 0 } })
         }
         ["A", state, request, bytes] => {

@@ -10,7 +10,7 @@ use crate::rules::Rules;
 use crate::told::Told;
 
 /// The packets of a call, by their numbers: only 62 stands there more than once.
-const ORDER: [u8; 4] = [65, 62, 61, 68];
+const ORDER: [u8; 5] = [65, 62, 61, 64, 68];
 /// What short memory is filled with.
 const BLANK: u8 = 0xA5;
 
@@ -70,9 +70,9 @@ impl Checked {
         }
         for bytes in packets {
             let packet = Packet::read(bytes).map_err(|number| format!("own packet refused by {number}"))?;
-            let mut again = [0; 29];
-            let size = packet.write(&mut again).map_err(|number| format!("packet not written again: {number}"))?;
-            if again[..size] != *bytes {
+            let mut again = vec![0; bytes.len()];
+            packet.write(&mut again).map_err(|number| format!("packet not written again: {number}"))?;
+            if again != bytes {
                 return Err("packet written again differs".into());
             }
             let now = &self.engine.now;

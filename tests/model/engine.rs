@@ -1,8 +1,9 @@
 //! The engine and the meaning of a call.
 
+use crate::adhesion::{rows_of, Constraint};
 use crate::calls::Call;
 use crate::events::{read_event, Event, Position, UNDEFINED};
-use crate::packets::{Content, Header, Packet, TractionBrake, SIZE_61, SIZE_62, SIZE_65, SIZE_68};
+use crate::packets::{size_64, Content, Header, Packet, TractionBrake, SIZE_61, SIZE_62, SIZE_65, SIZE_68};
 use crate::route::{Book, Point, Route, Stamp, NO_ATOTS};
 use std::cmp::Ordering;
 use std::ops::RangeInclusive;
@@ -59,7 +60,7 @@ pub fn written(answer: Result<Answer, Refused>) -> usize {
 /// recorded too": its journey was received, and that is recorded.
 pub const TURNED_DOWN: RangeInclusive<u8> = 7..=12;
 
-/// All of the engine but the route.
+/// All of the engine but the route and the rows of slippery rail.
 #[derive(Clone, Copy, PartialEq, Eq, Debug)]
 pub struct Now {
     pub state: u8,
@@ -135,7 +136,6 @@ pub fn behind_front(length: u32, alignment: u8) -> u32 {
 }
 
 /// The packets of an event, but for 68.
-#[derive(Clone, Copy)]
 enum Changes {
     None,
     /// Points `from..to` passed, the first of them by departure; then point `to` was reached, which may be held.
@@ -159,6 +159,7 @@ enum Changes {
         trackside: Trackside,
     },
     Traction(TractionBrake),
+    Adhesion(Vec<Constraint>),
 }
 
 /// What packet 62 with status 4 says of a stop: as it was in the old journey.
@@ -221,6 +222,7 @@ impl Changes {
                 SIZE_65 + SIZE_62 * (usize::from(revoked.is_some()) + trackside.count())
             }
             Changes::Traction(_) => SIZE_61,
+            Changes::Adhesion(ref rows) => size_64(rows.len()),
         }
     }
 }
@@ -229,11 +231,13 @@ impl Changes {
 pub struct Engine {
     pub now: Now,
     pub route: Route,
+    /// The rows of the latest accepted kind 15 since power off.
+    pub constraints: Vec<Constraint>,
 }
 
 impl Engine {
     pub fn fresh() -> Engine {
-        Engine { now: FRESH, route: Route::EMPTY }
+        Engine { now: FRESH, route: Route::EMPTY, constraints: Vec::new() }
     }
 
     /// One call. A refusal leaves the engine as it was, and writes nothing but the packet of a load that is turned down.
@@ -260,14 +264,29 @@ impl Engine {
     fn step(&mut self, call: &Call, out: &mut [u8]) -> Result<Answer, u8> {
         let event = read_event(&call.event)?;
         self.now.admit(event, &self.route)?;
-        if event == Event::Load {
-            return self.load(&call.journey, &call.book, out);
+        match event {
+            Event::Load => return self.load(&call.journey, &call.book, out),
+            Event::Adhesion => return self.take_constraints(rows_of(&call.event), out),
+            _ => {}
         }
         let mut now = self.now;
         let changes = now.take(event, &self.route)?;
         now.settle(event, &self.route, changes.point_reached());
         let answer = finish(&self.now, &now, &self.route, changes, out)?;
         self.now = now;
+        if event == Event::PowerOff {
+            self.constraints.clear();
+        }
+        Ok(answer)
+    }
+
+    /// Slippery rail: these rows stand in place of those before, and packet 64 tells them.
+    fn take_constraints(&mut self, rows: Vec<Constraint>, out: &mut [u8]) -> Result<Answer, u8> {
+        let mut now = self.now;
+        now.settle(Event::Adhesion, &self.route, false);
+        let answer = finish(&self.now, &now, &self.route, Changes::Adhesion(rows.clone()), out)?;
+        self.now = now;
+        self.constraints = rows;
         Ok(answer)
     }
 
@@ -346,7 +365,7 @@ impl Now {
             Event::Skip(nidtp) => return self.skip(nidtp, route, true),
             Event::Revoke(nidtp) => return self.skip(nidtp, route, false),
             Event::Traction(request, content) => return Ok(self.request_traction(request, content)),
-            Event::PowerOn | Event::Configured | Event::Fault | Event::Load => {}
+            Event::PowerOn | Event::Configured | Event::Fault | Event::Load | Event::Adhesion => {}
         }
         Ok(Changes::None)
     }
@@ -570,9 +589,11 @@ fn finish(before: &Now, now: &Now, route: &Route, changes: Changes, out: &mut [u
     if let Changes::Load { stamp, .. } = changes {
         put(load_content(now, route, stamp, 0));
     }
-    put_points(now, route, changes, &mut put);
-    if let Changes::Traction(content) = changes {
-        put(Content::Traction(content));
+    put_points(now, route, &changes, &mut put);
+    match changes {
+        Changes::Traction(content) => put(Content::Traction(content)),
+        Changes::Adhesion(rows) => put(Content::Adhesion(rows)),
+        _ => {}
     }
     if tells_state {
         put(Content::State { state: now.state, conditions: now.conditions });
@@ -588,8 +609,8 @@ fn load_content(now: &Now, route: &Route, stamp: Stamp, status: u8) -> Content {
 }
 
 /// Packets 62. Q_EOJ_REACHED of each is after that change.
-fn put_points(now: &Now, route: &Route, changes: Changes, put: &mut impl FnMut(Content)) {
-    match changes {
+fn put_points(now: &Now, route: &Route, changes: &Changes, put: &mut impl FnMut(Content)) {
+    match *changes {
         Changes::Report { from, to, departed, reached, held } => {
             for k in from..to {
                 let status = if departed && k == from { 2 } else { 0 };
@@ -615,7 +636,7 @@ fn put_points(now: &Now, route: &Route, changes: Changes, put: &mut impl FnMut(C
             }
         }
         Changes::Driver { point, status } => put(point_content(route, point, now.end_not_reached(route), status)),
-        Changes::None | Changes::Traction(_) => {}
+        Changes::None | Changes::Traction(_) | Changes::Adhesion(_) => {}
     }
 }
 

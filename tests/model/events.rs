@@ -1,5 +1,6 @@
-//! Document 01, "Events": one byte kind, then its fields. Kind 14: document 02, Q-1.
+//! Document 01, "Events": one byte kind, then its fields. Kinds 14 and 15: document 02, Q-1 and Q-7.
 
+use crate::adhesion::{in_range, reversed, rows_of, told_bytes, Constraint};
 use crate::numbers::{within, Numbers};
 use crate::packets::TractionBrake;
 
@@ -11,6 +12,7 @@ pub const LOAD: u8 = 11;
 pub const SKIP: u8 = 12;
 pub const REVOKE: u8 = 13;
 pub const TRACTION: u8 = 14;
+pub const ADHESION: u8 = 15;
 
 #[derive(Clone, Copy, PartialEq, Eq, Debug)]
 pub struct Position {
@@ -36,9 +38,11 @@ pub enum Event {
     Revoke(u32),
     /// The request, and the content of packet 61.
     Traction(i8, TractionBrake),
+    /// Its rows stay in the event's bytes.
+    Adhesion,
 }
 
-/// Numbers 1 and 2.
+/// Numbers 1, 2 and 21.
 pub fn read_event(bytes: &[u8]) -> Result<Event, u8> {
     let (&kind, fields) = bytes.split_first().ok_or(1)?;
     let size = match kind {
@@ -47,15 +51,30 @@ pub fn read_event(bytes: &[u8]) -> Result<Event, u8> {
         POSITION_REPORT => 12,
         10 | SKIP | REVOKE => 4,
         TRACTION => 6,
+        ADHESION => told_bytes(fields),
         _ => return Err(1),
     };
     if fields.len() != size {
         return Err(1);
     }
+    if kind == ADHESION {
+        return check_rows(&rows_of(bytes));
+    }
     read_fields(kind, Numbers(fields)).ok_or(2)
 }
 
-/// The event of a known kind, its fields as long as they must be; `None` if one is out of range.
+/// 2 of any row before 21 of any.
+fn check_rows(rows: &[Constraint]) -> Result<Event, u8> {
+    if !in_range(rows) {
+        return Err(2);
+    }
+    if reversed(rows) {
+        return Err(21);
+    }
+    Ok(Event::Adhesion)
+}
+
+/// The event of a kind from 1 to 14, its fields as long as they must be; `None` if one is out of range.
 fn read_fields(kind: u8, mut fields: Numbers) -> Option<Event> {
     Some(match kind {
         1 => Event::PowerOn,

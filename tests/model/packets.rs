@@ -1,6 +1,7 @@
-//! Document 01, "Packets": 62, 65 and 68, and document 02's 61, its status 1 of 65 and statuses 3, 4, 7
-//! and 8 of 62, written and read one at a time.
+//! Document 01, "Packets": 62, 65 and 68, and document 02's 61 and 64, its status 1 of 65 and
+//! statuses 3, 4, 7 and 8 of 62, written and read one at a time.
 
+use crate::adhesion::{in_range, reversed, rows_in, told_bytes, Constraint, ROW};
 use crate::numbers::{within, Numbers};
 
 #[derive(Clone, Copy, PartialEq, Eq, Debug)]
@@ -22,7 +23,7 @@ pub struct TractionBrake {
     pub m_ato_rtbrq: u16,
 }
 
-#[derive(Clone, Copy, PartialEq, Eq, Debug)]
+#[derive(Clone, PartialEq, Eq, Debug)]
 pub enum Content {
     /// Packet 62. Q_EOJ_REACHED is 0 once the End of Journey is reached or passed.
     Point { nidc: u16, nidtp: u32, q_eoj_reached: u8, alignment: u8, status: u8, stopping: u8 },
@@ -32,9 +33,11 @@ pub enum Content {
     State { state: u8, conditions: u16 },
     /// Packet 61.
     Traction(TractionBrake),
+    /// Packet 64.
+    Adhesion(Vec<Constraint>),
 }
 
-#[derive(Clone, Copy, PartialEq, Eq, Debug)]
+#[derive(Clone, PartialEq, Eq, Debug)]
 pub struct Packet {
     pub header: Header,
     pub content: Content,
@@ -44,12 +47,20 @@ pub const SIZE_61: usize = 22;
 pub const SIZE_62: usize = 25;
 pub const SIZE_65: usize = 29;
 pub const SIZE_68: usize = 19;
+/// Bytes of number and header.
+const HEAD: usize = 17;
 
-/// The length of the packet with this number.
-pub fn size_of_number(number: u8) -> Option<usize> {
-    match number {
+/// The bytes of a packet 64 with so many rows.
+pub const fn size_64(rows: usize) -> usize {
+    HEAD + 1 + ROW * rows
+}
+
+/// The length of the packet in front, as its number tells and, of a 64, its count; one that is missing counts as 0.
+pub fn told_size(bytes: &[u8]) -> Option<usize> {
+    match bytes.first()? {
         61 => Some(SIZE_61),
         62 => Some(SIZE_62),
+        64 => Some(HEAD + told_bytes(bytes.get(HEAD..).unwrap_or(&[]))),
         65 => Some(SIZE_65),
         68 => Some(SIZE_68),
         _ => None,
@@ -59,7 +70,7 @@ pub fn size_of_number(number: u8) -> Option<usize> {
 /// The packets that a call wrote one behind the other.
 pub fn split_packets(mut bytes: &[u8]) -> Vec<&[u8]> {
     let mut packets = Vec::new();
-    while let Some(size) = bytes.first().and_then(|&number| size_of_number(number)) {
+    while let Some(size) = told_size(bytes) {
         let (packet, rest) = bytes.split_at(size);
         packets.push(packet);
         bytes = rest;
@@ -127,6 +138,7 @@ impl Content {
             Content::Load { .. } => 65,
             Content::State { .. } => 68,
             Content::Traction(_) => 61,
+            Content::Adhesion(_) => 64,
         }
     }
 
@@ -141,6 +153,7 @@ impl Content {
             }
             Content::State { state, conditions } => state <= 7 && conditions <= 0x1FF,
             Content::Traction(_) => true,
+            Content::Adhesion(ref rows) => in_range(rows) && !reversed(rows),
         }
     }
 
@@ -160,6 +173,10 @@ impl Content {
             }
             Content::State { state, conditions } => to.put((u16::from(state) + 16 * conditions).to_be_bytes()),
             Content::Traction(traction) => to.put(traction.bytes()),
+            Content::Adhesion(ref rows) => {
+                to.put([rows.len() as u8]);
+                rows.iter().for_each(|row| to.put(row.bytes()));
+            }
         }
     }
 
@@ -167,6 +184,7 @@ impl Content {
     fn read(number: u8, from: &mut Numbers) -> Option<Content> {
         Some(match number {
             61 => Content::Traction(TractionBrake::read(from)?),
+            64 => Content::Adhesion(rows_in(&from.0[1..])),
             62 => {
                 let (nidc, nidtp) = (from.u16()?, from.u32()?);
                 let info = within(from.u8()?, 0, 127)?;
@@ -196,6 +214,7 @@ impl Packet {
             Content::Load { .. } => SIZE_65,
             Content::State { .. } => SIZE_68,
             Content::Traction(_) => SIZE_61,
+            Content::Adhesion(ref rows) => size_64(rows.len()),
         }
     }
 
@@ -226,7 +245,7 @@ impl Packet {
     /// The reader takes one packet exactly: 17, 18, 19.
     pub fn read(bytes: &[u8]) -> Result<Packet, u8> {
         let (&number, fields) = bytes.split_first().ok_or(17)?;
-        let size = size_of_number(number).ok_or(18)?;
+        let size = told_size(bytes).ok_or(18)?;
         if bytes.len() != size {
             return Err(17);
         }

@@ -3,7 +3,7 @@
 
 use crate::calls::Call;
 use crate::engine::{Engine, Standing, CO, FA, NP, RE};
-use crate::events::{Event, Position, LOAD, POSITION_REPORT, REVOKE, SKIP, TRACTION, UNDEFINED};
+use crate::events::{Event, Position, ADHESION, LOAD, POSITION_REPORT, REVOKE, SKIP, TRACTION, UNDEFINED};
 use crate::numbers::Numbers;
 use crate::packets::TractionBrake;
 use crate::values::{read_book, Journey, Record};
@@ -108,7 +108,7 @@ fn range(low: u32, high: u32) -> String {
     }
 }
 
-/// Numbers 1 and 2.
+/// Numbers 1, 2 and 21.
 fn read_event(bytes: &[u8]) -> Result<Event, Reason> {
     let Some((&kind, fields)) = bytes.split_first() else { return Err((1, "the event is empty".into())) };
     let size = match kind {
@@ -117,6 +117,7 @@ fn read_event(bytes: &[u8]) -> Result<Event, Reason> {
         POSITION_REPORT => 13,
         10 | SKIP | REVOKE => 5,
         TRACTION => 7,
+        ADHESION => return read_adhesion(bytes),
         _ => return Err((1, format!("no kind of event has the number {kind}"))),
     };
     if bytes.len() != size {
@@ -156,6 +157,40 @@ fn read_fields(kind: u8, mut from: Fields) -> Result<Event, String> {
             Event::Traction(request, content)
         }
     })
+}
+
+fn read_adhesion(bytes: &[u8]) -> Result<Event, Reason> {
+    let wrong = |must_be: &str| Err((1, format!("its length is {}; of kind {ADHESION} {must_be}", bytes.len())));
+    let Some(&count) = bytes.get(1) else { return wrong("it must be at least 2") };
+    let length = 2 + 16 * usize::from(count);
+    if bytes.len() != length {
+        return wrong(&format!("with a count of {count} it must be {length}"));
+    }
+    read_rows(Fields(Numbers(&bytes[1..])))
+}
+
+/// Each row in its range, then none of them reversed.
+fn read_rows(mut from: Fields) -> Result<Event, Reason> {
+    let mut reversed = None;
+    let beyond = |reason: String| (2, reason);
+    for k in 1..=from.number("the count", 1, 0, 31).map_err(beyond)? {
+        let (start, end) = read_row(&mut from, k).map_err(beyond)?;
+        if start > end && reversed.is_none() {
+            let (start, end) = (grouped(start.into()), grouped(end.into()));
+            reversed = Some((21, format!("the start of row {k}, {start}, is beyond its end, {end}")));
+        }
+    }
+    reversed.map_or(Ok(Event::Adhesion), Err)
+}
+
+/// The row's start and end.
+fn read_row(from: &mut Fields, k: u32) -> Result<(u32, u32), String> {
+    from.number(&format!("NID_C of row {k}"), 2, 0, 1023)?;
+    for (what, width) in [("NID_SP", 4), ("the category", 1), ("the range", 1)] {
+        from.free(&format!("{what} of row {k}"), width)?;
+    }
+    let mut place = |what: &str| from.number(&format!("the {what} of row {k}"), 4, 0, 16_777_215);
+    Ok((place("start")?, place("end")?))
 }
 
 /// Numbers 3 to 6.

@@ -1,8 +1,9 @@
 //! The history rule and the engagement rule of document 01, with the departure, the range, the packet of a load that is
-//! turned down, held stops and trackside skips of document 02 (Q-3, Q-1, Q-4, Q-5, Q-6), read literally over the
-//! accepted events, and the States rows run over the conditions that follow from them. Nothing here looks at an engine,
-//! but for the comparison at the end.
+//! turned down, held stops, trackside skips and slippery rail of document 02 (Q-3, Q-1, Q-4, Q-5, Q-6, Q-7), read
+//! literally over the accepted events, and the States rows run over the conditions that follow from them. Nothing here
+//! looks at an engine, but for the comparison at the end.
 
+use crate::adhesion::Constraint;
 use crate::calls::Call;
 use crate::engine::{Engine, Refused, Standing, AV, CO, DE, EG, FA, NA, NP, RE};
 use crate::events::{read_event, Event, Position, UNDEFINED};
@@ -67,12 +68,15 @@ struct Values {
     length: u32,
     load: Option<Rc<Load>>,
     skips: Vec<u32>,
+    /// What stands behind the kind byte of a kind 15: its count and rows.
+    adhesion: Rc<[u8]>,
 }
 
 impl Values {
     fn fresh() -> Values {
         let position = Position { nidc: 0, nidsp: 0, offset: UNDEFINED };
-        Values { mode: 0, lever: 0, reports: 0, position, speed: 0, length: 0, load: None, skips: Vec::new() }
+        let (skips, adhesion) = (Vec::new(), Rc::from([0]));
+        Values { mode: 0, lever: 0, reports: 0, position, speed: 0, length: 0, load: None, skips, adhesion }
     }
 
     fn after(mut self, event: Event, call: &Call) -> Values {
@@ -89,9 +93,39 @@ impl Values {
                 self.load = Some(Rc::new(Load { journey: journey.unwrap(), book: book.unwrap() }));
                 self.skips.clear();
             }
+            Event::Adhesion => self.adhesion = Rc::from(&call.event[1..]),
             _ => {}
         }
         self
+    }
+
+    /// "the engine shows the rows of the latest one since power off, else none", by their places: "NID_C, NID_SP,
+    /// category, range, start, end, of 2, 4, 1, 1, 4 and 4 bytes".
+    fn constraints(&self) -> Vec<Constraint> {
+        let number = |bytes: &[u8]| bytes.iter().fold(0, |number, &byte| 256 * number + u32::from(byte));
+        let row = |row: &[u8]| Constraint {
+            nidc: number(&row[..2]) as u16,
+            nidsp: number(&row[2..6]),
+            category: row[6],
+            range: row[7],
+            start: number(&row[8..12]),
+            end: number(&row[12..]),
+        };
+        self.adhesion[1..].chunks(16).map(row).collect()
+    }
+
+    /// "NID_C (2), NID_SP (4), offset (4), speed (2), NID_OPERATIONAL (4; FFFFFFFF hexadecimal with no journey)"
+    fn header(&self) -> Vec<u8> {
+        let Position { nidc, nidsp, offset } = self.position;
+        let operational = self.load.as_ref().and_then(|load| load.journey.operational);
+        [
+            &nidc.to_be_bytes()[..],
+            &nidsp.to_be_bytes(),
+            &offset.to_be_bytes(),
+            &self.speed.to_be_bytes(),
+            &operational.unwrap_or(u32::MAX).to_be_bytes(),
+        ]
+        .concat()
     }
 
     fn unskipped_stop(&self, point: &JourneyPoint) -> bool {
@@ -420,7 +454,7 @@ impl Rules {
     }
 
     /// Of the packets of the last accepted call: 61 stands among them just where it is due, with the event's bytes, and
-    /// so do those of a stop that is held or held no longer, and of trackside skips.
+    /// so do those of a stop that is held or held no longer, of trackside skips, and of slippery rail.
     pub fn check_packets(&self, call: &Call, packets: &[&[u8]]) -> Result<(), String> {
         let due = if self.traction_due() { vec![&call.event[2..]] } else { vec![] };
         let written: Vec<&[u8]> = packets.iter().filter(|packet| packet[0] == 61).map(|packet| &packet[17..]).collect();
@@ -429,7 +463,24 @@ impl Rules {
         }
         self.check_held(packets)?;
         self.check_revoked(packets)?;
-        self.check_trackside(packets)
+        self.check_trackside(packets)?;
+        self.check_adhesion(packets)
+    }
+
+    /// "Each accepted such event, and nothing else, writes packet 64 with its rows": its content is what the event has
+    /// behind its kind byte. No other packet is due then, since the rows of the states come to nothing new.
+    fn check_adhesion(&self, packets: &[&[u8]]) -> Result<(), String> {
+        let last = self.moments.last().filter(|last| last.event == Event::Adhesion);
+        let due = last.map(|last| [&[64][..], &last.values.header(), &last.values.adhesion].concat());
+        let as_due = match &due {
+            Some(due) => packets == [due],
+            None => packets.iter().all(|packet| packet[0] != 64),
+        };
+        if as_due {
+            Ok(())
+        } else {
+            Err(format!("packet 64: by the rules {due:02X?}, written {packets:02X?}"))
+        }
     }
 
     /// "When a held stop becomes reached, packet 62 with status 3 follows the one with status 1": the same but for the
@@ -531,15 +582,10 @@ impl Rules {
         let values = self.moments.last().map_or(Values::fresh(), |moment| moment.values.clone());
         let (load, position) = (values.load.as_ref(), values.position);
         let known = load.is_some_and(|load| load.front(position).is_some());
-        let operational = load.and_then(|load| load.journey.operational);
         let (no_date, no_seconds, no_counter, no_atots) = ([0; 2], [0; 4], [0], 16_384u16);
         [
             &[65][..],
-            &position.nidc.to_be_bytes(),
-            &position.nidsp.to_be_bytes(),
-            &position.offset.to_be_bytes(),
-            &values.speed.to_be_bytes(),
-            &operational.unwrap_or(u32::MAX).to_be_bytes(),
+            &values.header(),
             &if known { position.nidc } else { 1024 }.to_be_bytes(),
             &no_atots.to_be_bytes(),
             &no_date,
@@ -583,6 +629,10 @@ impl Rules {
         let (by_rules, held) = (self.traction(self.moments.len()), now.traction.map(|held| (held.range, held.suptb)));
         if by_rules != held {
             return differs("range and Q_ATO_SupTB", &by_rules, &held);
+        }
+        let by_rules = self.moments.last().map_or(Vec::new(), |moment| moment.values.constraints());
+        if by_rules != engine.constraints {
+            return differs("rows of slippery rail", &by_rules, &engine.constraints);
         }
         if self.engaged() != (now.state == EG) {
             return differs("engaged", &self.engaged(), &now.state);

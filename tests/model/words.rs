@@ -1,5 +1,6 @@
 //! Events, profiles and packets in words.
 
+use crate::adhesion::{rows_of, Constraint};
 use crate::calls::Call;
 use crate::events::{read_event, Event, UNDEFINED};
 use crate::packets::{Content, Header, Packet, TractionBrake};
@@ -56,7 +57,7 @@ pub fn hex(bytes: &[u8]) -> String {
 /// The place of checking, of the table of numbers, so far as event calls answer it.
 pub fn place_of_number(number: u8) -> &'static str {
     match number {
-        1 | 2 => "event",
+        1 | 2 | 21 => "event",
         3..=5 => "power",
         6 | 20 => "state",
         7 | 8 => "book",
@@ -114,7 +115,16 @@ fn event_in_words(event: Event) -> String {
         Event::Skip(nidtp) => format!("driver skip {nidtp}"),
         Event::Revoke(nidtp) => format!("driver revokes skip {nidtp}"),
         Event::Traction(request, content) => format!("traction {request}: {}", traction_in_words(&content)),
+        Event::Adhesion => "slippery rail".into(),
     }
+}
+
+/// A line a row.
+fn rows_in_words(rows: &[Constraint]) -> impl Iterator<Item = String> + '_ {
+    rows.iter().zip(1..).map(|(row, k)| {
+        let Constraint { nidc, nidsp, category, range, start, end } = row;
+        format!("row {k}: NID_C {nidc}, NID_SP {nidsp}, category {category}, range {range}, start {start}, end {end}")
+    })
 }
 
 /// The last is an INT16.
@@ -153,10 +163,14 @@ fn record_in_words(record: &Record) -> String {
     words
 }
 
-/// A call in lines: the event, and for a load the journey and the book, read if their layout is right.
+/// A call in lines: the event, its rows of slippery rail, and for a load the journey and the book, read if their layout
+/// is right.
 pub fn call_in_words(call: &Call) -> Vec<String> {
-    let event = read_event(&call.event).map_or(format!("bytes {}", hex(&call.event)), event_in_words);
-    let mut lines = vec![event];
+    let event = read_event(&call.event);
+    let mut lines = vec![event.map_or(format!("bytes {}", hex(&call.event)), event_in_words)];
+    if event == Ok(Event::Adhesion) {
+        lines.extend(rows_in_words(&rows_of(&call.event)).map(|row| format!("  {row}")));
+    }
     if !call.lends_profiles() {
         return lines;
     }
@@ -211,15 +225,24 @@ fn content_in_words(content: &Content, name: &dyn Fn(u32) -> String) -> String {
             format!("68 state {}: {}", STATES[usize::from(state)], lacking(conditions))
         }
         Content::Traction(content) => format!("61 traction and brakes requested: {}", traction_in_words(&content)),
+        Content::Adhesion(ref rows) => match rows.len() {
+            1 => "64 slippery rail: 1 row".into(),
+            count => format!("64 slippery rail: {count} rows"),
+        },
     }
 }
 
-/// A packet given by its bytes, in words: its content and, in brackets, its header.
+/// A packet given by its bytes, in words: its content, rows in lines of their own, and, in brackets, its header.
 pub fn packet_lines(bytes: &[u8], name: &dyn Fn(u32) -> String) -> Vec<String> {
     match Packet::read(bytes) {
         Err(number) => vec![format!("{} refused by {number}", hex(bytes))],
-        Ok(packet) => {
-            vec![content_in_words(&packet.content, name), format!("[{}]", header_in_words(&packet.header))]
+        Ok(Packet { header, content }) => {
+            let mut lines = vec![content_in_words(&content, name)];
+            if let Content::Adhesion(rows) = &content {
+                lines.extend(rows_in_words(rows));
+            }
+            lines.push(format!("[{}]", header_in_words(&header)));
+            lines
         }
     }
 }

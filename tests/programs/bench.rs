@@ -2,7 +2,7 @@
 //! information: `copies` has the bounds.
 
 use inputs::profiles::Profiles;
-use inputs::rows::{at, engaged, on, ready, rows, traction, Row};
+use inputs::rows::{at, engaged, most_rows, on, ready, rows, traction, Row};
 use inputs::sizes::{largest, profiles};
 use model::calls::{Call, MEMORY};
 use model::engine::{Answer, Engine, Refused};
@@ -106,12 +106,12 @@ impl Bench {
         let mut model = Engine::fresh();
         let mut out = [0; MEMORY];
         let mut written = Vec::new();
-        for call in [engaged(&largest(), 0), vec![traction(), at(39, 9_000, 100)]].concat() {
+        for call in [engaged(&largest(), 0), vec![traction(), most_rows(), at(39, 9_000, 100)]].concat() {
             let answer = model.call(&call, &mut out).unwrap();
             written.extend_from_slice(&out[..answer.bytes]);
         }
         println!("\n{:36} answer   proved    model   ratio", "packets read");
-        for number in [61, 62, 65, 68] {
+        for number in [61, 62, 64, 65, 68] {
             let packet = split_packets(&written).into_iter().find(|packet| packet[0] == number).unwrap();
             assert!(read(packet).accepted && Packet::read(packet).is_ok());
             let proved = self.timer.time(&(), |()| read(black_box(packet)));

@@ -9,7 +9,7 @@ use std::collections::{BTreeMap, BTreeSet};
 use std::fmt::Debug;
 
 /// Constants of the header by the beginning of their names, the crate that has them, and how they begin there.
-const CONSTANTS: [(&str, &str, &str); 17] = [
+const CONSTANTS: [(&str, &str, &str); 18] = [
     ("VERSION_", "host", ""),
     ("KIND_", "event", ""),
     ("STATUS_", "packets", ""),
@@ -27,10 +27,18 @@ const CONSTANTS: [(&str, &str, &str); 17] = [
     ("RECORDS_MOST", "engine_value", "MAX_SEGMENTS"),
     ("RECORD_POINTS_MOST", "segment_record", "MAX_RECORD_POINTS"),
     ("ZONES_MOST", "engine_value", "MAX_ZONES"),
+    ("CONSTRAINTS_MOST", "adhesion", "MAX_CONSTRAINTS"),
 ];
 /// Structs of the header and the crate that has them.
-const STRUCTS: [(&str, &str); 4] =
-    [("Answer", "host"), ("Shown", "call"), ("Header", "packets"), ("PacketFields", "packet_fields")];
+const STRUCTS: [(&str, &str); 5] = [
+    ("Answer", "host"),
+    ("Shown", "call"),
+    ("Header", "packets"),
+    ("PacketFields", "packet_fields"),
+    ("Constraint", "adhesion"),
+];
+/// A struct of the proved code that the header has by another name.
+const RENAMED: (&str, &str) = ("TemporaryConstraint", "Constraint");
 /// Constants of the header that the proved code has as definitions: the file, how the line begins, and what stands before
 /// the number at its end.
 const STATED: [(&str, &str, &str, &str); 2] = [
@@ -113,12 +121,14 @@ impl Differences {
     }
 }
 
-/// The crate's file and what it declares; it may count by the constants of `engine_value`.
+/// The crate's file and what it declares; it may count by the constants of `adhesion` and `engine_value` and have
+/// their structs.
 fn read_crate(name: &str) -> (String, Declared) {
-    let [engine_value, path] = ["engine_value", name].map(|name| format!("crates/{name}/src/lib.rt"));
-    let constants = Declared::read(&engine_value).constants;
-    let declared = Declared { constants, ..Declared::default() }.and_read(&path);
-    (path, declared)
+    let path = |name: &str| format!("crates/{name}/src/lib.rt");
+    let others = ["adhesion", "engine_value"].into_iter().filter(|&other| other != name);
+    let declared = others.chain([name]).fold(Declared::default(), |declared, name| declared.and_read(&path(name)));
+    let (from, to) = RENAMED;
+    (path(name), declared.renamed(from, to))
 }
 
 fn main() {

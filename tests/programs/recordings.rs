@@ -69,8 +69,7 @@ fn check_fields(packet: &[u8]) -> Result<(), String> {
     if read.accepted != packets::Packet::read(packet).is_ok() || read.accepted != in_range {
         return Err(format!("{packet:02X?}: read {}, in range {in_range}", read.accepted));
     }
-    let mut told = fields(packet[0]).into_iter().flatten();
-    match told.find(|field| read.accepted && (field.read)(&read) != field.value(packet)) {
+    match fields(packet).find(|field| read.accepted && field.read(packet, &read) != field.value(packet)) {
         Some(field) => Err(format!("{packet:02X?}: {}", field.name)),
         None => Ok(()),
     }
@@ -179,7 +178,7 @@ fn try_list(seed: u64) -> Result<usize, String> {
     for turn in (0..turns).map(|k| seed as usize * TURNS + k) {
         for trial in damaged(&packets, turn) {
             trial.check(&run, &packets)?;
-            let is_packet = |piece: &&&[u8]| size_of(piece[0]) == Some(piece.len());
+            let is_packet = |piece: &&&[u8]| size_of(piece) == Some(piece.len());
             pieces(&trial.recording).iter().filter(is_packet).try_for_each(|piece| check_fields(piece))?;
         }
     }

@@ -1,16 +1,17 @@
 //! `soak STATE COUNT PROGRAM`: guided random lists against the model, through the C interface, until so many calls have
 //! agreed. The packets that each call wrote are read by both readers, also cut, longer and changed; before all that, a
-//! packet 68 with each of the 65,536 words.
+//! packet 68 with each of the 65,536 words, a packet 64 with each count, and the stored edges.
 //! STATE holds what has agreed so far: lists, calls, packets read and refused; the next run goes on from there. PROGRAM
 //! is a digest of this very program, with the library, the model and the lists in it: what another one did counts for
 //! nothing.
 
+use inputs::edges::all_edges;
 use inputs::lists::new_list;
 use model::calls::Call;
 use model::engine::written;
 use model::words::call_in_words;
 use proved::pair::{Memory, Pair};
-use proved::reading::{try_packets, try_words, Readings};
+use proved::reading::{try_counts, try_packets, try_words, Readings};
 
 /// The seed of list 0, far from those of `tests/run`.
 const SEED: u64 = 1_000_000_000;
@@ -73,7 +74,7 @@ fn try_call(pair: &mut Pair, call: &Call, memory: &mut Memory, turn: usize, done
     let before = (turn % SHORT == 0).then(|| pair.clone());
     let answer = pair.call(call, memory)?;
     if !pair.proved.shows(&pair.model) {
-        return Err("state, request, conditions or standings differ".into());
+        return Err("state, request, conditions, standings or rows differ".into());
     }
     done.calls += 1;
     let written = &memory.proved[..written(answer)];
@@ -86,17 +87,30 @@ fn try_call(pair: &mut Pair, call: &Call, memory: &mut Memory, turn: usize, done
     try_packets(written, 1 + (turn % 255) as u8, &mut done.readings)
 }
 
-/// What is done with one more list.
-fn try_list(mut done: Done, memory: &mut Memory) -> Result<Done, String> {
+/// The calls from fresh engines on; `first` is the turn of the first.
+fn try_calls(calls: Vec<Call>, memory: &mut Memory, first: usize, done: &mut Done) -> Result<(), String> {
     let mut pair = Pair::fresh();
-    let seed = SEED + done.lists;
-    for (k, call) in new_list(seed).into_iter().map(exact).enumerate() {
-        let turn = k + done.lists as usize;
-        try_call(&mut pair, &call, memory, turn, &mut done).map_err(|difference| {
+    for (k, call) in calls.into_iter().map(exact).enumerate() {
+        try_call(&mut pair, &call, memory, first + k, done).map_err(|difference| {
             let call = call_in_words(&call).join("\n  ");
-            format!("list of seed {seed}, call {k}: {difference}\n  {call}")
+            format!("call {k}: {difference}\n  {call}")
         })?;
     }
+    Ok(())
+}
+
+/// How many calls that took.
+fn try_edges() -> Result<u64, String> {
+    let mut done = Done::default();
+    let tried = try_calls(all_edges(), &mut Memory::new(), 0, &mut done);
+    tried.map(|()| done.calls).map_err(|difference| format!("edges, {difference}"))
+}
+
+/// What is done with one more list.
+fn try_list(mut done: Done, memory: &mut Memory) -> Result<Done, String> {
+    let (seed, first) = (SEED + done.lists, done.lists as usize);
+    let tried = try_calls(new_list(seed), memory, first, &mut done);
+    tried.map_err(|difference| format!("list of seed {seed}, {difference}"))?;
     done.lists += 1;
     Ok(done)
 }
@@ -121,6 +135,9 @@ fn run(state: &State, count: u64) -> Result<(), String> {
     let before = state.read()?;
     let [read, _, _, beyond] = try_words()?;
     println!("every word of packet 68: {read} read alike, {beyond} refused by 19");
+    let [read, short, _, beyond] = try_counts()?;
+    println!("every count of packet 64: {read} read alike, {short} refused by 17, {beyond} by 19");
+    println!("the stored edges: {} calls agree", try_edges()?);
     let done = try_lists(state, before, count)?;
     let (lists, calls) = (done.lists - before.lists, done.calls - before.calls);
     if before.calls > 0 {

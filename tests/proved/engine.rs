@@ -1,6 +1,7 @@
 //! The proved engine, called and answering as the model is and does.
 
-use crate::hollwern::{self, Shown};
+use crate::hollwern::{self, Constraint, Shown};
+use model::adhesion::{self, CONSTRAINTS_MOST};
 use model::calls::Call;
 use model::engine::{Answer, Engine, Refused};
 
@@ -35,7 +36,7 @@ impl Proved {
         }
     }
 
-    /// State, request, conditions and the standing of every point are the model's.
+    /// State, request, conditions, the standing of every point and every row are the model's.
     pub fn shows(&self, model: &Engine) -> bool {
         let now = &model.now;
         let mut standings = [0; 64];
@@ -45,6 +46,22 @@ impl Proved {
             point_count += 1;
         }
         let (state, request, conditions) = (now.state, now.request, now.conditions);
-        self.0.show() == Shown { state, request, conditions, point_count, standings }
+        let constraint_count = model.constraints.len() as u8;
+        let shown = Shown { state, request, conditions, point_count, standings, constraint_count };
+        let row = |k: usize| self.0.show_constraint(k) == constraint(&model.constraints, k);
+        self.0.show() == shown && row_indices().all(row)
     }
+}
+
+/// Those of all rows that there can be, and some beyond.
+pub fn row_indices() -> impl Iterator<Item = usize> {
+    (0..=CONSTRAINTS_MOST).chain([256, usize::MAX])
+}
+
+/// A row of the model's as the C interface must hand it over: blank where there is none.
+pub fn constraint(rows: &[adhesion::Constraint], k: usize) -> Constraint {
+    rows.get(k).map_or(Constraint::default(), |row| {
+        let &adhesion::Constraint { nidc, nidsp, category, range, start, end } = row;
+        Constraint { nidsp, start, end, nidc, category, range }
+    })
 }

@@ -1,7 +1,9 @@
 //! The proved packet reader beside the model's: every string of bytes must be read or refused, and cut, alike.
 
-use crate::hollwern::{front_size, packets as cut, read, Header, PacketFields};
-use model::packets::{self, size_of_number, split_packets, Content, Packet, TractionBrake, SIZE_68};
+use crate::engine::{constraint, row_indices};
+use crate::hollwern::{front_size, packets as cut, read, read_constraint, Header, PacketFields};
+use model::adhesion::{self, CONSTRAINTS_MOST, ROW};
+use model::packets::{self, size_64, split_packets, told_size, Content, Packet, TractionBrake, SIZE_68};
 
 /// How many strings were read, and how many refused by 17, 18 and 19.
 pub type Readings = [u64; 4];
@@ -27,13 +29,33 @@ fn expected(bytes: &[u8]) -> PacketFields {
             let TractionBrake { m_ato_trabrrq, m_ato_locobrrq, q_ato_suptb, m_ato_rtbrq } = content;
             PacketFields { m_ato_trabrrq, m_ato_locobrrq, q_ato_suptb, m_ato_rtbrq, ..read(61) }
         }
+        Content::Adhesion(ref rows) => PacketFields { constraint_count: rows.len() as u8, ..read(64) },
     }
+}
+
+/// The rows that the model reads: none where it refuses the bytes or they are another packet.
+fn read_rows(bytes: &[u8]) -> Vec<adhesion::Constraint> {
+    match Packet::read(bytes).map(|packet| packet.content) {
+        Ok(Content::Adhesion(rows)) => rows,
+        _ => Vec::new(),
+    }
+}
+
+/// The rows with these indices. An error says what differs.
+fn try_rows(bytes: &[u8], indices: impl IntoIterator<Item = usize>) -> Result<(), String> {
+    let rows = read_rows(bytes);
+    for k in indices {
+        let (expected, found) = (constraint(&rows, k), read_constraint(bytes, k));
+        if found != expected {
+            return Err(format!("{bytes:02X?}: row {k} is {expected:?} to the model, {found:?} to the proved reader"));
+        }
+    }
+    Ok(())
 }
 
 /// The bytes of the packet in front, by the model's sizes.
 fn expected_front(bytes: &[u8]) -> usize {
-    let size = bytes.first().and_then(|&number| size_of_number(number));
-    size.unwrap_or(bytes.len()).min(bytes.len())
+    told_size(bytes).unwrap_or(bytes.len()).min(bytes.len())
 }
 
 /// The packet cut to every length and whole, longer by a byte, and with each of its bytes raised by `step`.
@@ -49,7 +71,7 @@ fn strings(packet: &[u8], step: u8) -> Vec<Box<[u8]>> {
     cut.chain([longer]).chain(changed).collect()
 }
 
-/// One string of bytes. An error says what differs.
+/// One string of bytes, and of a 64 a row, each in turn. An error says what differs.
 fn try_string(bytes: &[u8], readings: &mut Readings) -> Result<(), String> {
     let (expected, found) = (expected(bytes), read(bytes));
     if found != expected {
@@ -60,7 +82,8 @@ fn try_string(bytes: &[u8], readings: &mut Readings) -> Result<(), String> {
         return Err(format!("{bytes:02X?}: a packet of {expected} bytes in front, not {found_front}"));
     }
     readings[usize::from(found.number.saturating_sub(16))] += 1;
-    Ok(())
+    let turn = readings.iter().sum::<u64>() as usize;
+    try_rows(bytes, (bytes.first() == Some(&64)).then_some(turn % (CONSTRAINTS_MOST + 1)))
 }
 
 /// Packet 68 with each of the 65,536 words, its header 0.
@@ -75,7 +98,22 @@ pub fn try_words() -> Result<Readings, String> {
     Ok(readings)
 }
 
-/// The packets that a call wrote and the strings made of each. An error says what differs.
+/// Packet 64 with each of the 256 counts, all else 0: of fitting length, and a byte and a row less and more.
+pub fn try_counts() -> Result<Readings, String> {
+    let mut readings = Readings::default();
+    for count in 0..=u8::MAX {
+        let size = size_64(count.into());
+        for size in [size, size - 1, size + 1, size - ROW, size + ROW] {
+            let mut bytes = vec![0; size];
+            bytes[0] = 64;
+            bytes.iter_mut().skip(17).take(1).for_each(|byte| *byte = count);
+            try_string(&bytes, &mut readings)?;
+        }
+    }
+    Ok(readings)
+}
+
+/// The packets that a call wrote, with all rows, and the strings made of each. An error says what differs.
 pub fn try_packets(written: &[u8], step: u8, readings: &mut Readings) -> Result<(), String> {
     let packets = split_packets(written);
     if !cut(written).eq(packets.iter().copied()) {
@@ -85,6 +123,7 @@ pub fn try_packets(written: &[u8], step: u8, readings: &mut Readings) -> Result<
         if !read(packet).accepted {
             return Err(format!("a written packet is not read: {packet:02X?}"));
         }
+        try_rows(packet, row_indices())?;
         for bytes in strings(packet, step) {
             try_string(&bytes, readings)?;
         }

@@ -40,7 +40,7 @@ text{font-family:'Liberation Sans',Arial,Helvetica,sans-serif;font-size:10px;fil
 .bar{fill:#fff}.freed{fill:#fff;stroke:#9f1239;stroke-width:2}
 .cross{stroke:#6b21a8;stroke-width:2.4}.ring{fill:#fff;stroke:#6b21a8;stroke-width:2}.trackside{fill:#6b21a8}
 .packet{stroke:#334155;stroke-width:.8;fill:#f1f5f9}.k61{fill:#fde68a;stroke-dasharray:3 2}
-.k62{fill:#bae6fd}.k65{fill:#fff;stroke-width:2}
+.k62{fill:#bae6fd}.k64{fill:#ddd6fe;stroke-dasharray:1 2}.k65{fill:#fff;stroke-width:2}
 .kind{font-size:9px;text-anchor:middle}.low{font-size:7px}.strong{font-size:11px;font-weight:700}
 .refusal{fill:#fff;stroke:#b91c1c;stroke-width:2}
 ";
@@ -75,7 +75,7 @@ pub fn patterns() -> String {
 /// A form and what it stands for.
 type Entry = (&'static str, fn(&mut Svg));
 
-const ENTRIES: [Entry; 20] = [
+const ENTRIES: [Entry; 21] = [
     ("front of the train, a dot at each report", |svg| {
         svg.polyline("way", &[(0.0, 12.0), (12.0, 6.0), (26.0, 6.0)]);
         svg.circle("front", 12.0, 6.0, 3.0);
@@ -104,11 +104,14 @@ const ENTRIES: [Entry; 20] = [
     ("62 skip revoked", |svg| draw_status(svg, 6, 13.0, 8.0)),
     ("62 skipped by trackside", |svg| draw_status(svg, 7, 13.0, 8.0)),
     ("62 trackside skip revoked", |svg| draw_status(svg, 8, 13.0, 8.0)),
-    ("61 traction request, another range or SupTB", |svg| {
-        svg.rect("packet k61", 1.0, 1.0, 24.0, 14.0);
-        svg.text("kind", 13.0, 11.0, "61");
-    }),
+    ("61 traction request, another range or SupTB", |svg| draw_packet(svg, "61")),
+    ("64 rows of slippery rail", |svg| draw_packet(svg, "64")),
 ];
+
+fn draw_packet(svg: &mut Svg, number: &str) {
+    svg.rect(&format!("packet k{number}"), 1.0, 1.0, 24.0, 14.0);
+    svg.text("kind", 13.0, 11.0, number);
+}
 
 const ENTRY: f64 = 280.0;
 

@@ -7,10 +7,10 @@ use model::reasons::reason;
 use model::words::{packet_in_words, place_of_number};
 use proved::hollwern::{self, Engine, PacketFields, Shown};
 use std::ops::Range;
+use tools::brought::brought_in_words;
 use tools::language::{Scenario, Step};
 use tools::points::points_in_words;
 use tools::story::StepNames;
-use tools::traction::request_in_words;
 
 /// What the latest accepted events since power off that carry them say, else fresh.
 #[derive(Clone, Copy, PartialEq)]
@@ -81,8 +81,8 @@ pub struct Moment {
     pub later: bool,
     pub refused: Option<Refusal>,
     pub shown: Shown,
-    /// Of a traction request, its range.
-    pub traction: String,
+    /// Of a traction request its range, of slippery rail how many rows.
+    pub brought: String,
     /// The points that it passed or put behind, and the one that is targeted or reached.
     pub points: String,
     pub reported: Reported,
@@ -110,7 +110,7 @@ impl Ride {
         let (mut reported, mut skips, mut model) = (Reported::FRESH, Vec::new(), model::engine::Engine::fresh());
         for step in steps {
             let mut out = [0; MEMORY];
-            let (reason, traction) = told(&mut model, step, &StepNames::of(scenario, ride.journey(), step));
+            let (reason, brought) = told(&mut model, step, &StepNames::of(scenario, ride.journey(), step));
             let answer = engine.step(&step.call.event, &step.call.journey, &step.call.book, &mut out);
             (reported.now, reported.request) = (false, None);
             let accepted = read_event(&step.call.event).ok().filter(|_| answer.accepted);
@@ -131,7 +131,7 @@ impl Ride {
                 later: false,
                 refused,
                 shown,
-                traction,
+                brought,
                 points: ride.points_in_words(&shown),
                 reported,
                 packets,
@@ -203,12 +203,12 @@ impl Ride {
     }
 }
 
-/// What the model says of a step: why it is refused; of a traction request, its range.
+/// What the model says of a step: why it is refused; of a traction request and of slippery rail, what comes of it.
 fn told(model: &mut model::engine::Engine, step: &Step, names: &StepNames) -> (String, String) {
-    let (reason, before) = (reason(model, &step.call, names), model.now);
+    let (reason, before) = (reason(model, &step.call, names), model.clone());
     let _ = model.call(&step.call, &mut [0; MEMORY]);
-    let traction = request_in_words(&step.call.event, &before, &model.now);
-    (reason.map_or(String::new(), |(_, reason)| reason), traction)
+    let brought = brought_in_words(&step.call.event, &before, model);
+    (reason.map_or(String::new(), |(_, reason)| reason), brought)
 }
 
 /// Driver skips as the packets tell of them: given by status 5, revoked by 6, cleared by a load and power off.

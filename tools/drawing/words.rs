@@ -103,7 +103,7 @@ pub fn answer_in_words(moment: &Moment) -> String {
     }
     let code = usize::from(moment.shown.state);
     let request = if moment.shown.request { "AD requested" } else { "AD not requested" };
-    format!("{} {}, {request}{}{}", STATES[code], STATE_NAMES[code], moment.traction, moment.points)
+    format!("{} {}, {request}{}{}", STATES[code], STATE_NAMES[code], moment.brought, moment.points)
 }
 
 /// All that holds after an event.

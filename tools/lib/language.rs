@@ -4,6 +4,7 @@
 
 use crate::line::{without_comment, Words};
 use crate::named::Named;
+use model::adhesion::Constraint;
 use model::calls::Call;
 use model::events::UNDEFINED;
 use model::packets::TractionBrake;
@@ -238,6 +239,7 @@ impl Scenario {
             "skip" => Call::skip(self.read_point_name(words)?),
             "revoke" => Call::revoke(self.read_point_name(words)?),
             "traction" => read_traction(words)?,
+            "slippery" => Call::adhesion(&self.read_slippery(words)?),
             _ => Call::of(read_bytes(words)?),
         })
     }
@@ -251,6 +253,26 @@ impl Scenario {
         let (nidc, nidsp) = self.segments.find(words.next("the segment")?)?.segment();
         let offset = if words.takes("undefined") { UNDEFINED } else { words.number("the offset")? };
         Ok(Call::position(nidc, nidsp, offset, words.value("speed")?))
+    }
+
+    /// The rows of slippery rail, or `none`.
+    fn read_slippery(&self, words: &mut Words) -> Result<Vec<Constraint>, String> {
+        let mut rows = Vec::new();
+        let mut another = words.choice(&["none", "on"])? == 1;
+        while another {
+            one_more(rows.len(), "rows of slippery rail")?;
+            rows.push(self.read_row(words)?);
+            another = words.takes("on");
+        }
+        Ok(rows)
+    }
+
+    /// A row of slippery rail, behind its `on`.
+    fn read_row(&self, words: &mut Words) -> Result<Constraint, String> {
+        let (nidc, nidsp) = self.segments.find(words.next("the segment")?)?.segment();
+        let (start, end) = (words.value("from")?, words.value("to")?);
+        let (category, range) = (words.optional("category")?, words.optional("range")?);
+        Ok(Constraint { nidc, nidsp, category, range, start, end })
     }
 
     /// The call, and the names of the journey and of the book that it brings, as they stand above.

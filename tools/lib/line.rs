@@ -3,7 +3,7 @@
 use model::words::grouped;
 
 /// Every line of a scenario by its first word.
-const FORMS: [(&str, &str); 22] = [
+const FORMS: [(&str, &str); 23] = [
     ("segment", "NAME NID_C n NID_SP n length n"),
     ("point", "NAME NID_TP n on SEGMENT at n [R n]"),
     ("zone", "on SEGMENT from n to n"),
@@ -25,6 +25,7 @@ const FORMS: [(&str, &str); 22] = [
     ("skip", "POINT"),
     ("revoke", "POINT"),
     ("traction", "n [trabrrq n] [locobrrq n] [suptb n] [rtbrq n]"),
+    ("slippery", "none, or on SEGMENT from n to n [category n] [range n] .."),
     ("bytes", "HEXADECIMAL .."),
 ];
 

@@ -24,6 +24,7 @@ pub fn row(number: u8) -> &'static str {
     match number {
         1..=16 => ROWS[usize::from(number) - 1],
         20 => "a press at a held stop",
+        21 => "a row of slippery rail starts behind its end",
         _ => "a number that no event gets",
     }
 }

@@ -2,9 +2,9 @@
 //! where each point stands and why a call is refused, and every answer must be its own too.
 
 use crate::answers::{read_answers, Answered};
+use crate::brought::brought_in_words;
 use crate::language::{Scenario, Step};
 use crate::points::points_in_words;
-use crate::traction::request_in_words;
 use model::calls::{write_lines, MEMORY};
 use model::engine::{written, Answer, Engine, Refused};
 use model::events::LOAD;
@@ -57,7 +57,7 @@ impl<'a> Story<'a> {
 
     fn tell_step(&mut self, step: &'a Step, answered: &Answered) -> Result<(), String> {
         let reason = reason(&self.model, &step.call, &StepNames::of(self.scenario, self.journey, step));
-        let (before, was) = (self.standings(), self.model.now);
+        let before = self.model.clone();
         let mut out = [0; MEMORY];
         let answer = self.model.call(&step.call, &mut out);
         let packets = split_packets(&out[..written(answer)]);
@@ -73,8 +73,9 @@ impl<'a> Story<'a> {
             Ok(answer) => {
                 self.accepted += 1;
                 self.note_journey(step);
-                let request = request_in_words(&step.call.event, &was, &self.model.now);
-                self.tell_answer(answer, &request, step.loads.is_none().then_some(&before[..]));
+                let brought = brought_in_words(&step.call.event, &before, &self.model);
+                let stood = standings(&before);
+                self.tell_answer(answer, &brought, step.loads.is_none().then_some(&stood[..]));
             }
         }
         packets.into_iter().for_each(|packet| self.tell_packet(packet));
@@ -90,22 +91,18 @@ impl<'a> Story<'a> {
         }
     }
 
-    /// `traction`: of a request; `before`: where the points stood, none for a load.
-    fn tell_answer(&mut self, answer: Answer, traction: &str, before: Option<&[u8]>) {
+    /// `brought`: of a traction request and of slippery rail; `stood`: where the points stood, none for a load.
+    fn tell_answer(&mut self, answer: Answer, brought: &str, stood: Option<&[u8]>) {
         let k = usize::from(answer.state);
         let first = !std::mem::replace(&mut self.known[k], true);
         let name = if first { format!(" ({})", STATE_NAMES[k]) } else { String::new() };
         let request = if answer.request { "AD requested" } else { "AD not requested" };
         let names = self.journey.map(|journey| self.scenario.point_names(journey));
-        let points = names.map_or(String::new(), |names| points_in_words(names, before, &self.standings()));
-        self.text += &format!("    {}{name}, {request}{traction}{points}\n", STATES[k]);
+        let points = names.map_or(String::new(), |names| points_in_words(names, stood, &standings(&self.model)));
+        self.text += &format!("    {}{name}, {request}{brought}{points}\n", STATES[k]);
         if first {
             self.text += &format!("        {}: the driver may {}\n", STATES[k], DRIVER[k][1]);
         }
-    }
-
-    fn standings(&self) -> Vec<u8> {
-        self.model.standings().map(|standing| standing as u8).collect()
     }
 
     fn tell_packet(&mut self, bytes: &[u8]) {
@@ -118,6 +115,10 @@ impl<'a> Story<'a> {
         self.text += &format!("    {}\n", hex(bytes));
         packet_lines(bytes, &name).iter().for_each(|line| self.text += &format!("        {line}\n"));
     }
+}
+
+fn standings(engine: &Engine) -> Vec<u8> {
+    engine.standings().map(|standing| standing as u8).collect()
 }
 
 fn difference(answered: &Answered, answer: Result<Answer, Refused>, out: &[u8]) -> String {

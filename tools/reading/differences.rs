@@ -95,9 +95,8 @@ fn other_size(must: &[u8], found: &[u8]) -> String {
 fn changed_bytes(at: usize, must: &[u8], found: &[u8]) -> String {
     let mut text = String::new();
     if must.len() == found.len() {
-        let known = fields(must[0]).into_iter().flatten();
-        let differing = known.filter(|field| field.value(must) != field.value(found));
-        differing.for_each(|field| text += &field_in_words(field, at, must, found));
+        let differing = fields(must).filter(|field| field.value(must) != field.value(found));
+        differing.for_each(|field| text += &field_in_words(&field, at, must, found));
     } else {
         text += &other_size(must, found);
     }

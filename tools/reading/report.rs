@@ -1,12 +1,12 @@
 //! What a recording says: every packet with its fields by name and in words, every refusal with its reason and where
 //! the reading goes on, and totals.
 
-use crate::layout::{fields, out_of_range, size_of, Field, BYTES_WIDTH};
+use crate::layout::{fields, out_of_range, rows, size_of, Field, BYTES_WIDTH};
 use crate::recording::{Answered, Entry, Item};
 use crate::words::{self, counted};
 use model::engine::written;
 use model::words::{hex, ALIGNMENTS};
-use proved::hollwern::{read, PacketFields};
+use proved::hollwern::{read, read_constraint, Constraint, PacketFields};
 use std::collections::BTreeMap;
 
 #[derive(Default)]
@@ -70,17 +70,17 @@ impl Table {
         format!("{:1$}{text}\n", "", self.bytes_width + 9)
     }
 
-    fn packet(&self, entry: &Entry, p: &PacketFields) -> String {
+    fn packet(&self, entry: &Entry, bytes: &[u8], p: &PacketFields) -> String {
         let heading = format!("{} {}, {} bytes", p.kind, words::packet_name(p.kind.into()), p.size);
         let mut text = format!("{}: packet {heading}\n", place(entry));
-        let mut group = "";
-        for field in fields(p.kind).into_iter().flatten() {
+        let mut group = String::new();
+        for field in fields(bytes) {
             if field.group() != group {
                 group = field.group();
-                text += &self.line(group);
+                text += &self.line(&group);
             }
-            let value = (field.read)(p);
-            text += &self.row(field, entry.at, value, &(field.words)(value));
+            let value = field.read(bytes, p);
+            text += &self.row(&field, entry.at, value, &(field.words)(value));
             if field.name == "M_ATO_OPERATIONAL_CONDITIONS" {
                 words::each_condition(value).iter().for_each(|line| text += &self.line(&format!("  {line}")));
             }
@@ -96,7 +96,7 @@ impl Table {
         let number = read(bytes).number;
         if number == 19 {
             let wrong = out_of_range(bytes);
-            let row = |field: &&Field| self.row(field, entry.at, field.value(bytes), &range_in_words(field, bytes));
+            let row = |field: &Field| self.row(field, entry.at, field.value(bytes), &range_in_words(field, bytes));
             text.extend(wrong.iter().map(row));
             if wrong.is_empty() {
                 text += "  the reader refuses it, though every field is in the range that is known here\n";
@@ -106,8 +106,14 @@ impl Table {
     }
 }
 
+/// A row of slippery rail.
+fn constraint_in_words(row: Constraint) -> String {
+    let Constraint { nidsp, start, end, nidc, category, range } = row;
+    format!("NID_C {nidc} NID_SP {nidsp} from {start} to {end}, category {category}, range {range}")
+}
+
 /// The content of a packet in one line.
-fn content_in_words(p: &PacketFields) -> String {
+fn content_in_words(bytes: &[u8], p: &PacketFields) -> String {
     match p.kind {
         61 => {
             let brakes = format!("M_ATO_TraBrRq {} M_ATO_LocoBrRq {}", p.m_ato_trabrrq, p.m_ato_locobrrq);
@@ -117,6 +123,11 @@ fn content_in_words(p: &PacketFields) -> String {
             let end = if p.q_eoj_reached == 0 { "EoJ reached" } else { "EoJ not reached" };
             let (status, alignment) = (words::status(p.status.into()), ALIGNMENTS[usize::from(p.alignment)]);
             format!("NID_C {} NID_TP {}: {status}; {end}; {alignment}; data {:02X}", p.nidc, p.nidtp, p.stopping)
+        }
+        64 if p.constraint_count == 0 => words::constraints(0),
+        64 => {
+            let rows = (0..rows(bytes)).map(|k| constraint_in_words(read_constraint(bytes, k)));
+            rows.collect::<Vec<_>>().join("; ")
         }
         65 => {
             let (nidc, atots, rest) = (p.nidc, p.atots, format!("seconds {}, counter {}", p.seconds, p.counter));
@@ -129,9 +140,10 @@ fn content_in_words(p: &PacketFields) -> String {
     }
 }
 
-fn packet_in_brief(entry: &Entry, p: &PacketFields) -> String {
+fn packet_in_brief(entry: &Entry, bytes: &[u8], p: &PacketFields) -> String {
     let line = entry.line.map_or(String::new(), |line| format!("line {line:<6}"));
-    format!("{:>8}  {line}{} {:<12}  {}\n", entry.at, p.kind, words::packet_name(p.kind.into()), content_in_words(p))
+    let (name, content) = (words::packet_name(p.kind.into()), content_in_words(bytes, p));
+    format!("{:>8}  {line}{} {name:<12}  {content}\n", entry.at, p.kind)
 }
 
 /// Why the reader refuses these bytes.
@@ -139,13 +151,17 @@ pub fn reason(bytes: &[u8]) -> String {
     let named = |number: u8| format!("{number} {}", words::packet_name(number.into()));
     match (read(bytes).number, bytes.first()) {
         (17, Some(&number)) => {
-            let size = size_of(number).unwrap_or(0);
+            let size = size_of(bytes).unwrap_or(0);
             let what = if bytes.len() < size { "cut short" } else { "too long" };
             let there = counted(bytes.len(), "is", "are");
-            format!("17, {what}: packet {} has {size} bytes, {there} there", named(number))
+            let with = match rows(bytes) {
+                0 => String::new(),
+                rows => format!(" of {}", counted(rows, "row", "rows")),
+            };
+            format!("17, {what}: packet {}{with} has {size} bytes, {there} there", named(number))
         }
         (17, None) => "17, empty".into(),
-        (18, Some(&number)) => format!("18, another number than 61, 62, 65, 68: {}", named(number)),
+        (18, Some(&number)) => format!("18, another number than 61, 62, 64, 65, 68: {}", named(number)),
         (19, Some(&number)) => format!("19, value out of range in packet {}", named(number)),
         (number, _) => format!("{number}"),
     }
@@ -168,15 +184,17 @@ fn bytes_in_brief(bytes: &[u8]) -> String {
         return format!("refused by {}\n    {}", reason(bytes), hex_of_front(bytes));
     }
     let name = words::packet_name(packet.kind.into());
-    format!("{} {name}: {}\n    {}", packet.kind, content_in_words(&packet), hex(bytes))
+    format!("{} {name}: {}\n    {}", packet.kind, content_in_words(bytes, &packet), hex(bytes))
 }
 
 /// What is wrong with a value.
 fn range_in_words(field: &Field, bytes: &[u8]) -> String {
+    let group = field.group();
     match (field.highest_in(bytes), field.highest) {
-        (0, 0) => format!("must be 0, {}", field.group()),
-        (0, _) => "must be 0 unless Q_TP_STATUS is 1".into(),
-        (highest, _) => format!("out of range 0 to {highest}, {}", field.group()),
+        (0, 0) => format!("must be 0, {group}"),
+        (highest, most) if highest == most => format!("out of range 0 to {highest}, {group}"),
+        (highest, _) if field.is_in_row() => format!("must not exceed its end, {highest}, {group}"),
+        _ => "must be 0 unless Q_TP_STATUS is 1".into(),
     }
 }
 
@@ -271,9 +289,9 @@ impl Report {
         *self.packets.entry(packet.kind).or_default() += 1;
         self.bytes_read += bytes.len();
         if self.brief {
-            packet_in_brief(entry, &packet)
+            packet_in_brief(entry, bytes, &packet)
         } else {
-            self.table.packet(entry, &packet)
+            self.table.packet(entry, bytes, &packet)
         }
     }
 

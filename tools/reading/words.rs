@@ -78,11 +78,15 @@ pub fn segment(_: u32) -> String {
 }
 
 /// Centimetres as metres.
+fn metres(value: u32) -> String {
+    format!("cm, {}.{:02} m", value / 100, value % 100)
+}
+
 pub fn offset(value: u32) -> String {
     if value == UNDEFINED {
         "Undefined Location".into()
     } else {
-        format!("cm, {}.{:02} m from the beginning of the SP", value / 100, value % 100)
+        metres(value) + " from the beginning of the SP"
     }
 }
 
@@ -117,6 +121,24 @@ pub fn bits(value: u32) -> String {
 /// Two bytes that are an INT16.
 pub fn signed(value: u32) -> String {
     format!("as an INT16 {}; see SUBSET-139 7.3.1", value as u16 as i16)
+}
+
+/// How many rows of slippery rail.
+pub fn constraints(count: u32) -> String {
+    match count {
+        0 => "no reduced adhesion conditions announced".into(),
+        1..=31 => "iterations of Temporary Constraints".into(),
+        _ => "spare".into(),
+    }
+}
+
+/// Of a row, what SUBSET-126 sets.
+pub fn constraint(_: u32) -> String {
+    "see SUBSET-126 7.3.6.2".into()
+}
+
+pub fn location(value: u32) -> String {
+    metres(value) + "; see SUBSET-126 7.3.6.2"
 }
 
 pub fn timing_point(value: u32) -> String {

@@ -24,12 +24,12 @@ use Rattle.states.specs.ControlGroup.{control_after}
 use Rattle.layout.specs.Layout.{bytes, values_at}
 use Rattle.packets.specs.Packets.{value_bytes}
 use Rattle.engine_value.specs.declared.Engine.{Engine}
-use Rattle.call_values.specs.Packets.{timing_point, jp_received, ato_status, status_due, traction_brake, packets_of, jp_turned_down, packets_refused}
+use Rattle.call_values.specs.Packets.{timing_point, jp_received, ato_status, status_due, traction_brake, adhesion_system, packets_of, jp_turned_down, packets_refused}
 use Rattle.call_values.specs.Rows.{offset_beyond}
 use Rattle.call.specs.Effect.{position_effect, load_effect, skip_effect, effect}
 use Rattle.call_values.specs.Call.{Call}
 use Rattle.call.specs.Call.{Outcome, conditions_in, judge, judged, outcome_of, step_of}
 
 unfoldable pub computed : Engine → Call → Outcome
-unfolding number bytes_of field bit_map optional many counted listed values_at event_rows event_with content_among event_of_kind event_of book_point zone_record segment_record records book_of name_record point_record head_record journey_record placed_at start_at segment_of point_of checked journey_of route_of load_of front beyond at_stop leaves target_from target looked reported passings stop_named first_ahead conditions power_rows state_row held_stop hold_row hold_ended status_told each_told machine_after control_after bytes value_bytes timing_point jp_received ato_status status_due traction_brake packets_of jp_turned_down packets_refused offset_beyond position_effect load_effect skip_effect effect conditions_in judge judged outcome_of step_of
+unfolding number bytes_of field bit_map optional many counted listed values_at event_rows event_with content_among event_of_kind event_of book_point zone_record segment_record records book_of name_record point_record head_record journey_record placed_at start_at segment_of point_of checked journey_of route_of load_of front beyond at_stop leaves target_from target looked reported passings stop_named first_ahead conditions power_rows state_row held_stop hold_row hold_ended status_told each_told machine_after control_after bytes value_bytes timing_point jp_received ato_status status_due traction_brake adhesion_system packets_of jp_turned_down packets_refused offset_beyond position_effect load_effect skip_effect effect conditions_in judge judged outcome_of step_of
 computed e c = step_of e c

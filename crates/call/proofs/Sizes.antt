@@ -19,12 +19,17 @@ use Rattle.engine_value.specs.declared.Progress.{Progress}
 use Rattle.engine_value.specs.declared.Engine.{Engine}
 use Rattle.event.specs.declared.TractionRequest.{TractionRequest}
 use Rattle.event.specs.Event.{Event}
-use Rattle.event.proofs.Known.{OfTraction, traction-of}
+use Rattle.event.proofs.Known.{OfTraction, traction-of, OfConstraints, constraints-of}
+use Rattle.event.specs.Events.{event_of}
+use Rattle.event.proofs.Accepted.{Fits, event-fits}
+use Rattle.event.proofs.Adhesion.{rows-fit}
+use Rattle.adhesion.specs.declared.TemporaryConstraint.{TemporaryConstraint}
 use Rattle.event.specs.Kinds.{Role, off, load, report, other, skip, Carried, role_of, carried}
 use Rattle.packets.specs.Packets.{packet_bytes, joined}
 use Rattle.packets.specs.declared.Requested.{Requested}
 use Rattle.status_word.specs.declared.OperationalConditions.{OperationalConditions}
-use Rattle.packets.proofs.PacketLaws.{length-packet_bytes, length-joined, length-one}
+use Rattle.packets.specs.Packet.{Packet}
+use Rattle.packets.proofs.PacketLaws.{length-packet_bytes, length-joined, length-one, size_64 as size_of_rows}
 use Rattle.journey.specs.declared.Head.{Head}
 use Rattle.route.specs.Route.{LoadValue, load_of}
 use Rattle.position.specs.Position.{point, point_count, placed, known}
@@ -35,7 +40,7 @@ use Rattle.timing.specs.Changes.{Change, change, passings, when, stopped_at, cha
 use Rattle.position.specs.Standing.{standing, behind}
 use Rattle.position.specs.declared.Stop.{Stop}
 use Rattle.timing.proofs.Steps.{reported_stays, reported_departs, reported_looks}
-use Rattle.call_values.specs.Packets.{PointChange, timing_point, jp_received, ato_status, received, traction_brake, traction_brakes, status_due, packets_of}
+use Rattle.call_values.specs.Packets.{PointChange, timing_point, jp_received, ato_status, received, header, traction_brake, traction_brakes, adhesion_system, adhesion_systems, status_due, packets_of}
 use Rattle.state_codes.specs.Codes.{state_at}
 use Rattle.traction.specs.Requests.{written_content}
 use Rattle.traction.specs.View.{remembered_in}
@@ -168,11 +173,12 @@ small e journey book event = go (role_of event) refl
     go other q = omega arith
     go (skip t on) q = small-skip e c on (look_up e event).stop
 
--- a traction request changes no point and loads nothing
-request-small : (e : Engine) (journey book : List ℕ) (x : TractionRequest) (f : Effect) → effect e journey book (Event.Traction x) ≡ accept f → effect_bytes f ≡ 0
+-- an event that only brings values changes no point and loads nothing
+values-small : (e : Engine) (journey book : List ℕ) (event : Event) (f : Effect) → role_of event ≡ other → effect e journey book event ≡ accept f → effect_bytes f ≡ 0
 unfolding effect
-request-small e journey book x f q =
-    let z : values_only e (carried (Event.Traction x)) ≡ f = cc in
+values-small e journey book event f r q =
+    let same : accept (values_only e (carried event)) ≡ accept f = ap (λ (r : Role). effect_as r e (carried event) (look_up e event) journey book) (sym r) ∙ q in
+    let z : values_only e (carried event) ≡ f = cc in
     ap effect_bytes (sym z)
 
 -- ---- the packets
@@ -198,37 +204,61 @@ module _ (j : Route) (x : Position) where
   size_61 None = omega arith
   size_61 (Some r) = omega (arith, length-one (traction_brake j x r) 22 refl)
 
+  size_64 : (rows : List TemporaryConstraint) → length rows ≤ 31 → length (joined (adhesion_systems j x (Some rows))) ≤ 514
+  unfolding adhesion_system
+  size_64 rows h = omega (arith, length-one (adhesion_system j x rows) (18 + length rows * 16) (size_of_rows (header j x) rows))
+
 length-changes : (m : Engine) (o : Option Point) (changes : List Change) → length (changes_in m o changes) ≡ ended o + length changes
 length-changes m None changes = omega (arith, length-map changes (change_in (route_in m)))
 length-changes m (Some p) changes = omega (arith, length-map changes (change_in (route_in m)))
 
--- only a request writes a packet of its own
-own_none : (e : Engine) (event : Event) (m : Engine) → (carried event).traction ≡ None → length (joined (own_packets e event m)) ≡ 0
-own_none e event m q =
-    ap (λ (o : Option Requested). length (joined (traction_brakes (route_in m) m.train.position o)))
-    (not_written (state_at e.control.state) event (remembered_in e.traction) (remembered_in m.traction) q)
+-- only a request writes a packet 61, only slippery rail a packet 64
+module _ (e : Engine) (event : Event) (m : Engine) where
+  abbrev brakes : List Packet
+  brakes = traction_brakes (route_in m) m.train.position (written_content (state_at e.control.state) event (remembered_in e.traction) (remembered_in m.traction))
 
--- all but packet 68
-with_own : (e : Engine) (journey book : List ℕ) (event : Event) (f : Effect) (m : Engine) → effect e journey book event ≡ accept f
-    → effect_bytes f + length (joined (own_packets e event m)) ≤ 1654
-with_own e journey book event f m q = go (carried event).traction refl (traction-of event)
-  where
-    go : (o : Option TractionRequest) → (carried event).traction ≡ o → OfTraction o event → effect_bytes f + length (joined (own_packets e event m)) ≤ 1654
-    go None p k =
-        let h : effect_bytes f ≤ 1654 = subst Small q (small e journey book event) in
-        omega (arith, h, own_none e event m p)
-    go (Some x) p k =
-        let z = request-small e journey book x f (subst (λ (v : Event). effect e journey book v ≡ accept f) k q) in
-        omega (arith, z, size_61 (route_in m) m.train.position (written_content (state_at e.control.state) event (remembered_in e.traction) (remembered_in m.traction)))
+  abbrev slippery : List Packet
+  slippery = adhesion_systems (route_in m) m.train.position (carried event).constraints
+
+  no_brakes : (carried event).traction ≡ None → length (joined brakes) ≡ 0
+  no_brakes q =
+      ap (λ (o : Option Requested). length (joined (traction_brakes (route_in m) m.train.position o)))
+      (not_written (state_at e.control.state) event (remembered_in e.traction) (remembered_in m.traction) q)
+
+  -- all but packet 68
+  with_own : (bytes journey book : List ℕ) (f : Effect) → event_of bytes ≡ accept event → effect e journey book event ≡ accept f
+      → effect_bytes f + length (joined (own_packets e event m)) ≤ 1654
+  with_own bytes journey book f read q =
+      let both = length-joined brakes slippery in
+      go (carried event).constraints refl (constraints-of event) (carried event).traction refl (traction-of event) both
+    where
+      go : (r : Option (List TemporaryConstraint)) → (carried event).constraints ≡ r → OfConstraints r event
+          → (o : Option TractionRequest) → (carried event).traction ≡ o → OfTraction o event
+          → length (joined (own_packets e event m)) ≡ length (joined brakes) + length (joined slippery)
+          → effect_bytes f + length (joined (own_packets e event m)) ≤ 1654
+      go (Some rows) r k o p l both =
+          let few = (rows-fit rows (subst Fits k (event-fits bytes event read))).few in
+          let none : (carried event).traction ≡ None = ap (λ (v : Event). (carried v).traction) k in
+          let z = values-small e journey book event f (ap role_of k) q in
+          let most : length (joined slippery) ≤ 514 = rw r (size_64 (route_in m) m.train.position rows few) in
+          omega (arith, z, both, no_brakes none, most)
+      go None r k None p l both =
+          let h : effect_bytes f ≤ 1654 = subst Small q (small e journey book event) in
+          let empty : length (joined slippery) ≡ 0 = rw r in
+          omega (arith, h, both, no_brakes p, empty)
+      go None r k (Some x) p l both =
+          let z = values-small e journey book event f (ap role_of l) q in
+          let empty : length (joined slippery) ≡ 0 = rw r in
+          omega (arith, z, both, empty, size_61 (route_in m) m.train.position (written_content (state_at e.control.state) event (remembered_in e.traction) (remembered_in m.traction)))
 
 -- "16 shorter than this event's packets"
-pub bytes_most : (e : Engine) (journey book : List ℕ) (event : Event) (f : Effect) → effect e journey book event ≡ accept f → length (joined (step_by e event f).packets) ≤ 1673
+pub bytes_most : (e : Engine) (bytes journey book : List ℕ) (event : Event) (f : Effect) → event_of bytes ≡ accept event → effect e journey book event ≡ accept f → length (joined (step_by e event f).packets) ≤ 1673
 unfolding packets_of
-bytes_most e journey book event f q =
+bytes_most e bytes journey book event f read q =
     let m = (step_by e event f).engine in
     let j = route_in m in
     let x = m.train.position in
-    let h = with_own e journey book event f m q in
+    let h = with_own e event m bytes journey book f read q in
     let own = own_packets e event m in
     let due = status_due (status_in e) (status_in m) in
     let changes = changes_in m f.hold_ended f.changes in
@@ -240,9 +270,9 @@ bytes_most e journey book event f q =
     omega (arith, h, a, b, d, size_65 j x f.loaded, size_62s j x changes, n, size_68 j x due (status_in m).state (status_in m).conditions)
 
 -- with so much memory that row does not refuse
-pub row_16 : (e : Engine) (journey book memory : List ℕ) (event : Event) (f : Effect) → effect e journey book event ≡ accept f → 1673 ≤ length memory
+pub row_16 : (e : Engine) (bytes journey book memory : List ℕ) (event : Event) (f : Effect) → event_of bytes ≡ accept event → effect e journey book event ≡ accept f → 1673 ≤ length memory
     → row 16 (ltb (length memory) (length (joined (step_by e event f).packets))) ≡ accept tt
-row_16 e journey book memory event f q h = rw (le-ltb (length memory) (length (joined (step_by e event f).packets)) (omega (arith, bytes_most e journey book event f q)))
+row_16 e bytes journey book memory event f read q h = rw (le-ltb (length memory) (length (joined (step_by e event f).packets)) (omega (arith, bytes_most e bytes journey book event f read q)))
 
 -- every call, accepted or refused, writes no more
 pub call_bytes_most : (e : Engine) (c : Call) → bytes_written (step_of e c).answer ≤ 1673
@@ -254,4 +284,4 @@ call_bytes_most e c = go (judged e c) refl
     go (accept s) q =
         let t = taken e c s q in
         let z : length (joined s.packets) ≡ length (joined (step_by e t.event t.made).packets) = ap (λ (s : Step). length (joined s.packets)) t.result in
-        omega (arith, z, bytes_most e c.journey c.book t.event t.made t.does)
+        omega (arith, z, bytes_most e c.event c.journey c.book t.event t.made t.is_event t.does)

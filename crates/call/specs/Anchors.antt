@@ -3,7 +3,7 @@ use Rattle.std.specs.Prelude.{ℕ, ◌≡◌, List, [], ◌∷◌, map, Bool, tr
 use Rattle.wire.specs.Numbers.{bytes_of}
 use Rattle.wire.specs.Judged.{Judged, ◌>>=◌}
 use Rattle.wire.specs.Judged.Judged.{refuse, accept}
-use Rattle.engine_value.specs.Engine.{Route, no_route, blank_segment, progress, fresh, no_skips, no_traction}
+use Rattle.engine_value.specs.Engine.{Route, no_route, blank_segment, progress, fresh, no_skips, no_traction, no_adhesion}
 use Rattle.engine_value.specs.declared.Segment.{Segment}
 use Rattle.engine_value.specs.declared.Point.{Point}
 use Rattle.engine_value.specs.declared.Position.{Position}
@@ -12,11 +12,14 @@ use Rattle.engine_value.specs.declared.Train.{Train}
 use Rattle.engine_value.specs.declared.Inputs.{Inputs}
 use Rattle.engine_value.specs.declared.Control.{Control}
 use Rattle.engine_value.specs.declared.Traction.{Traction}
+use Rattle.engine_value.specs.declared.Adhesion as group
+use Rattle.adhesion.specs.Constraints.{blank_constraint}
+use Rattle.adhesion.specs.declared.TemporaryConstraint.{TemporaryConstraint}
 use Rattle.engine_value.specs.declared.Engine.{Engine}
 use Rattle.event.specs.Kinds.{carried}
 use Rattle.event.specs.declared.TractionRequest.{TractionRequest}
 use Rattle.event.specs.Event.{Event}
-use Rattle.event.specs.Event.Event.{PowerOn, Configured, PowerOff, Fault, Reports, Mode, Lever, Press, PositionReport, Length, Load, Skip, Revoke, Traction as Request}
+use Rattle.event.specs.Event.Event.{PowerOn, Configured, PowerOff, Fault, Reports, Mode, Lever, Press, PositionReport, Length, Load, Skip, Revoke, Traction as Request, Adhesion}
 use Rattle.status_word.specs.Anchors.{numbered}
 use Rattle.status_word.specs.View.{conditions_number}
 use Rattle.packets.specs.declared.Header.{Header}
@@ -30,8 +33,8 @@ use Rattle.call_values.specs.Call.{Call}
 use Rattle.call_values.specs.Packets.{point_change}
 use Rattle.call.specs.Packets.{change_in}
 use Rattle.call.specs.Effect.{kept, cleared, replaced, skip_set, Effect, reported_in, loaded_in, effect, route_after, skips_after, stored}
-use Rattle.call.specs.Call.{conditions_in, status_in, step_by, judge, judged}
-use Rattle.call.specs.Shown.{standing_in}
+use Rattle.call.specs.Call.{Step, conditions_in, status_in, settled, step_by, judge, judged}
+use Rattle.call.specs.Shown.{standing_in, constraint_in}
 use Rattle.call.specs.View.{shown_view}
 
 -- ---- a journey in segment 17/500 of 1,000 m: 7001, a stop; 7002, a stop that trackside skips; 7003, the End of Journey, no stop; 7004, a stop
@@ -70,13 +73,13 @@ control state press request = record { state = state; press = press; request = r
 abbrev pub skips : List Bool
 skips = false ∷ false ∷ false ∷ true ∷ false ∷ []
 
--- with what is remembered of the traction requests
-abbrev pub engine_with : Traction → Route → List Bool → Train → Progress → Inputs → Control → Engine
-engine_with t j driver x p i c =
-    record { points = j.points; skips = driver; segments = j.segments; load = j.load; train = x; progress = p; inputs = i; control = c; traction = t }
+-- with what is remembered of the traction requests, and the rows that it shows
+abbrev pub engine_with : Traction → group.Adhesion → Route → List Bool → Train → Progress → Inputs → Control → Engine
+engine_with t a j driver x p i c =
+    record { points = j.points; skips = driver; segments = j.segments; load = j.load; train = x; progress = p; inputs = i; control = c; traction = t; adhesion = a }
 
 abbrev pub engine : Route → List Bool → Train → Progress → Inputs → Control → Engine
-engine = engine_with no_traction
+engine = engine_with no_traction no_adhesion
 
 -- in state s; mode AD, lever at brake, reports 20
 abbrev pub in_state : ℕ → Progress → Engine
@@ -111,10 +114,36 @@ remembering range suptb = record { remembered = true; range = range; suptb = sup
 
 -- `engaged` in state s with the lever at l, and `waiting`, with what is remembered
 abbrev pub engaged_in : ℕ → ℕ → Traction → Engine
-engaged_in s l t = engine_with t journey skips (train 29999 7 400) (progress 2 false) (inputs 1 l 31) (control s false true)
+engaged_in s l t = engine_with t no_adhesion journey skips (train 29999 7 400) (progress 2 false) (inputs 1 l 31) (control s false true)
 
 abbrev pub waiting_with : Traction → Engine
-waiting_with t = engine_with t journey skips (train 10000 0 400) (progress 0 true) (inputs 0 0 31) (control 4 true true)
+waiting_with t = engine_with t no_adhesion journey skips (train 10000 0 400) (progress 0 true) (inputs 0 0 31) (control 4 true true)
+
+-- ---- slippery rail
+
+abbrev pub row_from : ℕ → TemporaryConstraint
+row_from start = record { nidsp = 500; start = start; end = 90000; nidc = 17; category = 2; range = 1 }
+
+abbrev pub icy : List TemporaryConstraint
+icy = row_from 100 ∷ row_from 200 ∷ []
+
+-- two rows, with blank ones behind them
+abbrev pub icy_group : group.Adhesion
+icy_group = record { constraints = row_from 100 ∷ row_from 200 ∷ replicate 29 blank_constraint; count = 2 }
+
+abbrev pub one_group : group.Adhesion
+one_group = record { constraints = row_from 300 ∷ replicate 30 blank_constraint; count = 1 }
+
+-- `under_way` in state s, with these rows
+abbrev pub slippery_in : ℕ → group.Adhesion → Engine
+slippery_in s a = engine_with no_traction a journey skips (train 15000 7 400) (progress 1 false) (inputs 1 2 20) (control s false false)
+
+-- such a row in an event's bytes; one whose start exceeds its end
+abbrev pub row_bytes : ℕ → List ℕ
+row_bytes start = 0 ∷ 17 ∷ 0 ∷ 0 ∷ 0x01 ∷ 0xF4 ∷ 2 ∷ 1 ∷ 0 ∷ 0 ∷ 0 ∷ start ∷ 0 ∷ 0x01 ∷ 0x5F ∷ 0x90 ∷ []
+
+abbrev pub reversed_bytes : List ℕ
+reversed_bytes = 0 ∷ 17 ∷ 0 ∷ 0 ∷ 0x01 ∷ 0xF4 ∷ 2 ∷ 1 ∷ 0 ∷ 0x01 ∷ 0x5F ∷ 0x90 ∷ 0 ∷ 0 ∷ 0 ∷ 255 ∷ []
 
 -- ---- another journey, by the train's rear: with a train of 4 m at 150 m, d of its points is 136 m, 126 m, 151 cm, 150 cm, -354 m
 
@@ -182,6 +211,9 @@ packet68 h s n = Packet.AtoStatus (record { header = h; state = s; conditions = 
 abbrev pub packet61 : Header → ℕ → Packet
 packet61 h suptb = Packet.TractionBrake (record { header = h; requested = (request 0 suptb).content })
 
+abbrev pub packet64 : Header → List TemporaryConstraint → Packet
+packet64 h rows = Packet.AdhesionSystem h rows
+
 -- ---- what is asked
 
 -- the number of the row that refuses, 0 where none does
@@ -196,6 +228,10 @@ reporting p from departed reached =
 -- an event with profiles that no load takes
 abbrev pub does : Engine → Event → Judged Effect
 does e v = effect e (255 ∷ []) (255 ∷ []) v
+
+-- the rows that are shown after an event
+abbrev pub shows_after : Engine → Event → Judged group.Adhesion
+shows_after e v = does e v >>= judge e v (replicate 64 0) >>= (λ (s : Step). accept s.engine.adhesion)
 
 abbrev pub call : List ℕ → ℕ → Call
 call event n = record { event = event; journey = 255 ∷ []; book = 255 ∷ []; memory = replicate n 0 }
@@ -241,17 +277,17 @@ pub record Anchors : Type 0 where
   pub brought : map (does under_way) (Mode 0 ∷ Lever 1 ∷ Reports 31 ∷ Length 9 ∷ [])
       ≡ accept (values (train 15000 7 400) (inputs 0 2 20)) ∷ accept (values (train 15000 7 400) (inputs 1 1 20))
       ∷ accept (values (train 15000 7 400) (inputs 1 2 31)) ∷ accept (values (train 15000 7 9) (inputs 1 2 20)) ∷ []
-  pub nothing_brought : map (does under_way) (PowerOn ∷ Configured ∷ Fault ∷ Press ∷ Request (request 5 6) ∷ []) ≡ replicate 5 (accept (values (train 15000 7 400) (inputs 1 2 20)))
+  pub nothing_brought : map (does under_way) (PowerOn ∷ Configured ∷ Fault ∷ Press ∷ Request (request 5 6) ∷ Adhesion icy ∷ []) ≡ replicate 6 (accept (values (train 15000 7 400) (inputs 1 2 20)))
   -- no event but a position report, a load and power off moves the points; no event but the rows of the states uses the press up
   pub points_kept : map (λ (v : Event). does waiting v >>= (λ (f : Effect). accept f.progress))
-      (Fault ∷ Reports 0 ∷ Mode 1 ∷ Lever 1 ∷ Press ∷ Length 9 ∷ Skip 7005 ∷ Revoke 7004 ∷ Request (request 5 6) ∷ []) ≡ replicate 9 (accept (progress 0 true))
+      (Fault ∷ Reports 0 ∷ Mode 1 ∷ Lever 1 ∷ Press ∷ Length 9 ∷ Skip 7005 ∷ Revoke 7004 ∷ Request (request 5 6) ∷ Adhesion icy ∷ []) ≡ replicate 10 (accept (progress 0 true))
   pub press_kept : map (λ (v : Event). does waiting v >>= (λ (f : Effect). accept f.control))
-      (Mode 1 ∷ PositionReport (at 5 6) ∷ Length 9 ∷ Skip 7005 ∷ Revoke 7004 ∷ []) ≡ replicate 5 (accept (control 4 true true))
+      (Mode 1 ∷ PositionReport (at 5 6) ∷ Length 9 ∷ Skip 7005 ∷ Revoke 7004 ∷ Adhesion icy ∷ []) ≡ replicate 6 (accept (control 4 true true))
   pub press_loaded : (loaded_in waiting (carried Load) loading).control ≡ control 4 true true
   -- "Other kinds ignore the lent profiles."
   pub ignored : map (λ (v : Event). refusal (does under_way v))
-      (PowerOn ∷ Configured ∷ PowerOff ∷ Fault ∷ Reports 0 ∷ Mode 0 ∷ Lever 0 ∷ Press ∷ PositionReport (at 5 6) ∷ Length 9 ∷ Load ∷ Skip 7005 ∷ Revoke 7004 ∷ Request (request 5 6) ∷ [])
-      ≡ 0 ∷ 0 ∷ 0 ∷ 0 ∷ 0 ∷ 0 ∷ 0 ∷ 0 ∷ 0 ∷ 0 ∷ 7 ∷ 0 ∷ 0 ∷ 0 ∷ []
+      (PowerOn ∷ Configured ∷ PowerOff ∷ Fault ∷ Reports 0 ∷ Mode 0 ∷ Lever 0 ∷ Press ∷ PositionReport (at 5 6) ∷ Length 9 ∷ Load ∷ Skip 7005 ∷ Revoke 7004 ∷ Request (request 5 6) ∷ Adhesion icy ∷ [])
+      ≡ 0 ∷ 0 ∷ 0 ∷ 0 ∷ 0 ∷ 0 ∷ 0 ∷ 0 ∷ 0 ∷ 0 ∷ 7 ∷ 0 ∷ 0 ∷ 0 ∷ 0 ∷ []
   -- "Power off returns to fresh.", and writes the packet 68 of it alone
   pub power_off_lem : does under_way PowerOff >>= judge under_way PowerOff (replicate 19 0)
       ≡ accept (record { engine = fresh; packets = packet68 (record { nidc = 0; nidsp = 0; offset = 16777215; speed = 0; operational = 0xFFFFFFFF }) 0 128 ∷ [] })
@@ -381,6 +417,27 @@ pub record Anchors : Type 0 where
       ≡ accept (packet61 (header 29999 7 0x12345678) 7 ∷ packet68 (header 29999 7 0x12345678) 3 511 ∷ [])
   -- a packet 61 has 22 bytes
   pub row_16_request : map (λ (n : ℕ). refusal (judged (engaged_in 5 0 no_traction) (call (14 ∷ 22 ∷ 1 ∷ 2 ∷ 7 ∷ 0 ∷ 4 ∷ []) n))) (0 ∷ 21 ∷ 22 ∷ []) ≡ 16 ∷ 16 ∷ 0 ∷ []
+  -- 02, Q-7: "Each accepted such event .. writes packet 64 with its rows; the engine shows the rows of the latest one", also where there are none
+  pub slippery : map (λ (v : Event). does (slippery_in 2 one_group) v >>= judge (slippery_in 2 one_group) v (replicate 50 0)) (Adhesion icy ∷ Adhesion [] ∷ [])
+      ≡ accept (record { engine = slippery_in 2 icy_group; packets = packet64 (header 15000 7 0x12345678) icy ∷ [] })
+      ∷ accept (record { engine = slippery_in 2 no_adhesion; packets = packet64 (header 15000 7 0x12345678) [] ∷ [] }) ∷ []
+  -- "and nothing else": no other event writes one; "since power off, else none": none but it and power off alters the rows
+  pub rows_kept : map (λ (v : Event). shows_after (slippery_in 2 icy_group) v)
+      (Fault ∷ Reports 0 ∷ Mode 0 ∷ Lever 0 ∷ PositionReport (at 5 6) ∷ Length 9 ∷ Skip 7005 ∷ Request (request 5 6) ∷ []) ≡ replicate 8 (accept icy_group)
+  pub rows_loaded : (settled (slippery_in 2 icy_group) Load (slippery_in 2 icy_group) (control 2 false true)).adhesion ≡ icy_group
+  pub rows_off : map (shows_after (slippery_in 2 icy_group)) (PowerOff ∷ Adhesion (row_from 300 ∷ []) ∷ []) ≡ accept no_adhesion ∷ accept one_group ∷ []
+  pub none_written : writes (slippery_in 2 icy_group) (Request (request 5 6)) ∷ writes (slippery_in 2 icy_group) (Length 400) ∷ [] ≡ accept [] ∷ accept [] ∷ []
+  -- 64 before 68: in AV without all nine conditions the rows lead to NA
+  pub rows_order : writes (slippery_in 3 no_adhesion) (Adhesion icy) ≡ accept (packet64 (header 15000 7 0x12345678) icy ∷ packet68 (header 15000 7 0x12345678) 2 252 ∷ [])
+  -- a packet 64 of one row has 34 bytes
+  pub row_16_slippery : map (λ (n : ℕ). refusal (judged (slippery_in 2 icy_group) (call (15 ∷ 1 ∷ row_bytes 100) n))) (0 ∷ 33 ∷ 34 ∷ []) ≡ 16 ∷ 16 ∷ 0 ∷ []
+  -- "21 .. checked after 2 and before 3": in NP and FA, a reversed row (start 90,000 and end 255), a count too much, an event that is right
+  pub row_21_order : map (λ (s : ℕ). refusals s ((15 ∷ 1 ∷ reversed_bytes) ∷ (15 ∷ 0 ∷ 0 ∷ []) ∷ (15 ∷ 0 ∷ []) ∷ [])) (0 ∷ 7 ∷ 2 ∷ [])
+      ≡ (21 ∷ 1 ∷ 3 ∷ []) ∷ (21 ∷ 1 ∷ 5 ∷ []) ∷ (21 ∷ 1 ∷ 16 ∷ []) ∷ []
+  -- what is shown: how many rows, and row k; blank beyond them, also where an engine counts more than its array holds
+  pub shows_rows : map (constraint_in (slippery_in 3 icy_group)) (0 ∷ 1 ∷ 2 ∷ 30 ∷ 31 ∷ []) ≡ row_from 100 ∷ row_from 200 ∷ blank_constraint ∷ blank_constraint ∷ blank_constraint ∷ []
+  pub counts_rows : map (λ (a : group.Adhesion). (shown_view (slippery_in 3 a)).constraint_count) (no_adhesion ∷ one_group ∷ icy_group ∷ record { constraints = []; count = 32 } ∷ [])
+      ≡ 0 ∷ 1 ∷ 2 ∷ 31 ∷ []
   -- "16 shorter than this event's packets": a 68 has 19 bytes, a 62 and a 68 have 44
   pub row_16 : map (λ (n : ℕ). refusal (judged under_way (call (4 ∷ []) n))) (0 ∷ 18 ∷ 19 ∷ 20 ∷ []) ≡ 16 ∷ 16 ∷ 0 ∷ 0 ∷ []
   pub row_16_two : map (λ (n : ℕ). refusal (judged under_way (call (skip 7005) n))) (25 ∷ 43 ∷ 44 ∷ []) ≡ 16 ∷ 16 ∷ 0 ∷ []
@@ -398,5 +455,5 @@ pub record Anchors : Type 0 where
   -- where a point stands: 3 passed, 2 reached, 1 targeted, 0 not used and where there is no such point
   pub stands : map (standing_in (in_state 3 (progress 2 true))) (0 ∷ 1 ∷ 2 ∷ 3 ∷ 4 ∷ 5 ∷ []) ≡ 3 ∷ 3 ∷ 2 ∷ 0 ∷ 0 ∷ 0 ∷ []
   pub stands_past : map (standing_in (in_state 3 (progress 5 false))) (3 ∷ 4 ∷ 5 ∷ 6 ∷ []) ≡ 3 ∷ 3 ∷ 0 ∷ 0 ∷ []
-  pub shows : shown_view under_way ≡ record { state = 3; request = true; conditions = 252; point_count = 5; standings = 3 ∷ 1 ∷ replicate 62 0 }
-  pub shows_fresh : shown_view fresh ≡ record { state = 0; request = false; conditions = 128; point_count = 0; standings = replicate 64 0 }
+  pub shows : shown_view under_way ≡ record { state = 3; request = true; conditions = 252; point_count = 5; standings = 3 ∷ 1 ∷ replicate 62 0; constraint_count = 0 }
+  pub shows_fresh : shown_view fresh ≡ record { state = 0; request = false; conditions = 128; point_count = 0; standings = replicate 64 0; constraint_count = 0 }

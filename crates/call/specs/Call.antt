@@ -1,12 +1,14 @@
 -- The meaning of a call: the table of numbers from top to bottom, else the new engine, its answer and the output memory.
-use Rattle.std.specs.Prelude.{ℕ, List, ◌++◌, length, drop, ltb}
+use Rattle.std.specs.Prelude.{ℕ, List, [], ◌++◌, length, drop, ltb, if◌then◌else◌, Option, Some, option_map}
 use Rattle.wire.specs.Judged.{Judged, row, ◌>>=◌, ◌>>◌}
 use Rattle.wire.specs.Judged.Judged.{refuse, accept}
-use Rattle.engine_value.specs.Engine.{route_in, with_control}
+use Rattle.adhesion.specs.declared.TemporaryConstraint.{TemporaryConstraint}
+use Rattle.engine_value.specs.Engine.{route_in, adhesion_of, with_control}
+use Rattle.engine_value.specs.declared.Adhesion.{Adhesion}
 use Rattle.engine_value.specs.declared.Control.{Control}
 use Rattle.engine_value.specs.declared.Engine.{Engine}
 use Rattle.event.specs.Events.{event_of}
-use Rattle.event.specs.Kinds.{kind_of}
+use Rattle.event.specs.Kinds.{is_off, newer, kind_of, role_of, carried}
 use Rattle.event.specs.Event.{Event}
 use Rattle.packets.specs.Packets.{joined}
 use Rattle.status_word.specs.declared.OperationalConditions.{OperationalConditions}
@@ -49,10 +51,17 @@ step_to e event f m = record {
   packets = packets_of (route_in m) m.train.position f.loaded (changes_in m f.hold_ended f.changes) (own_packets e event m) (status_in e) (status_in m);
 }
 
--- engine m with the control group after the event, and with what is then remembered of the traction requests
+-- 02, Q-7: "the engine shows the rows of the latest one since power off, else none": those that it shows from an event on that alters them
+abbrev pub rows_shown : Event → Option (List TemporaryConstraint)
+rows_shown event = if is_off (role_of event) then Some [] else (carried event).constraints
+
+abbrev pub adhesion_after : Event → Adhesion → Adhesion
+adhesion_after event a = newer (option_map adhesion_of (rows_shown event)) a
+
+-- engine m with the control group after the event, with what is then remembered of the traction requests, and with the rows that it then shows
 abbrev pub settled : Engine → Event → Engine → Control → Engine
 settled e event m c =
-    with_control m c (traction_of (remembered_after (state_at e.control.state) event (state_at c.state) (remembered_in e.traction)))
+    with_control m c (traction_of (remembered_after (state_at e.control.state) event (state_at c.state) (remembered_in e.traction))) (adhesion_after event e.adhesion)
 
 -- "After each accepted event": the rows of the states over the event's values
 abbrev pub step_by : Engine → Event → Effect → Step

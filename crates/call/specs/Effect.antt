@@ -175,4 +175,5 @@ stored e f =
       inputs = f.inputs;
       control = f.control;
       traction = e.traction;
+      adhesion = e.adhesion;
     }

@@ -4,7 +4,7 @@ use Rattle.engine_value.specs.declared.Engine.{Engine}
 use Rattle.status_word.specs.View.{conditions_number}
 use Rattle.position.specs.Position.{point_count}
 use Rattle.call.specs.Call.{conditions_in}
-use Rattle.call.specs.Shown.{state_in, request_in, standings_in}
+use Rattle.call.specs.Shown.{state_in, request_in, standings_in, constraint_count_in}
 use Rattle.call.specs.declared.Shown.{Shown}
 
 -- what an engine shows
@@ -16,4 +16,5 @@ shown_view e =
       conditions = conditions_number (conditions_in e);
       point_count = point_count (route_in e);
       standings = standings_in e max_points;
+      constraint_count = constraint_count_in e;
     }

@@ -1,19 +1,29 @@
 -- By computation.
 use mathlib.Core.Path.{refl}
+use Rattle.call.specs.Shown.{standings_in}
 use Rattle.call.proofs.Computed.{computed}
 use Rattle.call_trials.specs.Engines.{on, failed, started, ready, pressed, driving, degraded, stopped, near_b, ended, before_hold, at_hold}
-use Rattle.call_trials.specs.Examples.{Refused, RefusedLoads, TurnedDown, Held, Trackside, RefusedLater, States, Conditions, Points, Loads, Requests}
+use Rattle.call_trials.specs.Examples.{Refused, RefusedLoads, TurnedDown, Held, Trackside, RefusedLater, States, Conditions, Points, Loads, Requests, Slippery}
 
 pub refused : Refused
 unfolding computed on failed started ready driving
 refused = record {
   empty = refl;
   kind_0 = refl;
-  kind_15 = refl;
+  kind_16 = refl;
   power_on_longer = refl;
   lever_shorter = refl;
   position_shorter = refl;
   traction_shorter = refl;
+  slippery_alone = refl;
+  slippery_shorter = refl;
+  slippery_longer = refl;
+  slippery_count = refl;
+  slippery_country = refl;
+  slippery_start = refl;
+  slippery_end = refl;
+  slippery_reversed = refl;
+  reversed_in_FA = refl;
   reports_32 = refl;
   mode_2 = refl;
   lever_3 = refl;
@@ -350,5 +360,24 @@ requests = record {
   in_AV = record { answer = refl; memory = refl };
   in_RE = refl;
   entered_again = record { answer = refl; memory = refl };
+  no_room = refl;
+}
+
+pub slippery : Slippery
+unfolding computed standings_in on ready pressed driving degraded
+slippery = record {
+  in_CO = record { answer = refl; memory = refl };
+  in_NA = record { answer = refl; memory = refl };
+  in_AV = record { answer = refl; memory = refl };
+  in_RE = record { answer = refl; memory = refl };
+  in_EG = record { answer = refl; memory = refl };
+  in_DE = record { answer = refl; memory = refl };
+  press_kept = record { answer = refl; memory = refl };
+  shown = refl;
+  fewer = refl;
+  none = refl;
+  refused_kept = refl;
+  kept = refl;
+  off = refl;
   no_room = refl;
 }

@@ -52,10 +52,19 @@ requested suptb = 0x0A ∷ 0x0B ∷ suptb ∷ 0x0C ∷ 0x0D ∷ []
 abbrev pub traction : ℕ → ℕ → Call
 traction byte suptb = plain (0x0E ∷ byte ∷ requested suptb)
 
+-- 02, Q-7: a row of NID_C 17, NID_SP 500, category 2, range 1, with start and end
+abbrev pub row : ℕ → ℕ → List ℕ
+row start end = 0x00 ∷ 0x11 ∷ 0x00 ∷ 0x00 ∷ 0x01 ∷ 0xF4 ∷ 0x02 ∷ 0x01 ∷ (bytes_of 4 start ++ bytes_of 4 end)
+
+-- "count (0-31) and that many rows"
+abbrev pub slippery : ℕ → List ℕ → Call
+slippery count rows = plain (0x0F ∷ count ∷ rows)
+
 -- one of each kind but power on and power off
 abbrev pub others : List Call
 others =
-    configured ∷ fault ∷ reports 31 ∷ mode 1 ∷ lever 1 ∷ press ∷ report (in_a 0 0) ∷ train_length 1 ∷ load ∷ skip 7001 ∷ revoke 7001 ∷ traction 20 7 ∷ []
+    configured ∷ fault ∷ reports 31 ∷ mode 1 ∷ lever 1 ∷ press ∷ report (in_a 0 0) ∷ train_length 1 ∷ load ∷ skip 7001 ∷ revoke 7001 ∷ traction 20 7
+    ∷ slippery 0 [] ∷ []
 
 -- the call with so many bytes of memory
 abbrev pub lending : ℕ → Call → Call

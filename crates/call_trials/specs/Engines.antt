@@ -1,6 +1,6 @@
 -- The engine that the load leaves, and those a few calls later, each as a whole value: the examples start from them.
 use Rattle.std.specs.Prelude.{ℕ, ◌≡◌, List, [], ◌∷◌, Bool, true, false, replicate, drop}
-use Rattle.engine_value.specs.Engine.{Route, blank_zone, blank_segment, blank_point, no_skips, no_route, no_traction, fresh_position, fresh, progress}
+use Rattle.engine_value.specs.Engine.{Route, blank_zone, blank_segment, blank_point, no_skips, no_route, no_traction, no_adhesion, fresh_position, fresh, progress}
 use Rattle.engine_value.specs.declared.Segment.{Segment}
 use Rattle.engine_value.specs.declared.Point.{Point}
 use Rattle.engine_value.specs.declared.Position.{Position}
@@ -83,6 +83,7 @@ engine_of r x p i c = record {
   inputs = i;
   control = c;
   traction = no_traction;
+  adhesion = no_adhesion;
 }
 
 abbrev pub inputs : ℕ → ℕ → ℕ → Inputs

@@ -1,13 +1,18 @@
 -- Calls over one journey: what they answer, the packets in their memory, and what the table of numbers refuses. The values are those of the
 -- independent model (tests/model), looked over against documents 01 and 02.
 use Rattle.std.specs.Prelude.{ℕ, ◌≡◌, List, [], ◌∷◌, ◌++◌, ◌+◌, map, true, false, drop, take, set, replicate}
+use Rattle.adhesion.specs.Constraints.{blank_constraint}
+use Rattle.adhesion.specs.declared.TemporaryConstraint.{TemporaryConstraint}
 use Rattle.engine_value.specs.Engine.{fresh}
+use Rattle.engine_value.specs.declared.Engine.{Engine}
 use Rattle.position.specs.declared.Standing.TheVariants.{Unused, Targeted, Passed}
 use Rattle.call_values.specs.Call.{Call, refused}
+use Rattle.call.specs.Shown.{constraint_in}
+use Rattle.call.specs.View.{shown_view}
 use Rattle.call.specs.Call.{Outcome, step_of}
 use Rattle.call.specs.Trials.{plain, loads, after_each, answered, Gives, power_on, configured, reports, press, mode, lever, train_length, skip, revoke}
 use Rattle.call_trials.specs.Journey.{journey, first_as, without_first, journey_held, journey_skips, journey_moved, book, book_with_c, short_records}
-use Rattle.call_trials.specs.Calls.{power_off, fault, in_a, in_b, in_c, in_d, undefined, nowhere, report, load, requested, traction, others, lending, Refuses, TurnsDown, answers_to, standings, packet, plain_packet, point, received, not_received}
+use Rattle.call_trials.specs.Calls.{power_off, fault, in_a, in_b, in_c, in_d, undefined, nowhere, report, load, requested, traction, row, slippery, others, lending, Refuses, TurnsDown, answers_to, standings, packet, plain_packet, point, received, not_received}
 use Rattle.call_trials.specs.Engines.{on, failed, started, ready, pressed, driving, degraded, stopped, near_b, ended, before_hold, at_hold}
 
 -- ---- Numbers 1 to 6: event, power, state
@@ -16,11 +21,22 @@ pub record Refused : Type 0 where
   -- "1 empty, unknown kind or wrong length"
   pub empty : Refuses fresh (plain []) 1
   pub kind_0 : Refuses fresh (plain (0x00 ∷ [])) 1
-  pub kind_15 : Refuses fresh (plain (0x0F ∷ [])) 1
+  pub kind_16 : Refuses fresh (plain (0x10 ∷ [])) 1
   pub power_on_longer : Refuses fresh (plain (0x01 ∷ 0x00 ∷ [])) 1
   pub lever_shorter : Refuses fresh (plain (0x07 ∷ [])) 1
   pub position_shorter : Refuses fresh (plain (0x09 ∷ take 11 (in_a 0 0))) 1
   pub traction_shorter : Refuses fresh (plain (0x0E ∷ 0x65 ∷ take 4 (requested 0))) 1
+  -- 02, Q-7: "A length other than 2 + 16 × count gets 1, also for a count over 31"
+  pub slippery_alone : Refuses fresh (plain (0x0F ∷ [])) 1
+  pub slippery_shorter : Refuses fresh (slippery 1 (take 15 (row 100 250))) 1
+  pub slippery_longer : Refuses fresh (slippery 1 (row 100 250 ++ (0x00 ∷ []))) 1
+  pub slippery_count : Refuses fresh (slippery 32 (row 100 250)) 1
+  -- "a value beyond its range, gets 2"; "21, a row whose start exceeds its end, checked after 2 and before 3"
+  pub slippery_country : Refuses fresh (slippery 1 (0x04 ∷ drop 1 (row 100 250))) 2
+  pub slippery_start : Refuses fresh (slippery 1 (row 16777216 16777216)) 2
+  pub slippery_end : Refuses fresh (slippery 2 (row 251 250 ++ row 0 16777216)) 2
+  pub slippery_reversed : Refuses fresh (slippery 2 (row 100 250 ++ row 251 250)) 21
+  pub reversed_in_FA : Refuses failed (slippery 1 (row 251 250)) 21
   -- "2 field out of range", and the last values that are within
   pub reports_32 : Refuses fresh (reports 32) 2
   pub mode_2 : Refuses fresh (mode 2) 2
@@ -35,14 +51,14 @@ pub record Refused : Type 0 where
   pub lever_2 : Gives (step_of on (lever 2)) 1 false []
   pub train_of_1 : Gives (step_of on (train_length 1)) 1 false []
   pub train_of_100000 : Gives (step_of on (train_length 100000)) 1 false []
-  -- "3 NP and kind not 1": kinds 2 to 14, whatever is lent
-  pub all_in_NP : answers_to fresh (power_off ∷ others) ≡ replicate 13 (refused 3 0)
+  -- "3 NP and kind not 1": kinds 2 to 15, whatever is lent
+  pub all_in_NP : answers_to fresh (power_off ∷ others) ≡ replicate 14 (refused 3 0)
   pub load_in_NP : Refuses fresh (loads [] (0x00 ∷ [])) 3
   -- "4 kind 1 outside NP"; "5 FA and kind not 3 (kind 1: 4)"
   pub on_in_CO : Refuses on power_on 4
   pub on_in_EG : Refuses driving power_on 4
   pub on_in_FA : Refuses failed power_on 4
-  pub all_in_FA : answers_to failed others ≡ replicate 12 (refused 5 0)
+  pub all_in_FA : answers_to failed others ≡ replicate 13 (refused 5 0)
   pub load_in_FA : Refuses failed (loads [] (0x00 ∷ [])) 5
   -- "6 kind 2 outside CO, kind 8 outside RE"
   pub configured_in_RE : Refuses ready configured 6
@@ -579,3 +595,44 @@ pub record Requests : Type 0 where
   pub entered_again : Gives (step_of (after_each driving (traction 20 7 ∷ mode 0 ∷ traction 20 7 ∷ press ∷ mode 1 ∷ [])) (traction 20 7)) 5 true (packet61 7)
   -- "16 shorter than this event's packets": nothing is remembered
   pub no_room : Refuses driving (lending 21 (traction 20 7)) 16
+
+-- ---- 02, Q-7: slippery rail
+
+-- with the header of the ready, pressed, driving and degraded engines
+abbrev pub packet64 : ℕ → List ℕ → List ℕ
+packet64 count rows = packet 64 (in_a 10000 0) (count ∷ rows)
+
+abbrev pub two_rows : List ℕ
+two_rows = row 100 250 ++ row 16777215 16777215
+
+-- how many rows it shows, and rows 0 to 2
+abbrev pub rows_shown : Engine → ℕ × List TemporaryConstraint
+rows_shown e = ((shown_view e).constraint_count, map (constraint_in e) (0 ∷ 1 ∷ 2 ∷ []))
+
+abbrev pub from_to : ℕ → ℕ → TemporaryConstraint
+from_to start end = record { nidsp = 500; start = start; end = end; nidc = 17; category = 2; range = 1 }
+
+abbrev pub two_shown : ℕ × List TemporaryConstraint
+two_shown = (2, from_to 100 250 ∷ from_to 16777215 16777215 ∷ blank_constraint ∷ [])
+
+pub record Slippery : Type 0 where
+  -- "Each accepted such event .. writes packet 64 with its rows"; in each state that takes it, and it leads to no other
+  pub in_CO : Gives (step_of on (slippery 1 (row 250 250))) 1 false (plain_packet 64 nowhere (1 ∷ row 250 250))
+  pub in_NA : Gives (step_of (after_each on (configured ∷ [])) (slippery 0 [])) 2 false (plain_packet 64 nowhere (0 ∷ []))
+  pub in_AV : Gives (step_of (after_each ready (lever 1 ∷ [])) (slippery 2 two_rows)) 3 false (packet64 2 two_rows)
+  pub in_RE : Gives (step_of pressed (slippery 2 two_rows)) 4 true (packet64 2 two_rows)
+  pub in_EG : Gives (step_of driving (slippery 2 two_rows)) 5 true (packet64 2 two_rows)
+  pub in_DE : Gives (step_of degraded (slippery 2 two_rows)) 6 true (packet64 2 two_rows)
+  -- a press that is pending stays so
+  pub press_kept : Gives (step_of (after_each pressed (slippery 2 two_rows ∷ [])) (mode 1)) 5 true (packet 68 (in_a 10000 0) (0x1F ∷ 0xF5 ∷ []))
+  -- "the engine shows the rows of the latest one since power off, else none"
+  pub shown : rows_shown (step_of driving (slippery 2 two_rows)).engine ≡ two_shown
+  pub fewer : rows_shown (after_each driving (slippery 2 two_rows ∷ slippery 1 (row 7 8) ∷ [])) ≡ (1, from_to 7 8 ∷ blank_constraint ∷ blank_constraint ∷ [])
+  pub none : rows_shown (after_each driving (slippery 2 two_rows ∷ slippery 0 [] ∷ [])) ≡ (0, blank_constraint ∷ blank_constraint ∷ blank_constraint ∷ [])
+  pub refused_kept : rows_shown (after_each driving (slippery 2 two_rows ∷ slippery 1 (row 251 250) ∷ [])) ≡ two_shown
+  -- a load, a fault and a report leave them
+  pub kept : map rows_shown (after_each driving (slippery 2 two_rows ∷ load ∷ []) ∷ after_each driving (slippery 2 two_rows ∷ fault ∷ [])
+      ∷ after_each driving (slippery 2 two_rows ∷ report (in_a 10001 5) ∷ []) ∷ []) ≡ two_shown ∷ two_shown ∷ two_shown ∷ []
+  pub off : rows_shown (after_each driving (slippery 2 two_rows ∷ power_off ∷ power_on ∷ [])) ≡ (0, blank_constraint ∷ blank_constraint ∷ blank_constraint ∷ [])
+  -- "16 shorter than this event's packets": 50 bytes
+  pub no_room : Refuses driving (lending 49 (slippery 2 two_rows)) 16

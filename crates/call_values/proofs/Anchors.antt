@@ -2,11 +2,11 @@
 use mathlib.Core.Path.{refl}
 use Rattle.position.specs.Position.{front}
 use Rattle.call_values.specs.Rows.{offset_beyond}
-use Rattle.call_values.specs.Packets.{timing_point, jp_received, ato_status, status_due, traction_brake, packets_of, jp_turned_down, packets_refused}
+use Rattle.call_values.specs.Packets.{timing_point, jp_received, ato_status, status_due, traction_brake, adhesion_system, packets_of, jp_turned_down, packets_refused}
 use Rattle.call_values.specs.Anchors.{Anchors}
 
 pub anchors : Anchors
-unfolding front offset_beyond timing_point jp_received ato_status status_due traction_brake packets_of jp_turned_down packets_refused
+unfolding front offset_beyond timing_point jp_received ato_status status_due traction_brake adhesion_system packets_of jp_turned_down packets_refused
 anchors = record {
   header_with = refl;
   header_without = refl;
@@ -27,6 +27,8 @@ anchors = record {
   nothing_due = refl;
   traction = refl;
   traction_order = refl;
+  slippery = refl;
+  slippery_order = refl;
   turned_down_at = refl;
   turned_down_first = refl;
   refused_by = refl;

@@ -1,5 +1,5 @@
 -- Values from documents 01 and 02 that the definitions must give.
-use Rattle.std.specs.Prelude.{ℕ, ◌≡◌, [], ◌∷◌, ◌++◌, map, Bool, true, false, Some, None, Ok, Err}
+use Rattle.std.specs.Prelude.{ℕ, ◌≡◌, List, [], ◌∷◌, ◌++◌, map, Bool, true, false, Some, None, Ok, Err}
 use Rattle.wire.specs.declared.Refusal.{Refusal}
 use Rattle.engine_value.specs.Engine.{Route, no_route, blank_point, blank_segment, fresh_position}
 use Rattle.engine_value.specs.declared.Segment.{Segment}
@@ -8,11 +8,13 @@ use Rattle.engine_value.specs.declared.Position.{Position}
 use Rattle.status_word.specs.Anchors.{numbered}
 use Rattle.packets.specs.declared.Header.{Header}
 use Rattle.packets.specs.declared.Requested.{Requested}
+use Rattle.adhesion.specs.Anchors.{north}
+use Rattle.adhesion.specs.declared.TemporaryConstraint.{TemporaryConstraint}
 use Rattle.packets.specs.Packet.{Packet}
 use Rattle.journey.specs.declared.Head.{Head}
 use Rattle.position.specs.Position.{segment_named}
 use Rattle.call_values.specs.Rows.{offset_beyond, same_bool}
-use Rattle.call_values.specs.Packets.{header, point_change, hold_revoked, timing_point, jp_received, Status, status_due, received, traction_brakes, packets_of, jp_turned_down, packets_refused}
+use Rattle.call_values.specs.Packets.{header, point_change, hold_revoked, timing_point, jp_received, Status, status_due, received, traction_brakes, adhesion_systems, packets_of, jp_turned_down, packets_refused}
 use Rattle.call_values.specs.Call.{refused, accepted, bytes_written}
 use Rattle.call_values.specs.View.{answer_view as view}
 
@@ -70,6 +72,9 @@ requested = record { m_ato_trabrrq = 1; m_ato_locobrrq = 2; q_ato_suptb = 3; m_a
 abbrev pub packet61 : Packet
 packet61 = Packet.TractionBrake (record { header = header_at 17 500 39900; requested = requested })
 
+abbrev pub packet64 : List TemporaryConstraint → Packet
+packet64 rows = Packet.AdhesionSystem (header_at 17 500 39900) rows
+
 abbrev pub shown : ℕ → ℕ → ℕ → Status
 shown state conditions speed = record { state = state; conditions = numbered conditions; speed = speed }
 
@@ -113,6 +118,10 @@ pub record Anchors : Type 0 where
   pub traction : map (traction_brakes route (at 17 500 39900)) (None ∷ Some requested ∷ []) ≡ [] ∷ (packet61 ∷ []) ∷ []
   pub traction_order : packets_of route (at 17 500 39900) None (point_change stop_7001 2 true ∷ []) (traction_brakes route (at 17 500 39900) (Some requested)) (shown 3 511 7) (shown 5 507 7)
       ≡ packet62 21 7001 1 2 2 0 ∷ packet61 ∷ packet68 5 507 ∷ []
+  -- 02, Q-7: 64 with the rows of the event, none included, before the 68
+  pub slippery : map (adhesion_systems route (at 17 500 39900)) (None ∷ Some [] ∷ Some (north ∷ north ∷ []) ∷ []) ≡ [] ∷ (packet64 [] ∷ []) ∷ (packet64 (north ∷ north ∷ []) ∷ []) ∷ []
+  pub slippery_order : packets_of route (at 17 500 39900) None (point_change stop_7001 2 true ∷ []) (adhesion_systems route (at 17 500 39900) (Some (north ∷ []))) (shown 3 511 7) (shown 5 507 7)
+      ≡ packet62 21 7001 1 2 2 0 ∷ packet64 (north ∷ []) ∷ packet68 5 507 ∷ []
   -- 02, Q-4: "status 1, the header of the engine as it stands, the content's NID_C by 01's rule against the journey in force, stamp fields 0 and NID_ATOTS
   -- 16,384": at the same positions, and with no journey
   pub turned_down_at : map (jp_turned_down route) (at 17 500 100000 ∷ at 17 500 100001 ∷ at 17 500 16777215 ∷ at 18 600 10 ∷ at 20 800 10 ∷ [])

@@ -1,4 +1,4 @@
--- Documents 01, "Packets", and 02, Q-1, Q-4 and Q-5: which packets a call writes, and with what values. Header values are those after the event.
+-- Documents 01, "Packets", and 02, Q-1, Q-4, Q-5 and Q-7: which packets a call writes, and with what values. Header values are those after the event.
 use Rattle.std.specs.Prelude.{ℕ, List, [], ◌∷◌, ◌++◌, map, Bool, not, ◌&&◌, ◌||◌, eqb, leb, if◌then◌else◌, Option, Some, None}
 use Rattle.wire.specs.Numbers.{flag}
 use Rattle.wire.specs.Refusals.{turns_down}
@@ -6,6 +6,7 @@ use Rattle.engine_value.specs.Engine.{Route}
 use Rattle.engine_value.specs.declared.Load.{Load}
 use Rattle.engine_value.specs.declared.Point.{Point}
 use Rattle.engine_value.specs.declared.Position.{Position}
+use Rattle.adhesion.specs.declared.TemporaryConstraint.{TemporaryConstraint}
 use Rattle.packets.specs.Layouts.{unknown_nidc, kind65, kind_size}
 use Rattle.status_word.specs.View.{same_conditions}
 use Rattle.packets.specs.declared.Header.{Header}
@@ -112,7 +113,19 @@ abbrev pub traction_brakes : Route → Position → Option Requested → List Pa
 traction_brakes j x None = []
 traction_brakes j x (Some r) = traction_brake j x r ∷ []
 
--- "Order: 65, the 62s as they arise, 68." The packets that one kind of event alone writes, here 61, stand before the 68
+-- 64, of slippery rail, with the rows that the event brings
+abbrev pub adhesion_system_of : Header → List TemporaryConstraint → Packet
+adhesion_system_of h rows = Packet.AdhesionSystem h rows
+
+unfoldable pub adhesion_system : Route → Position → List TemporaryConstraint → Packet
+adhesion_system j x rows = adhesion_system_of (header j x) rows
+
+-- 02, Q-7: "Each accepted such event, and nothing else, writes packet 64 with its rows"
+abbrev pub adhesion_systems : Route → Position → Option (List TemporaryConstraint) → List Packet
+adhesion_systems j x None = []
+adhesion_systems j x (Some rows) = adhesion_system j x rows ∷ []
+
+-- "Order: 65, the 62s as they arise, 68." The packets that one kind of event alone writes, here 61 and 64, stand before the 68
 abbrev pub in_order : List Packet → List Packet → List Packet → List Packet → List Packet
 in_order packet65 packets62 own packet68 = packet65 ++ (packets62 ++ (own ++ packet68))
 

@@ -1,7 +1,16 @@
 -- A call by the rows that it goes through, and its outcome.
-use Rattle.std.proofs.Common.{ℕ, ◌+◌, ◌≤◌, ◌≡◌, refl, sym, ap, ◌∙◌, List, ◌++◌, length, drop, Result, Ok, Err, arith}
+use Rattle.std.proofs.Common.{ℕ, ◌+◌, ◌≤◌, ◌≡◌, refl, sym, ap, ◌∙◌, List, [], ◌∷◌, ◌++◌, length, drop, Result, Ok, Err, arith}
 use Rattle.std.specs.Result.{IsErrAnd}
-use lib.Seq.{sets, sets-eq}
+use Prim.Native.Nat.{◌<◌}
+use native.Mathlib.Numerals.{add-one}
+use lib.ListN.{take, set, get_or}
+use lib.Seq.{sets, sets-eq, take-suc, take_all}
+use Rattle.adhesion.specs.Constraints.{max_constraints, blank_constraint}
+use Rattle.adhesion.specs.declared.TemporaryConstraint.{TemporaryConstraint}
+use Rattle.engine_value.specs.Engine.{filled}
+use Rattle.engine_value.proofs.Filled.{filled_length}
+use Rattle.route.proofs.Filling.{filled_within}
+use Rattle.wire.proofs.ListLaws.{one_more}
 use Rattle.wire.specs.Judged.{Judged, then_judge}
 use Rattle.wire.specs.Judged.Judged.{refuse, accept}
 use Rattle.wire.specs.Refusals.{number_of}
@@ -140,3 +149,22 @@ module _ (e : Engine) (c : Call) (m : Engine) (memory : List ℕ) where
           let z : n ≡ k = let q = t.answer in cc in
           rw (← z, ← t.engine, ← t.output) (record { engine = refl; answer = ap (refused n) b; output = w })
       go (accept s) t = absurd (let q = t.answer in cc)
+
+-- ---- rows in the engine's array
+
+module _ (rows : List TemporaryConstraint) where
+  abbrev array : List TemporaryConstraint
+  array = filled max_constraints blank_constraint rows
+
+  pub rows_next : (l : List TemporaryConstraint) (k : ℕ) → k < 31 → length l ≡ 31 → take k l ≡ take k array → take (k + 1) (set l k (get_or rows k blank_constraint)) ≡ take (k + 1) array
+  rows_next l k h n e =
+      let long : length array ≡ 31 = filled_length blank_constraint max_constraints rows in
+      one_more k l (get_or rows k blank_constraint) (omega arith)
+      ∙ ap (λ (m : List TemporaryConstraint). m ++ (get_or rows k blank_constraint ∷ [])) e
+      ∙ ap (λ (r : TemporaryConstraint). take k array ++ (r ∷ [])) (sym (filled_within blank_constraint max_constraints rows k h))
+      ∙ sym (ap (λ (m : ℕ). take m array) (add-one k) ∙ take-suc array k blank_constraint (omega arith))
+
+  pub rows_whole : (l : List TemporaryConstraint) (k : ℕ) → 31 ≤ k → length l ≡ 31 → take k l ≡ take k array → l ≡ array
+  rows_whole l k h n e =
+      let long : length array ≡ 31 = filled_length blank_constraint max_constraints rows in
+      sym (take_all k l (omega arith)) ∙ e ∙ take_all k array (omega arith)

@@ -22,6 +22,7 @@ with_route e j =
       inputs = e.inputs;
       control = e.control;
       traction = e.traction;
+      adhesion = e.adhesion;
     }
 
 -- "An accepted event returns state, request and bytes written"

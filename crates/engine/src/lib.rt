@@ -15,15 +15,18 @@ ghost use Rattle.route.specs.View.{loaded_view};
 ghost use Rattle.packets.specs.Packets.{joined};
 ghost use Rattle.event_packets.specs.View.{packets_view};
 ghost use Rattle.call.specs.Call.{step_of};
-ghost use Rattle.engine_value.specs.Engine.{no_route};
+ghost use Rattle.adhesion.specs.View.{constraints_view};
+ghost use Rattle.adhesion.specs.Constraints.{max_constraints, blank_constraint};
+ghost use Rattle.engine_value.specs.Engine.{no_route, filled, adhesion_of};
 ghost use Rattle.engine_value.specs.View.{route_view};
 ghost use Rattle.judge.specs.View.{engine_after};
 ghost use Rattle.call_values.specs.View.{answer_view};
 ghost use Rattle.engine.specs.View.{answer_of, call, with_route, Takes, take_of};
 
+use adhesion::{Constraints, MAX_CONSTRAINTS, TemporaryConstraint};
 use call_values::{Accepted, Refused};
 use effects::JourneyAfter;
-use engine_value::{Engine, Load, MAX_POINTS, Point, Route, Segment};
+use engine_value::{Adhesion, Engine, Load, MAX_POINTS, Point, Route, Segment};
 use event::{Event, Role};
 use judge::Judgement;
 use look_up::Occurrence;
@@ -61,6 +64,22 @@ fn replace_journey(e: &mut Engine, j: Route)
     e.skips.fill(false);
 }
 
+// These rows, and blank ones behind them, where they stand.
+fn copy_rows(to: &mut [TemporaryConstraint; MAX_CONSTRAINTS], c: Constraints)
+    ensures { to.new ≡ filled max_constraints blank_constraint (constraints_view c.entry) }
+{
+    for k in 0..MAX_CONSTRAINTS {
+        to[k] = c.row(k as u8);
+    }
+}
+
+fn show_rows(a: &mut Adhesion, c: Constraints)
+    ensures { a.new ≡ adhesion_of (constraints_view c.entry) }
+{
+    copy_rows(&mut a.constraints, c);
+    a.count = u32::from(c.count());
+}
+
 // The groups as they were judged, and what becomes of the journey.
 fn store(e: &mut Engine, t: &Judgement)
     ensures { e.new ≡ engine_after e.old t.now }
@@ -83,6 +102,9 @@ fn store(e: &mut Engine, t: &Judgement)
     e.inputs = f.inputs;
     e.control = t.control;
     e.traction = t.traction;
+    if let Some(c) = t.shown {
+        show_rows(&mut e.adhesion, c);
+    }
 }
 
 // What was judged is stored and written.
@@ -103,7 +125,7 @@ fn accept(e: &mut Engine, t: &Judgement, out: &mut [u8]) -> Accepted
 // A load whose profiles are read, in a function of its own: it takes the stack that reading them took, and no more beside it.
 #[inline(never)]
 fn loaded(e: &mut Engine, event: Event, l: &Loaded, out: &mut [u8]) -> Result<Accepted, Refusal>
-    ensures { (bytes journey book : List ℕ) → accept (event_view event) ≡ event_of bytes → accept tt ≡ rows_of_state e.old (kind_of (event_view event)) → load ≡ role_of (event_view event) → accept (loaded_view l.now) ≡ load_of journey book → Takes (take_of e.old (call bytes journey book out.old)) e.new (judged result) out.new }
+    ensures { (bytes journey book : List ℕ) → accept (event_view event.entry) ≡ event_of bytes → accept tt ≡ rows_of_state e.old (kind_of (event_view event.entry)) → load ≡ role_of (event_view event.entry) → accept (loaded_view l.now) ≡ load_of journey book → Takes (take_of e.old (call bytes journey book out.old)) e.new (judged result) out.new }
 {
     let o = Occurrence::new(e, event);
     let told = effects::told(e, l.route());
@@ -120,7 +142,7 @@ fn load(
     book: &[u8],
     out: &mut [u8],
 ) -> Result<Accepted, Refusal>
-    ensures { (bytes : List ℕ) → accept (event_view event) ≡ event_of bytes → accept tt ≡ rows_of_state e.old (kind_of (event_view event)) → load ≡ role_of (event_view event) → Takes (take_of e.old (call bytes journey.now book.now out.old)) e.new (judged result) out.new }
+    ensures { (bytes : List ℕ) → accept (event_view event.entry) ≡ event_of bytes → accept tt ≡ rows_of_state e.old (kind_of (event_view event.entry)) → load ≡ role_of (event_view event.entry) → Takes (take_of e.old (call bytes journey.now book.now out.old)) e.new (judged result) out.new }
 {
     let l = route::load_route(journey, book)?;
     loaded(e, event, &l, out)

@@ -34,15 +34,16 @@ freshly = record {
   no_press = refl;
   no_request_lem = refl;
   no_traction_lem = refl;
+  no_adhesion_lem = refl;
   no_route_lem = refl;
   skips_cleared = refl;
 }
 
 blank : Blank
-blank = record { zone = refl; segment = refl; point = refl; filling = refl }
+blank = record { constraint = refl; zone = refl; segment = refl; point = refl; filling = refl }
 
 groups : Groups
-groups = record { places = refl; numbers = refl; train = refl; inputs = refl; reached = refl; unreached = refl; route = refl; control = refl }
+groups = record { places = refl; numbers = refl; train = refl; inputs = refl; reached = refl; unreached = refl; route = refl; adhesion = refl; control = refl }
 
 pub anchors : Anchors
 anchors = record { constants = constants; freshly = freshly; blank = blank; groups = groups }

@@ -1,12 +1,15 @@
 -- Values worked out by hand from document 01, which the definitions must give.
 use Rattle.std.specs.Prelude.{ℕ, ◌+◌, ◌≡◌, true, false, [], ◌∷◌, map, replicate}
 use Rattle.engine_value.specs.Engine.{max2, max4, max_nidc, max_nidtp, undefined, no_operational, max_segments, max_points, max_zones, filled}
-use Rattle.engine_value.specs.Engine.{blank_zone, blank_segment, blank_point, progress, no_skips, no_traction, fresh, no_route, route_in, with_control}
+use Rattle.engine_value.specs.Engine.{blank_zone, blank_segment, blank_point, progress, no_skips, no_traction, fresh, adhesion_of, no_adhesion, no_route, route_in, with_control}
 use Rattle.engine_value.specs.Engine.{Value, mode, lever, reports, train_length, place, number_in, train_of, inputs_of}
 use Rattle.engine_value.specs.declared.Load.{Load}
 use Rattle.engine_value.specs.declared.Position.{Position}
 use Rattle.engine_value.specs.declared.Control.{Control}
 use Rattle.engine_value.specs.declared.Traction.{Traction}
+use Rattle.engine_value.specs.declared.Adhesion.{Adhesion}
+use Rattle.adhesion.specs.Anchors.{north, south}
+use Rattle.adhesion.specs.Constraints.{blank_constraint}
 use Rattle.engine_value.specs.declared.Engine.{Engine}
 
 pub record Constants : Type 0 where
@@ -46,11 +49,14 @@ pub record Fresh : Type 0 where
   pub no_request_lem : fresh.control.request ≡ false
   -- 02, Q-1: no request yet, so "the first request writes"
   pub no_traction_lem : fresh.traction ≡ record { remembered = false; range = 0; suptb = 0; spare = 0 }
+  -- 02, Q-7: "the rows of the latest one since power off, else none"
+  pub no_adhesion_lem : fresh.adhesion ≡ record { constraints = replicate 31 blank_constraint; count = 0 }
   pub no_route_lem : no_route ≡ route_in fresh
   pub skips_cleared : no_skips ≡ replicate 64 false
 
 -- every value of a blank element is 0 or false
 pub record Blank : Type 0 where
+  pub constraint : blank_constraint ≡ record { nidsp = 0; start = 0; end = 0; nidc = 0; category = 0; range = 0 }
   pub zone : blank_zone ≡ record { start = 0; end = 0 }
   pub segment : blank_segment ≡ record {
     nidsp = 0;
@@ -97,8 +103,12 @@ engaged = record { state = 5; press = false; request = true }
 abbrev pub requested : Traction
 requested = record { remembered = true; range = 3; suptb = 200; spare = 0 }
 
-abbrev pub sample : Control → Traction → Engine
-sample c t = record {
+-- two rows, no two values alike
+abbrev pub slippery : Adhesion
+slippery = record { constraints = north ∷ south ∷ replicate 29 blank_constraint; count = 2 }
+
+abbrev pub sample : Control → Traction → Adhesion → Engine
+sample c t a = record {
   points = blank_point ∷ blank_point ∷ [];
   skips = true ∷ [];
   segments = blank_segment ∷ [];
@@ -108,18 +118,21 @@ sample c t = record {
   inputs = record { mode = 1; lever = 2; reports = 31 };
   control = c;
   traction = t;
+  adhesion = a;
 }
 
 pub record Groups : Type 0 where
   pub places : map place (mode ∷ lever ∷ reports ∷ train_length ∷ []) ≡ 0 ∷ 1 ∷ 2 ∷ 3 ∷ []
   -- "Mode, lever, reports, position and train length": each value in its field
-  pub numbers : map (number_in (sample engaged requested)) (mode ∷ lever ∷ reports ∷ train_length ∷ []) ≡ 1 ∷ 2 ∷ 31 ∷ 400 ∷ []
+  pub numbers : map (number_in (sample engaged requested slippery)) (mode ∷ lever ∷ reports ∷ train_length ∷ []) ≡ 1 ∷ 2 ∷ 31 ∷ 400 ∷ []
   pub train : train_of somewhere values ≡ record { position = somewhere; length = 400 }
   pub inputs : inputs_of values ≡ record { mode = 1; lever = 2; reports = 31 }
   pub reached : progress 1 true ≡ record { next = 1; reached = true }
   pub unreached : progress 2 false ≡ record { next = 2; reached = false }
-  pub route : route_in (sample engaged requested) ≡ record { load = journey; points = blank_point ∷ blank_point ∷ []; segments = blank_segment ∷ [] }
-  pub control : with_control (sample fresh.control no_traction) engaged requested ≡ sample engaged requested
+  pub route : route_in (sample engaged requested slippery) ≡ record { load = journey; points = blank_point ∷ blank_point ∷ []; segments = blank_segment ∷ [] }
+  -- 02, Q-7: "the engine shows the rows"; behind them blank ones
+  pub adhesion : adhesion_of (north ∷ south ∷ []) ≡ slippery
+  pub control : with_control (sample fresh.control no_traction no_adhesion) engaged requested slippery ≡ sample engaged requested slippery
 
 pub record Anchors : Type 0 where
   pub constants : Constants

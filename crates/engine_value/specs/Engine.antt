@@ -1,5 +1,5 @@
 -- The engine as a value: blank elements, fresh.
-use Rattle.std.specs.Prelude.{ℕ, List, ◌++◌, Bool, false, replicate, take}
+use Rattle.std.specs.Prelude.{ℕ, List, [], ◌++◌, Bool, false, replicate, take, length}
 use Rattle.engine_value.specs.declared.Zone.{Zone}
 use Rattle.engine_value.specs.declared.Segment.{Segment}
 use Rattle.engine_value.specs.declared.Point.{Point}
@@ -10,6 +10,9 @@ use Rattle.engine_value.specs.declared.Train.{Train}
 use Rattle.engine_value.specs.declared.Inputs.{Inputs}
 use Rattle.engine_value.specs.declared.Control.{Control}
 use Rattle.engine_value.specs.declared.Traction.{Traction}
+use Rattle.engine_value.specs.declared.Adhesion.{Adhesion}
+use Rattle.adhesion.specs.Constraints.{max_constraints, blank_constraint}
+use Rattle.adhesion.specs.declared.TemporaryConstraint.{TemporaryConstraint}
 use Rattle.engine_value.specs.declared.Engine.{Engine}
 
 -- ---- constants
@@ -114,6 +117,14 @@ fresh_control = record { state = 0; press = false; request = false }
 abbrev pub no_traction : Traction
 no_traction = record { remembered = false; range = 0; suptb = 0; spare = 0 }
 
+-- 02, Q-7: the group that shows some rows
+abbrev pub adhesion_of : List TemporaryConstraint → Adhesion
+adhesion_of rows = record { constraints = filled max_constraints blank_constraint rows; count = length rows }
+
+-- "else none"
+abbrev pub no_adhesion : Adhesion
+no_adhesion = adhesion_of []
+
 abbrev pub no_skips : List Bool
 no_skips = replicate max_points false
 
@@ -128,6 +139,7 @@ fresh = record {
   inputs = fresh_inputs;
   control = fresh_control;
   traction = no_traction;
+  adhesion = no_adhesion;
 }
 
 -- ---- a load's result: what stands in the engine until the next one
@@ -143,9 +155,9 @@ no_route = record { load = no_load; points = replicate max_points blank_point; s
 abbrev pub route_in : Engine → Route
 route_in e = record { load = e.load; points = e.points; segments = e.segments }
 
--- the engine with other groups of control and traction (antt has no record update)
-abbrev pub with_control : Engine → Control → Traction → Engine
-with_control e c t =
+-- the engine with other groups of control, traction and adhesion (antt has no record update)
+abbrev pub with_control : Engine → Control → Traction → Adhesion → Engine
+with_control e c t a =
     record {
       points = e.points;
       skips = e.skips;
@@ -156,4 +168,5 @@ with_control e c t =
       inputs = e.inputs;
       control = c;
       traction = t;
+      adhesion = a;
     }

@@ -7,6 +7,8 @@
 ghost use Rattle.std.specs.Prelude.{◌≡◌};
 ghost use Rattle.engine_value.specs.Engine.{fresh};
 
+use adhesion::{MAX_CONSTRAINTS, TemporaryConstraint};
+
 // The most points and segments of a journey, and the most zones of a segment.
 pub const MAX_POINTS: usize = 64;
 
@@ -168,6 +170,28 @@ pub struct Traction {
     pub spare: u8,
 }
 
+// The rows of slippery rail that the latest kind 15 brought. C layout: a count beside the rows, which are blank from the count on.
+#[repr(C)]
+#[derive(Clone, Copy)]
+pub struct Adhesion {
+    pub constraints: [TemporaryConstraint; MAX_CONSTRAINTS],
+    pub count: u32,
+}
+
+// No rows.
+impl Default for Adhesion {
+    ghost use Rattle.engine_value.specs.Engine.{no_adhesion};
+
+    ghost is_default = { λ a. a ≡ no_adhesion };
+
+    fn default() -> Adhesion {
+        Adhesion {
+            constraints: [TemporaryConstraint::default(); MAX_CONSTRAINTS],
+            count: 0,
+        }
+    }
+}
+
 // The journey's points and the driver skips of each, its segments, and the groups above. The skips in an array of their own, so that the points
 // stay as the load left them.
 #[repr(C)]
@@ -182,6 +206,7 @@ pub struct Engine {
     pub inputs: Inputs,
     pub control: Control,
     pub traction: Traction,
+    pub adhesion: Adhesion,
 }
 
 // The journey in force, where it is kept: in an engine, or in what a load brings. Whole arrays, since both keep them so and a load copies them
@@ -223,5 +248,6 @@ pub fn fresh() -> Engine
         inputs: Inputs::default(),
         control: Control::default(),
         traction: Traction::default(),
+        adhesion: Adhesion::default(),
     }
 }

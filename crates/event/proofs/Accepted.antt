@@ -16,7 +16,9 @@ use Rattle.layout.specs.Body.{BodyValues, body_size, body_at, body_fits}
 use Rattle.engine_value.specs.Engine.{max2, max4, max_nidc, undefined}
 use Rattle.engine_value.specs.declared.Position.{Position}
 use Rattle.packets.specs.declared.Requested.{Requested}
-use Rattle.event.specs.Kinds.{Content, kind, kinds, kind_of}
+use Rattle.wire.specs.Lists.{any}
+use Rattle.adhesion.specs.Constraints.{reversed}
+use Rattle.event.specs.Kinds.{Content, kind, kinds, kind_of, rows_of}
 use Rattle.event.specs.Events.{event_rows, event_with, content_among, event_of_kind, event_of}
 use Rattle.event.specs.declared.TractionRequest.{TractionRequest}
 use Rattle.event.specs.Event.{Event}
@@ -24,6 +26,10 @@ use Rattle.event.specs.Event.{Event}
 -- an event is that of values in the ranges of its layout
 abbrev pub Fits : Event → Type 0
 Fits e = let c = (kind e).content in (v : BodyValues c.body) × (body_fits c.body v ≡ true) × (c.event v ≡ e)
+
+-- none of its rows is reversed
+abbrev pub Straight : Event → Type 0
+Straight e = any reversed (rows_of e) ≡ false
 
 pub record PositionFits (p : Position) : Type 0 where
   pub nidc : p.nidc ≤ max_nidc
@@ -88,6 +94,7 @@ gives Event.Load v h = ((v, h, refl), refl)
 gives (Event.Skip t) v h = ((v, h, refl), refl)
 gives (Event.Revoke t) v h = ((v, h, refl), refl)
 gives (Event.Traction x) v h = ((v, h, refl), refl)
+gives (Event.Adhesion rs) v h = ((v, h, refl), refl)
 
 among-gives : (es : List Event) (n : ℕ) (c : Content) → content_among es n ≡ accept c → Gives n c
 unfolding content_among
@@ -105,33 +112,44 @@ among-gives (e ∷ es) n c q = go (eqb n (kind e).number) refl q (among-gives es
 -- ---- the rows
 
 module _ (c : Content) (l : List ℕ) (e : Event) where
-  with_inv : event_with c l ≡ accept e → (body_fits c.body (body_at c.body 1 l) ≡ true) × (c.event (body_at c.body 1 l) ≡ e)
+  abbrev made : Event
+  made = c.event (body_at c.body 1 l)
+
+  with_inv : event_with c l ≡ accept e → (body_fits c.body (body_at c.body 1 l) ≡ true) × (made ≡ e) × Straight made
   unfolding event_with event_rows
-  with_inv q = go (eqb (length l) (1 + body_size c.body (body_at c.body 1 l))) (body_fits c.body (body_at c.body 1 l)) refl q
+  with_inv q = go (eqb (length l) (1 + body_size c.body (body_at c.body 1 l))) (body_fits c.body (body_at c.body 1 l)) refl (any reversed (rows_of made)) refl q
     where
-      same : accept (c.event (body_at c.body 1 l)) ≡ accept e → c.event (body_at c.body 1 l) ≡ e
+      same : accept made ≡ accept e → made ≡ e
       same p = cc
 
-      go : (a b : Bool) → body_fits c.body (body_at c.body 1 l) ≡ b
-          → then_judge (row 1 (not a)) (λ t. then_judge (row 2 (not b)) (λ u. accept (c.event (body_at c.body 1 l)))) ≡ accept e
-          → (body_fits c.body (body_at c.body 1 l) ≡ true) × (c.event (body_at c.body 1 l) ≡ e)
-      go true true f q = (f, same q)
-      go true false f q = let z : ◌≡◌ {A = ℕ} 0 1 = cc in absurd (omega arith)
-      go false b f q = let z : ◌≡◌ {A = ℕ} 0 1 = cc in absurd (omega arith)
+      go : (a b : Bool) → body_fits c.body (body_at c.body 1 l) ≡ b → (d : Bool) → any reversed (rows_of made) ≡ d
+          → then_judge (row 1 (not a)) (λ t. then_judge (row 2 (not b)) (λ u. then_judge (row 21 d) (λ w. accept made))) ≡ accept e
+          → (body_fits c.body (body_at c.body 1 l) ≡ true) × (made ≡ e) × Straight made
+      go true true f false r q = (f, same q, r)
+      go true true f true r q = let z : ◌≡◌ {A = ℕ} 0 1 = cc in absurd (omega arith)
+      go true false f d r q = let z : ◌≡◌ {A = ℕ} 0 1 = cc in absurd (omega arith)
+      go false b f d r q = let z : ◌≡◌ {A = ℕ} 0 1 = cc in absurd (omega arith)
 
-kind-sure : (n : ℕ) (l : List ℕ) (e : Event) → event_of_kind n l ≡ accept e → Fits e × (kind_of e ≡ n)
+-- what an accepted event is
+abbrev Sure : ℕ → Event → Type 0
+Sure n e = Fits e × Straight e × (kind_of e ≡ n)
+
+kind-sure : (n : ℕ) (l : List ℕ) (e : Event) → event_of_kind n l ≡ accept e → Sure n e
 unfolding event_of_kind
 kind-sure n l e q = go (content_among kinds n) refl q
   where
-    go : (j : Judged Content) → content_among kinds n ≡ j → then_judge j (λ c. event_with c l) ≡ accept e → Fits e × (kind_of e ≡ n)
+    go : (j : Judged Content) → content_among kinds n ≡ j → then_judge j (λ c. event_with c l) ≡ accept e → Sure n e
     go (refuse k) f p = let z : ◌≡◌ {A = ℕ} 0 1 = cc in absurd (omega arith)
-    go (accept c) f p = let i = with_inv c l e p in subst (λ x. Fits x × (kind_of x ≡ n)) i.1 (among-gives kinds n c f (body_at c.body 1 l) i.0)
+    go (accept c) f p =
+        let i = with_inv c l e p in
+        let g = among-gives kinds n c f (body_at c.body 1 l) i.0 in
+        subst (Sure n) i.1 (g.0, i.2, g.1)
 
-event-sure : (l : List ℕ) (e : Event) → event_of l ≡ accept e → Fits e × (kind_of e ≡ get_or l 0 0)
+event-sure : (l : List ℕ) (e : Event) → event_of l ≡ accept e → Sure (get_or l 0 0) e
 unfolding event_of
 event-sure l e q = go (eqb (length l) 0) q
   where
-    go : (b : Bool) → then_judge (row 1 b) (λ t. event_of_kind (get_or l 0 0) l) ≡ accept e → Fits e × (kind_of e ≡ get_or l 0 0)
+    go : (b : Bool) → then_judge (row 1 b) (λ t. event_of_kind (get_or l 0 0) l) ≡ accept e → Sure (get_or l 0 0) e
     go true p = let z : ◌≡◌ {A = ℕ} 0 1 = cc in absurd (omega arith)
     go false p = kind-sure (get_or l 0 0) l e p
 
@@ -139,4 +157,7 @@ pub event-fits : (l : List ℕ) (e : Event) → event_of l ≡ accept e → Fits
 event-fits l e q = (event-sure l e q).0
 
 pub event-kind : (l : List ℕ) (e : Event) → event_of l ≡ accept e → kind_of e ≡ get_or l 0 0
-event-kind l e q = (event-sure l e q).1
+event-kind l e q = (event-sure l e q).2
+
+pub event-straight : (l : List ℕ) (e : Event) → event_of l ≡ accept e → Straight e
+event-straight l e q = (event-sure l e q).1

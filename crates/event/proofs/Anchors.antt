@@ -16,6 +16,9 @@ rows = record {
   length_range = refl;
   skip_range = refl;
   traction_range = refl;
+  constraint_range = refl;
+  rows_order = refl;
+  rows_lengths = refl;
   empty = refl;
   unknown = refl;
   longer = refl;
@@ -38,6 +41,8 @@ roles = record {
   values = λ n. refl;
   position = λ x. refl;
   traction = refl;
+  constraints = refl;
+  rows = refl;
   newest = refl;
 }
 

@@ -8,6 +8,8 @@ use Rattle.engine_value.specs.Engine.{mode}
 use Rattle.engine_value.specs.declared.Position.{Position}
 use Rattle.event.specs.Kinds.{Row, SwitchOn, Configure, SwitchOff, Fail, EngagePress, ByState, kind_of, row_of}
 use Rattle.event.specs.Kinds.{Role, off, load, report, other, skip, Kind, kind, bringing, carried}
+use mathlib.Core.List.{List}
+use Rattle.adhesion.specs.declared.TemporaryConstraint.{TemporaryConstraint}
 use Rattle.event.specs.declared.TractionRequest.{TractionRequest}
 use Rattle.event.specs.Event.{Event}
 
@@ -27,7 +29,8 @@ OfRole other e = Unit {0}
 OfRole (skip t true) e = e ≡ Event.Skip t
 OfRole (skip t false) e = e ≡ Event.Revoke t
 
--- a mode that an event brings is a mode report's, a position that it brings a position report's, a traction request one of kind 14
+-- a mode that an event brings is a mode report's, a position that it brings a position report's, a traction request one of kind 14, rows of slippery rail are
+-- those of kind 15
 abbrev pub OfMode : Option ℕ → Event → Type 0
 OfMode None e = Unit {0}
 OfMode (Some n) e = e ≡ Event.Mode n
@@ -35,6 +38,10 @@ OfMode (Some n) e = e ≡ Event.Mode n
 abbrev pub OfPosition : Option Position → Event → Type 0
 OfPosition None e = Unit {0}
 OfPosition (Some x) e = e ≡ Event.PositionReport x
+
+abbrev pub OfConstraints : Option (List TemporaryConstraint) → Event → Type 0
+OfConstraints None e = Unit {0}
+OfConstraints (Some rs) e = e ≡ Event.Adhesion rs
 
 abbrev pub OfTraction : Option TractionRequest → Event → Type 0
 OfTraction None e = Unit {0}
@@ -46,22 +53,24 @@ pub record Known (k : Kind) (e : Event) : Type 0 where
   pub mode : OfMode ((bringing k.brings).number mode) e
   pub position : OfPosition (bringing k.brings).position e
   pub traction : OfTraction (bringing k.brings).traction e
+  pub constraints : OfConstraints (bringing k.brings).constraints e
 
 pub known : (e : Event) → Known (kind e) e
-known Event.PowerOn = record { row = (refl, refl); role = tt; mode = tt; position = tt; traction = tt }
-known Event.Configured = record { row = (refl, refl); role = tt; mode = tt; position = tt; traction = tt }
-known Event.PowerOff = record { row = (refl, refl); role = refl; mode = tt; position = tt; traction = tt }
-known Event.Fault = record { row = (refl, refl); role = tt; mode = tt; position = tt; traction = tt }
-known (Event.Reports n) = record { row = (refl, refl); role = tt; mode = tt; position = tt; traction = tt }
-known (Event.Mode n) = record { row = (refl, refl); role = tt; mode = refl; position = tt; traction = tt }
-known (Event.Lever n) = record { row = (refl, refl); role = tt; mode = tt; position = tt; traction = tt }
-known Event.Press = record { row = (refl, refl); role = tt; mode = tt; position = tt; traction = tt }
-known (Event.PositionReport x) = record { row = (refl, refl); role = (x, refl); mode = tt; position = refl; traction = tt }
-known (Event.Length n) = record { row = (refl, refl); role = tt; mode = tt; position = tt; traction = tt }
-known Event.Load = record { row = (refl, refl); role = refl; mode = tt; position = tt; traction = tt }
-known (Event.Skip t) = record { row = (refl, refl); role = refl; mode = tt; position = tt; traction = tt }
-known (Event.Revoke t) = record { row = (refl, refl); role = refl; mode = tt; position = tt; traction = tt }
-known (Event.Traction x) = record { row = (refl, refl); role = tt; mode = tt; position = tt; traction = refl }
+known Event.PowerOn = record { row = (refl, refl); role = tt; mode = tt; position = tt; traction = tt; constraints = tt }
+known Event.Configured = record { row = (refl, refl); role = tt; mode = tt; position = tt; traction = tt; constraints = tt }
+known Event.PowerOff = record { row = (refl, refl); role = refl; mode = tt; position = tt; traction = tt; constraints = tt }
+known Event.Fault = record { row = (refl, refl); role = tt; mode = tt; position = tt; traction = tt; constraints = tt }
+known (Event.Reports n) = record { row = (refl, refl); role = tt; mode = tt; position = tt; traction = tt; constraints = tt }
+known (Event.Mode n) = record { row = (refl, refl); role = tt; mode = refl; position = tt; traction = tt; constraints = tt }
+known (Event.Lever n) = record { row = (refl, refl); role = tt; mode = tt; position = tt; traction = tt; constraints = tt }
+known Event.Press = record { row = (refl, refl); role = tt; mode = tt; position = tt; traction = tt; constraints = tt }
+known (Event.PositionReport x) = record { row = (refl, refl); role = (x, refl); mode = tt; position = refl; traction = tt; constraints = tt }
+known (Event.Length n) = record { row = (refl, refl); role = tt; mode = tt; position = tt; traction = tt; constraints = tt }
+known Event.Load = record { row = (refl, refl); role = refl; mode = tt; position = tt; traction = tt; constraints = tt }
+known (Event.Skip t) = record { row = (refl, refl); role = refl; mode = tt; position = tt; traction = tt; constraints = tt }
+known (Event.Revoke t) = record { row = (refl, refl); role = refl; mode = tt; position = tt; traction = tt; constraints = tt }
+known (Event.Traction x) = record { row = (refl, refl); role = tt; mode = tt; position = tt; traction = refl; constraints = tt }
+known (Event.Adhesion rs) = record { row = (refl, refl); role = tt; mode = tt; position = tt; traction = tt; constraints = refl }
 
 pub press_of : (e : Event) → eqb (kind_of e) 8 ≡ true → e ≡ Event.Press
 press_of e q = go (row_of e) (kind_of e) (known e).row q
@@ -79,6 +88,9 @@ mode_of e = (known e).mode
 
 pub traction-of : (e : Event) → OfTraction (carried e).traction e
 traction-of e = (known e).traction
+
+pub constraints-of : (e : Event) → OfConstraints (carried e).constraints e
+constraints-of e = (known e).constraints
 
 pub position_of : (e : Event) → OfPosition (carried e).position e
 position_of e = (known e).position

@@ -1,3 +1,4 @@
 pub mod Anchors
 pub mod Known
 pub mod Accepted
+pub mod Adhesion

@@ -1,5 +1,5 @@
 -- Values worked out by hand from documents 01 and 02, which the table of the kinds and the reader must give, a line a kind.
-use Rattle.std.specs.Prelude.{ℕ, ◌≡◌, true, false, Option, Some, None, Ok, Err, List, [], ◌∷◌, ◌++◌, map}
+use Rattle.std.specs.Prelude.{ℕ, ◌≡◌, true, false, Option, Some, None, Ok, Err, List, [], ◌∷◌, ◌++◌, map, flat_map, take, replicate}
 use Rattle.wire.specs.Judged.{Judged}
 use Rattle.wire.specs.Judged.Judged.{refuse, accept}
 use Rattle.wire.specs.View.{judged}
@@ -8,9 +8,10 @@ use Rattle.engine_value.specs.Engine.{mode, lever, reports, train_length}
 use Rattle.engine_value.specs.declared.Position.{Position}
 use Rattle.event.specs.Kinds.{Row, SwitchOn, Configure, SwitchOff, Fail, EngagePress, ByState}
 use Rattle.event.specs.Kinds.{Role, off, load, report, other, skip, is_off, is_load, is_report, is_skip, skip_given, skip_name, newer}
-use Rattle.event.specs.Kinds.{kind_of, row_of, role_of, carried}
+use Rattle.event.specs.Kinds.{kind_of, row_of, role_of, carried, rows_of}
 use Rattle.event.specs.Events.{event_of}
 use Rattle.event.specs.View.{kind_number, known_kind, role_view}
+use Rattle.adhesion.specs.Anchors.{north, south, north_bytes, south_bytes}
 use Rattle.event.specs.declared.TractionRequest.{TractionRequest}
 use Rattle.event.specs.Event.{Event}
 use Rattle.event.specs.declared.EventKind.{EventKind}
@@ -43,7 +44,8 @@ Vector = Event × ℕ × Row × Role × Brought × List ℕ
 -- "One byte kind, then: 1 power on; 2 configured; 3 power off; 4 fault; 5 reports (1: ..); 6 ETCS mode (1: ..); 7 lever (1: ..); 8 engage press;
 -- 9 position: NID_C (2, ..), NID_SP (4), offset (4; ..), speed (2); 10 train length (4, ..); 11 load, ..; 12 driver skip (4, NID_TP); 13 driver
 -- revokes skip (4)"; "power on gives CO; CO waits for configured, then U; fault gives FA until power off"; "Mode, lever, reports, position and train
--- length come from the latest accepted event .. that carries them"; 02: "A kind 14 event carries one signed byte, .., then the five bytes of packet 61"
+-- length come from the latest accepted event .. that carries them"; 02: "A kind 14 event carries one signed byte, .., then the five bytes of packet 61";
+-- "A kind 15 event brings count (0-31) and that many rows: NID_C, NID_SP, category, range, start, end, of 2, 4, 1, 1, 4 and 4 bytes"
 abbrev pub vectors : List Vector
 vectors =
     (Event.PowerOn, 1, SwitchOn, other, nothing, 1 ∷ [])
@@ -67,6 +69,7 @@ vectors =
     ∷ (Event.Skip 0x456789AB, 12, ByState, skip 0x456789AB true, nothing, 12 ∷ 0x45 ∷ 0x67 ∷ 0x89 ∷ 0xAB ∷ [])
     ∷ (Event.Revoke 7001, 13, ByState, skip 7001 false, nothing, 13 ∷ 0x00 ∷ 0x00 ∷ 0x1B ∷ 0x59 ∷ [])
     ∷ (Event.Traction asked, 14, ByState, other, nothing, 14 ∷ 0xEC ∷ 0xA1 ∷ 0xB2 ∷ 0xC3 ∷ 0xD4 ∷ 0xE5 ∷ [])
+    ∷ (Event.Adhesion (north ∷ south ∷ []), 15, ByState, other, nothing, 15 ∷ 2 ∷ north_bytes ++ south_bytes)
     ∷ []
 
 abbrev pub event_in : Vector → Event
@@ -96,6 +99,14 @@ number_for l = number_in (event_of l)
 abbrev pub report_of : List ℕ → List ℕ → List ℕ
 report_of nidc offset = 9 ∷ (nidc ++ (0xFF ∷ 0xFF ∷ 0xFF ∷ 0xFF ∷ (offset ++ (0xFF ∷ 0xFF ∷ []))))
 
+-- a row of NID_C, start and end, the rest free
+abbrev pub constraint_bytes : List ℕ → List ℕ → List ℕ → List ℕ
+constraint_bytes nidc start end = nidc ++ (0xFF ∷ 0xFF ∷ 0xFF ∷ 0xFF ∷ 0xFF ∷ 0xFF ∷ (start ++ end))
+
+-- start 251, end 250
+abbrev pub reversed_bytes : List ℕ
+reversed_bytes = constraint_bytes (0x00 ∷ 0x11 ∷ []) (0x00 ∷ 0x00 ∷ 0x00 ∷ 0xFB ∷ []) (0x00 ∷ 0x00 ∷ 0x00 ∷ 0xFA ∷ [])
+
 pub record Rows : Type 0 where
   -- "2 field out of range": "reports (1: bit 0 .. 4 ..; 5-7 zero)"; "ETCS mode (1: 0 other, 1 AD)"; "lever (1: 0 neutral, 1 traction, 2 brake)"
   pub reports_range : map (λ n. event_of (5 ∷ n ∷ [])) (0 ∷ 1 ∷ 2 ∷ 4 ∷ 8 ∷ 16 ∷ 31 ∷ 32 ∷ 64 ∷ 128 ∷ [])
@@ -116,10 +127,36 @@ pub record Rows : Type 0 where
   -- "the request from −100 to 100", "A request beyond 100 gets number 2": 0, 1, 100, 101, 127; −128, −101, −100, −1. The content is free
   pub traction_range : map (λ n. number_for (14 ∷ n ∷ 0xFF ∷ 0xFF ∷ 0xFF ∷ 0xFF ∷ 0xFF ∷ [])) (0x00 ∷ 0x01 ∷ 0x64 ∷ 0x65 ∷ 0x7F ∷ 0x80 ∷ 0x9B ∷ 0x9C ∷ 0xFF ∷ [])
       ≡ 0 ∷ 0 ∷ 0 ∷ 2 ∷ 2 ∷ 2 ∷ 2 ∷ 0 ∷ 0 ∷ []
+  -- kind 15: "Start may not exceed end, nor either of them 16,777,215; NID_C ends at 1,023": each at its highest, and one more; start at end, and beyond it
+  pub constraint_range : map (λ r. number_for (15 ∷ 1 ∷ r)) (
+      constraint_bytes (0x03 ∷ 0xFF ∷ []) (0x00 ∷ 0xFF ∷ 0xFF ∷ 0xFF ∷ []) (0x00 ∷ 0xFF ∷ 0xFF ∷ 0xFF ∷ [])
+      ∷ constraint_bytes (0x04 ∷ 0x00 ∷ []) (0x00 ∷ 0x00 ∷ 0x00 ∷ 0x00 ∷ []) (0x00 ∷ 0x00 ∷ 0x00 ∷ 0x00 ∷ [])
+      ∷ constraint_bytes (0x00 ∷ 0x00 ∷ []) (0x01 ∷ 0x00 ∷ 0x00 ∷ 0x00 ∷ []) (0x01 ∷ 0x00 ∷ 0x00 ∷ 0x00 ∷ [])
+      ∷ constraint_bytes (0x00 ∷ 0x00 ∷ []) (0x00 ∷ 0x00 ∷ 0x00 ∷ 0x00 ∷ []) (0x01 ∷ 0x00 ∷ 0x00 ∷ 0x00 ∷ [])
+      ∷ constraint_bytes (0x00 ∷ 0x00 ∷ []) (0x00 ∷ 0x00 ∷ 0x00 ∷ 0xFA ∷ []) (0x00 ∷ 0x00 ∷ 0x00 ∷ 0xFA ∷ [])
+      ∷ reversed_bytes
+      ∷ []
+      ) ≡ 0 ∷ 2 ∷ 2 ∷ 2 ∷ 0 ∷ 21 ∷ []
+  -- "A count over 31 of fitting length .. gets 2", over all rows before "21 .. checked after 2"; a reversed row among others
+  pub rows_order : map number_for (
+      (15 ∷ 31 ∷ flat_map (λ r. r) (replicate 31 south_bytes))
+      ∷ (15 ∷ 32 ∷ flat_map (λ r. r) (replicate 32 south_bytes))
+      ∷ (15 ∷ 32 ∷ flat_map (λ r. r) (replicate 32 reversed_bytes))
+      ∷ (15 ∷ 2 ∷ reversed_bytes ++ constraint_bytes (0x04 ∷ 0x00 ∷ []) (0x00 ∷ 0x00 ∷ 0x00 ∷ 0x00 ∷ []) (0x00 ∷ 0x00 ∷ 0x00 ∷ 0x00 ∷ []))
+      ∷ (15 ∷ 2 ∷ north_bytes ++ reversed_bytes)
+      ∷ (15 ∷ 2 ∷ reversed_bytes ++ north_bytes)
+      ∷ []
+      ) ≡ 0 ∷ 2 ∷ 2 ∷ 2 ∷ 21 ∷ 21 ∷ []
+  -- "A length other than 2 + 16 × count gets 1, also for a count over 31": no count; none, and a byte; one, and a byte more, a byte less, two, none; 32 and one; a
+  -- reversed row with a byte too much
+  pub rows_lengths : map number_for (
+      (15 ∷ []) ∷ (15 ∷ 0 ∷ []) ∷ (15 ∷ 0 ∷ 0 ∷ []) ∷ (15 ∷ 1 ∷ north_bytes ++ (0 ∷ [])) ∷ (15 ∷ 1 ∷ take 15 north_bytes) ∷ (15 ∷ 1 ∷ north_bytes ++ south_bytes)
+      ∷ (15 ∷ 1 ∷ []) ∷ (15 ∷ 32 ∷ north_bytes) ∷ (15 ∷ 255 ∷ []) ∷ (15 ∷ 1 ∷ reversed_bytes ++ (0 ∷ [])) ∷ []
+      ) ≡ 1 ∷ 0 ∷ 1 ∷ 1 ∷ 1 ∷ 1 ∷ 1 ∷ 1 ∷ 1 ∷ 1 ∷ []
   -- "1 empty, unknown kind or wrong length": one more byte, one less
   pub empty : event_of [] ≡ refuse 1
-  pub unknown : map (λ k. number_for (k ∷ [])) (0 ∷ 15 ∷ 16 ∷ 255 ∷ []) ≡ 1 ∷ 1 ∷ 1 ∷ 1 ∷ []
-  pub longer : map (λ v. number_for (bytes_in v ++ (0 ∷ []))) vectors ≡ 1 ∷ 1 ∷ 1 ∷ 1 ∷ 1 ∷ 1 ∷ 1 ∷ 1 ∷ 1 ∷ 1 ∷ 1 ∷ 1 ∷ 1 ∷ 1 ∷ []
+  pub unknown : map (λ k. number_for (k ∷ [])) (0 ∷ 16 ∷ 17 ∷ 255 ∷ []) ≡ 1 ∷ 1 ∷ 1 ∷ 1 ∷ []
+  pub longer : map (λ v. number_for (bytes_in v ++ (0 ∷ []))) vectors ≡ 1 ∷ 1 ∷ 1 ∷ 1 ∷ 1 ∷ 1 ∷ 1 ∷ 1 ∷ 1 ∷ 1 ∷ 1 ∷ 1 ∷ 1 ∷ 1 ∷ 1 ∷ []
   pub shorter : map number_for (
       (5 ∷ []) ∷ (6 ∷ []) ∷ (7 ∷ []) ∷ (9 ∷ 0 ∷ 0 ∷ 0 ∷ 0 ∷ 0 ∷ 0 ∷ 0 ∷ 0 ∷ 0 ∷ 0 ∷ 0 ∷ []) ∷ (10 ∷ 0 ∷ 0 ∷ 1 ∷ [])
       ∷ (12 ∷ 0 ∷ 0 ∷ 0 ∷ []) ∷ (13 ∷ 0 ∷ 0 ∷ 0 ∷ []) ∷ (14 ∷ 0 ∷ 0 ∷ 0 ∷ 0 ∷ 0 ∷ []) ∷ []
@@ -129,9 +166,10 @@ pub record Rows : Type 0 where
   -- "For an answer that is an enum, a definition gives this paper's number and values for each of its cases."
   pub numbers : map kind_number (
       EventKind.PowerOn ∷ EventKind.Configured ∷ EventKind.PowerOff ∷ EventKind.Fault ∷ EventKind.Reports ∷ EventKind.Mode ∷ EventKind.Lever
-      ∷ EventKind.Press ∷ EventKind.PositionReport ∷ EventKind.Length ∷ EventKind.Load ∷ EventKind.Skip ∷ EventKind.Revoke ∷ EventKind.Traction ∷ []
-      ) ≡ 1 ∷ 2 ∷ 3 ∷ 4 ∷ 5 ∷ 6 ∷ 7 ∷ 8 ∷ 9 ∷ 10 ∷ 11 ∷ 12 ∷ 13 ∷ 14 ∷ []
-  pub known : map known_kind (0 ∷ 1 ∷ 14 ∷ 15 ∷ 255 ∷ []) ≡ refuse 1 ∷ accept 1 ∷ accept 14 ∷ refuse 1 ∷ refuse 1 ∷ []
+      ∷ EventKind.Press ∷ EventKind.PositionReport ∷ EventKind.Length ∷ EventKind.Load ∷ EventKind.Skip ∷ EventKind.Revoke ∷ EventKind.Traction
+      ∷ EventKind.Adhesion ∷ []
+      ) ≡ 1 ∷ 2 ∷ 3 ∷ 4 ∷ 5 ∷ 6 ∷ 7 ∷ 8 ∷ 9 ∷ 10 ∷ 11 ∷ 12 ∷ 13 ∷ 14 ∷ 15 ∷ []
+  pub known : map known_kind (0 ∷ 1 ∷ 15 ∷ 16 ∷ 255 ∷ []) ≡ refuse 1 ∷ accept 1 ∷ accept 15 ∷ refuse 1 ∷ refuse 1 ∷ []
   pub views : map judged (Ok (Event.Lever 2) ∷ Err Refusal.EventRange ∷ []) ≡ accept (Event.Lever 2) ∷ refuse 2 ∷ []
 
 -- ---- roles
@@ -156,7 +194,11 @@ pub record Roles : Type 0 where
       ≡ (Some n, None, None, None, None) ∷ (None, Some n, None, None, None) ∷ (None, None, Some n, None, None) ∷ (None, None, None, Some n, None) ∷ []
   pub position : (x : Position) → brought_by (Event.PositionReport x) ≡ (None, None, None, None, Some x)
   pub traction : map (λ v. (carried (event_in v)).traction) vectors
-      ≡ None ∷ None ∷ None ∷ None ∷ None ∷ None ∷ None ∷ None ∷ None ∷ None ∷ None ∷ None ∷ None ∷ Some asked ∷ []
+      ≡ None ∷ None ∷ None ∷ None ∷ None ∷ None ∷ None ∷ None ∷ None ∷ None ∷ None ∷ None ∷ None ∷ Some asked ∷ None ∷ []
+  -- 02, Q-7: the rows in their order; none of another kind, as of a kind 15 without rows
+  pub constraints : map (λ v. (carried (event_in v)).constraints) vectors
+      ≡ None ∷ None ∷ None ∷ None ∷ None ∷ None ∷ None ∷ None ∷ None ∷ None ∷ None ∷ None ∷ None ∷ None ∷ Some (north ∷ south ∷ []) ∷ []
+  pub rows : map rows_of (Event.Adhesion (south ∷ north ∷ []) ∷ Event.Adhesion [] ∷ Event.Traction asked ∷ []) ≡ (south ∷ north ∷ []) ∷ [] ∷ [] ∷ []
   pub newest : map {B = ℕ} (λ b. newer b 5) (None ∷ Some 6 ∷ []) ≡ 5 ∷ 6 ∷ []
 
 pub record Anchors : Type 0 where

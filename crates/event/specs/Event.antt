@@ -1,5 +1,6 @@
--- Document 01, "Events": what an event says.
-use Rattle.std.specs.Prelude.{ℕ}
+-- Documents 01, "Events", and 02: what an event says.
+use Rattle.std.specs.Prelude.{ℕ, List}
+use Rattle.adhesion.specs.declared.TemporaryConstraint.{TemporaryConstraint}
 use Rattle.engine_value.specs.declared.Position.{Position}
 use Rattle.event.specs.declared.TractionRequest.{TractionRequest}
 
@@ -12,3 +13,4 @@ pub data Event : Type 0 where
   Load : Event
   Skip Revoke : ℕ → Event
   Traction : TractionRequest → Event
+  Adhesion : List TemporaryConstraint → Event

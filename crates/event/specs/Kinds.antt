@@ -3,14 +3,16 @@
 use Rattle.std.specs.Prelude.{ℕ, Bool, true, false, Option, Some, None, List, [], ◌∷◌, eqb, if◌then◌else◌}
 use Rattle.layout.specs.Layout.{Field, Value as ValueOf, field, to_highest}
 use Rattle.layout.specs.Body.{Body, BodyValues}
-use Rattle.layout.specs.Body.Body.{fields}
+use Rattle.layout.specs.Body.Body.{fields, rows}
 use Rattle.layout.specs.Layout.Content.{free, up_to, between, signed}
 use Rattle.engine_value.specs.Engine.{max2, max4, max_nidc, undefined, fresh_position, Value, mode, lever, reports, train_length, place}
 use Rattle.engine_value.specs.declared.Position.{Position}
+use Rattle.adhesion.specs.Constraints.{max_constraints, row_layout, constraints_of}
+use Rattle.adhesion.specs.declared.TemporaryConstraint.{TemporaryConstraint}
 use Rattle.packets.specs.Layouts.{content61, requested_of}
 use Rattle.event.specs.declared.TractionRequest.{TractionRequest}
 use Rattle.event.specs.Event.{Event}
-use Rattle.event.specs.Event.Event.{PowerOn, Configured, PowerOff, Fault, Reports, Mode, Lever, Press, PositionReport, Length, Load, Skip, Revoke, Traction}
+use Rattle.event.specs.Event.Event.{PowerOn, Configured, PowerOff, Fault, Reports, Mode, Lever, Press, PositionReport, Length, Load, Skip, Revoke, Traction, Adhesion}
 
 -- what stands behind the kind byte, and the event of its values
 pub record Content : Type 0 where
@@ -80,6 +82,7 @@ pub data Brings : Type 0 where
   number : Value → ℕ → Brings
   position : Position → Brings
   traction : TractionRequest → Brings
+  constraints : List TemporaryConstraint → Brings
 
 -- a value after an event, from what the event brings and the value before
 abbrev pub newer : {A : Type 0} → Option A → A → A
@@ -112,6 +115,10 @@ traction_content = record {
   event = λ v. Traction (record { request = v.0; content = requested_of v.1 });
 }
 
+-- 02, Q-7: "count (0-31) and that many rows", as in packet 64, which carries them on
+abbrev pub adhesion_content : Content
+adhesion_content = record { body = rows max_constraints (to_highest row_layout); event = λ vs. Adhesion (constraints_of vs) }
+
 abbrev pub no_request : TractionRequest
 no_request = record { request = 0; content = record { m_ato_trabrrq = 0; m_ato_locobrrq = 0; q_ato_suptb = 0; m_ato_rtbrq = 0 } }
 
@@ -119,7 +126,7 @@ no_request = record { request = 0; content = record { m_ato_trabrrq = 0; m_ato_l
 
 -- "1 power on; 2 configured; 3 power off; 4 fault; 5 reports (1: bit 0 ETCS conditions, .. 4 train conditions; 5-7 zero); 6 ETCS mode (1: 0 other,
 -- 1 AD); 7 lever (1: 0 neutral, 1 traction, 2 brake); 8 engage press; 9 position: ..; 10 train length (4, 1-100,000); 11 load, with journey and book
--- lent beside it; 12 driver skip (4, NID_TP); 13 driver revokes skip (4)"; 02, Q-1: 14, the traction request
+-- lent beside it; 12 driver skip (4, NID_TP); 13 driver revokes skip (4)"; 02, Q-1: 14, the traction request; Q-7: 15, slippery rail
 abbrev pub kind : Event → Kind
 kind PowerOn = is 1 (bare PowerOn) SwitchOn other nothing
 kind Configured = is 2 (bare Configured) Configure other nothing
@@ -135,12 +142,13 @@ kind Load = is 11 (bare Load) ByState load nothing
 kind (Skip t) = is 12 (one (field "NID_TP" 4 free) Skip) ByState (skip t true) nothing
 kind (Revoke t) = is 13 (one (field "NID_TP" 4 free) Revoke) ByState (skip t false) nothing
 kind (Traction x) = is 14 traction_content ByState other (traction x)
+kind (Adhesion rs) = is 15 adhesion_content ByState other (constraints rs)
 
 -- each kind once, at some value: its number and its content do not depend on that
 abbrev pub kinds : List Event
 kinds =
     PowerOn ∷ Configured ∷ PowerOff ∷ Fault ∷ Reports 0 ∷ Mode 0 ∷ Lever 0 ∷ Press ∷ PositionReport fresh_position ∷ Length 0 ∷ Load ∷ Skip 0 ∷ Revoke 0
-    ∷ Traction no_request ∷ []
+    ∷ Traction no_request ∷ Adhesion [] ∷ []
 
 abbrev pub kind_of : Event → ℕ
 kind_of e = (kind e).number
@@ -156,12 +164,18 @@ pub record Carried : Type 0 where
   pub number : Value → Option ℕ
   pub position : Option Position
   pub traction : Option TractionRequest
+  pub constraints : Option (List TemporaryConstraint)
 
 abbrev pub bringing : Brings → Carried
-bringing nothing = record { number = λ v. None; position = None; traction = None }
-bringing (number w n) = record { number = λ v. if eqb (place v) (place w) then Some n else None; position = None; traction = None }
-bringing (position x) = record { number = λ v. None; position = Some x; traction = None }
-bringing (traction x) = record { number = λ v. None; position = None; traction = Some x }
+bringing nothing = record { number = λ v. None; position = None; traction = None; constraints = None }
+bringing (number w n) = record { number = λ v. if eqb (place v) (place w) then Some n else None; position = None; traction = None; constraints = None }
+bringing (position x) = record { number = λ v. None; position = Some x; traction = None; constraints = None }
+bringing (traction x) = record { number = λ v. None; position = None; traction = Some x; constraints = None }
+bringing (constraints rs) = record { number = λ v. None; position = None; traction = None; constraints = Some rs }
 
 abbrev pub carried : Event → Carried
 carried e = bringing (kind e).brings
+
+-- 02, Q-7: the rows of an event; one that brings none has none
+abbrev pub rows_of : Event → List TemporaryConstraint
+rows_of e = newer (carried e).constraints []

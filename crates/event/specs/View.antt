@@ -6,9 +6,10 @@ use Rattle.wire.specs.Judged.Judged.{accept}
 use Rattle.event.specs.Kinds as model
 use Rattle.event.specs.Kinds.{kinds, kind_of}
 use Rattle.event.specs.declared.EventKind.{EventKind}
-use Rattle.event.specs.declared.EventKind.TheVariants.{PowerOn, Configured, PowerOff, Fault, Reports, Mode, Lever, Press, PositionReport, Length, Load, Skip, Revoke, Traction}
+use Rattle.event.specs.declared.EventKind.TheVariants.{PowerOn, Configured, PowerOff, Fault, Reports, Mode, Lever, Press, PositionReport, Length, Load, Skip, Revoke, Traction, Adhesion}
 use Rattle.event.specs.declared.Role as code
 use Rattle.event.specs.declared.Event as code_event
+use Rattle.adhesion.specs.View.{constraints_view}
 use Rattle.event.specs.Event.{Event}
 
 -- an event of the code
@@ -27,6 +28,7 @@ event_view code_event.Event.Load = Event.Load
 event_view (code_event.Event.Skip t) = Event.Skip t
 event_view (code_event.Event.Revoke t) = Event.Revoke t
 event_view (code_event.Event.Traction x) = Event.Traction x
+event_view (code_event.Event.Adhesion c) = Event.Adhesion (constraints_view c)
 
 -- the number of a kind
 abbrev pub kind_number : EventKind → ℕ
@@ -44,6 +46,7 @@ kind_number Load = 11
 kind_number Skip = 12
 kind_number Revoke = 13
 kind_number Traction = 14
+kind_number Adhesion = 15
 
 -- "1 .. unknown kind": a number, where it is that of a kind of the table
 abbrev pub known_kind : ℕ → Judged ℕ

@@ -1,12 +1,15 @@
-// Events: one byte kind and what it carries, read and checked (rows 1, 2).
+// Events: one byte kind and what it carries, read and checked (rows 1, 2, 21).
 #![tactic(auto)]
 
 ghost use Rattle.std.specs.Prelude.{◌≡◌};
 ghost use Rattle.wire.specs.View.{judged_by};
-ghost use Rattle.event.specs.Kinds.{position_content, traction_content};
+ghost use Rattle.wire.specs.Lists.{any};
+ghost use Rattle.adhesion.specs.Constraints.{reversed};
+ghost use Rattle.event.specs.Kinds.{position_content, traction_content, adhesion_content, rows_of};
 ghost use Rattle.event.specs.Events.{event_rows, event_with, event_of};
 ghost use Rattle.event.specs.View.{event_view};
 
+use adhesion::{CONSTRAINT_SIZE, Constraints};
 use engine_value::{MAX_NIDC, Position, UNDEFINED};
 use packets::Requested;
 use wire::{Number, Refusal, magnitude};
@@ -28,6 +31,7 @@ pub enum EventKind {
     Skip = 12,
     Revoke = 13,
     Traction = 14,
+    Adhesion = 15,
 }
 
 impl From<EventKind> for u8 {
@@ -64,6 +68,7 @@ impl TryFrom<u8> for EventKind {
             12 => Ok(EventKind::Skip),
             13 => Ok(EventKind::Revoke),
             14 => Ok(EventKind::Traction),
+            15 => Ok(EventKind::Adhesion),
             _ => Err(Refusal::EventForm),
         }
     }
@@ -79,9 +84,10 @@ pub struct TractionRequest {
     pub content: Requested,
 }
 
-// Mode, lever and reports as their bytes: so the engine keeps them (C layout), and there the rows of the states read them.
+// Mode, lever and reports as their bytes: so the engine keeps them (C layout), and there the rows of the states read them. The rows of slippery rail as they
+// stand in the event's bytes: an enum holds no array.
 #[derive(Clone, Copy)]
-pub enum Event {
+pub enum Event<'a> {
     PowerOn,
     Configured,
     PowerOff,
@@ -96,6 +102,7 @@ pub enum Event {
     Skip(u32),
     Revoke(u32),
     Traction(TractionRequest),
+    Adhesion(Constraints<'a>),
 }
 
 // What an event is to the journey and its points: power off, a load, a position report, a driver skip given or revoked, nothing.
@@ -108,12 +115,14 @@ pub enum Role {
     Other,
 }
 
-impl Event {
+impl<'a> Event<'a> {
+    ghost use Rattle.std.specs.Prelude.{option_map};
+    ghost use Rattle.adhesion.specs.View.{constraints_view};
     ghost use Rattle.event.specs.Kinds.{kind_of, role_of, newer, carried};
     ghost use Rattle.event.specs.View.{kind_number, role_view};
 
     pub fn kind(self) -> EventKind
-        ensures { kind_number result ≡ kind_of (event_view self) }
+        ensures { kind_number result ≡ kind_of (event_view self.entry) }
     {
         match self {
             Event::PowerOn => EventKind::PowerOn,
@@ -130,12 +139,13 @@ impl Event {
             Event::Skip(_) => EventKind::Skip,
             Event::Revoke(_) => EventKind::Revoke,
             Event::Traction(_) => EventKind::Traction,
+            Event::Adhesion(_) => EventKind::Adhesion,
         }
     }
 
     // What it is to the journey and its points.
     pub fn role(self) -> Role
-        ensures role { role_view result ≡ role_of (event_view self) }
+        ensures role { role_view result ≡ role_of (event_view self.entry) }
     {
         match self {
             Event::PowerOff => Role::Off,
@@ -147,9 +157,19 @@ impl Event {
         }
     }
 
+    // The rows of slippery rail that it brings.
+    pub fn constraints(self) -> Option<Constraints<'a>>
+        ensures { option_map constraints_view result ≡ (carried (event_view self.entry)).constraints }
+    {
+        match self {
+            Event::Adhesion(c) => Some(c),
+            _ => None,
+        }
+    }
+
     // The position after it, from the one before.
     pub fn position_after(self, before: Position) -> Position
-        ensures { result ≡ newer (carried (event_view self)).position before }
+        ensures { result ≡ newer (carried (event_view self.entry)).position before }
     {
         match self {
             Event::PositionReport(x) => x,
@@ -158,22 +178,34 @@ impl Event {
     }
 }
 
-// Rows 1 and 2: the event, where there are as many bytes and its fields are in their ranges.
+// A row whose start exceeds its end.
+fn reversed(e: Event) -> bool
+    ensures { result ≡ any reversed (rows_of (event_view e.entry)) }
+{
+    match e {
+        Event::Adhesion(c) => c.reversed(),
+        _ => false,
+    }
+}
+
+// Rows 1, 2 and 21: the event, where there are as many bytes, its fields are in their ranges, and none of its rows is reversed.
 #[tactic(auto, unfolding(crate::specs::Events::event_rows))]
-fn event_rows(s: &[u8], size: usize, fit: bool, e: Event) -> Result<Event, Refusal>
-    ensures { judged_by event_view result ≡ event_rows size fit (event_view e) s.now }
+fn event_rows<'a>(s: &[u8], size: usize, fit: bool, e: Event<'a>) -> Result<Event<'a>, Refusal>
+    ensures { judged_by event_view result ≡ event_rows size fit (event_view e.entry) s.now }
 {
     if s.len() != size {
         Err(Refusal::EventForm)
-    } else if fit {
-        Ok(e)
-    } else {
+    } else if !fit {
         Err(Refusal::EventRange)
+    } else if reversed(e) {
+        Err(Refusal::Reversed)
+    } else {
+        Ok(e)
     }
 }
 
 #[tactic(auto, unfolding(crate::specs::Events::event_with, layout::specs::Layout::values_at))]
-fn read_position(s: &[u8]) -> Result<Event, Refusal>
+fn read_position(s: &[u8]) -> Result<Event<'_>, Refusal>
     ensures { judged_by event_view result ≡ event_with position_content s.now }
 {
     let x = Position {
@@ -187,7 +219,7 @@ fn read_position(s: &[u8]) -> Result<Event, Refusal>
 }
 
 #[tactic(auto, unfolding(crate::specs::Events::event_with, layout::specs::Layout::values_at))]
-fn read_traction(s: &[u8]) -> Result<Event, Refusal>
+fn read_traction(s: &[u8]) -> Result<Event<'_>, Refusal>
     ensures { judged_by event_view result ≡ event_with traction_content s.now }
 {
     let request = u8::get(s, 1);
@@ -198,9 +230,18 @@ fn read_traction(s: &[u8]) -> Result<Event, Refusal>
     event_rows(s, 7, magnitude(request) <= MAX_REQUEST, Event::Traction(x))
 }
 
+#[tactic(auto, unfolding(crate::specs::Events::event_with, layout::specs::Layout::values_at))]
+fn read_adhesion(s: &[u8]) -> Result<Event<'_>, Refusal>
+    ensures { judged_by event_view result ≡ event_with adhesion_content s.now }
+{
+    let c = Constraints::get(s, 1);
+    let size = 2 + CONSTRAINT_SIZE * usize::from(c.count());
+    event_rows(s, size, c.fit(), Event::Adhesion(c))
+}
+
 // The event of the bytes: the kind byte, then exactly what that kind carries.
 #[tactic(auto, unfolding(crate::specs::Events::event_of, crate::specs::Events::event_of_kind, crate::specs::Events::content_among, crate::specs::Events::event_with, layout::specs::Layout::values_at))]
-pub fn read_event(s: &[u8]) -> Result<Event, Refusal>
+pub fn read_event(s: &[u8]) -> Result<Event<'_>, Refusal>
     ensures { judged_by event_view result ≡ event_of s.now }
 {
     let kind = EventKind::try_from(*s.first().ok_or(Refusal::EventForm)?)?;
@@ -224,5 +265,6 @@ pub fn read_event(s: &[u8]) -> Result<Event, Refusal>
         EventKind::Skip => event_rows(s, 5, true, Event::Skip(number)),
         EventKind::Revoke => event_rows(s, 5, true, Event::Revoke(number)),
         EventKind::Traction => read_traction(s),
+        EventKind::Adhesion => read_adhesion(s),
     }
 }

@@ -11,12 +11,15 @@ use Rattle.std.proofs.lemmas.Bool.{cases_lt}
 use Rattle.std.proofs.lemmas.List.{take_min, drop_min, drop_more}
 use Rattle.std.proofs.Math.Nat.{min-eq_left, min-eq_right}
 use Rattle.wire.proofs.NumberLaws.{sets_more, sets_past}
-use Rattle.engine_value.specs.Engine.{route_in, progress}
+use Rattle.engine_value.specs.Engine.{Route, route_in, progress}
+use Rattle.engine_value.specs.declared.Position.{Position}
 use Rattle.engine_value.specs.declared.Point.{Point}
 use Rattle.engine_value.specs.declared.Progress.{Progress}
 use Rattle.engine_value.specs.declared.Engine.{Engine}
 use Rattle.packets.specs.Packets.{packet_bytes, joined, size_of}
-use Rattle.packets.proofs.PacketLaws.{length-packet_bytes, joined-append}
+use Rattle.adhesion.specs.View.{constraints_view}
+use Rattle.adhesion.specs.declared.TemporaryConstraint.{TemporaryConstraint}
+use Rattle.packets.proofs.PacketLaws.{length-packet_bytes, length-one, joined-append, size_64 as size_of_rows}
 use Rattle.packets.specs.Packet.{Packet}
 use Rattle.packets.specs.declared.Packet as code_packet
 use Rattle.packets.specs.View.{packet_view}
@@ -27,7 +30,7 @@ use Rattle.timing.specs.Changes.{Change, change, passings, status_passed, when}
 use Rattle.position.specs.Standing.{standing}
 use Rattle.conditions.specs.Conditions.{end_ahead}
 use Rattle.call.specs.Packets.{change_in, changes_in}
-use Rattle.call_values.specs.Packets.{Status, hold_revoked, timing_point, traction_brake, traction_brakes, ato_status, status_due, country, received, in_order, packets_of, jp_received}
+use Rattle.call_values.specs.Packets.{Status, header, hold_revoked, timing_point, traction_brake, traction_brakes, adhesion_system, adhesion_systems, ato_status, status_due, country, received, in_order, packets_of, jp_received}
 use Rattle.trackside.specs.View.{change_of, changes_from}
 use Rattle.event_packets.specs.View.{listed, change_view, told_hold, told_view, changes_view, jp_received_view, revoked_packet, packets62, packets_view, Put}
 use Rattle.event_packets.specs.declared.Received.{Received}
@@ -73,9 +76,15 @@ module _ (e : Engine) where
   -- "16 shorter than this event's packets": their size, with nothing written yet
   pub size_in : (w : Writes)
       → 29 * bool_byte (is_some w.received)
-      + 25 * (bool_byte (is_some (told_hold w.told)) + length (told_view e.progress w.told) + (bool_byte (is_some w.changes.first) + (w.changes.to - w.changes.from) + (bool_byte (is_some w.changes.last) + bool_byte (is_some w.changes.held)))) + 22 * bool_byte (is_some w.requested) + 19 * bool_byte (is_some w.status)
+      + 25 * (bool_byte (is_some (told_hold w.told)) + length (told_view e.progress w.told) + (bool_byte (is_some w.changes.first) + (w.changes.to - w.changes.from) + (bool_byte (is_some w.changes.last) + bool_byte (is_some w.changes.held)))) + 22 * bool_byte (is_some w.requested)
+      + length (joined (adhesion_systems (route_in e) e.train.position (option_map constraints_view w.constraints))) + 19 * bool_byte (is_some w.status)
       ≡ length (joined (packets_view e w))
   size_in w = sym (simp (joined-append, length-append, map-append, size_65, size_ended, size_62, size_61, size_68, length-map, length-listed, length-passings) (omega arith))
+
+-- of a packet 64: 18, and 16 a row
+pub size_64 : (j : Route) (x : Position) (rows : List TemporaryConstraint) → length (joined (adhesion_systems j x (Some rows))) ≡ 18 + 16 * length rows
+unfolding adhesion_system
+size_64 j x rows = length-one (adhesion_system j x rows) (18 + 16 * length rows) (omega (arith, size_of_rows (header j x) rows))
 
 -- ---- packets put one behind the other
 
@@ -148,15 +157,20 @@ module _ (e : Engine) where
   listed_brake None = refl
   listed_brake (Some r) = refl
 
+  listed_rows : (o : Option (List TemporaryConstraint)) → listed (option_map (adhesion_system (route_in e) e.train.position) o) ≡ adhesion_systems (route_in e) e.train.position o
+  listed_rows None = refl
+  listed_rows (Some r) = refl
+
   pub in_kinds : (w : Writes)
-      → (((((((listed (option_map (jp_received_view e) w.received) ++ listed (option_map (revoked_packet e) (told_hold w.told)))
+      → ((((((((listed (option_map (jp_received_view e) w.received) ++ listed (option_map (revoked_packet e) (told_hold w.told)))
       ++ packets62 e (told_view e.progress w.told)) ++ listed (option_map changed w.changes.first)) ++ packets62 e (passings (w.changes.to - w.changes.from) w.changes.from))
       ++ listed (option_map changed w.changes.last)) ++ listed (option_map changed w.changes.held))
       ++ listed (option_map (traction_brake (route_in e) e.train.position) w.requested))
+      ++ listed (option_map (adhesion_system (route_in e) e.train.position) (option_map constraints_view w.constraints)))
       ++ listed (option_map (ato_status (route_in e) e.train.position e.control.state) w.status)
       ≡ packets_view e w
   in_kinds w =
-      rw (listed_map (jp_received_view e) w.received, listed_map (ato_status (route_in e) e.train.position e.control.state) w.status, listed_ended (told_hold w.told), listed_change w.changes.first, listed_change w.changes.last, listed_change w.changes.held, listed_brake w.requested)
+      rw (listed_map (jp_received_view e) w.received, listed_map (ato_status (route_in e) e.train.position e.control.state) w.status, listed_ended (told_hold w.told), listed_change w.changes.first, listed_change w.changes.last, listed_change w.changes.held, listed_brake w.requested, listed_rows (option_map constraints_view w.constraints))
       (simp (map-append, append_assoc))
 
 -- ---- the passings: what is left to put, behind what is there, is the whole
@@ -211,16 +225,16 @@ pub status_is : {A B : Type 0} (g : A → B) (b : Bool) (a : A) → map g (liste
 status_is g true a = refl
 status_is g false a = refl
 
-pub packets_in : (m : Engine) (w : Writes) (own : Option Requested) (before after : Status)
+pub packets_in : (m : Engine) (w : Writes) (own : Option Requested) (rows : Option (List TemporaryConstraint)) (before after : Status)
     → ((r : Received) → w.received ≡ Some r → r.nidc ≡ country (route_in m) m.train.position)
-    → w.status ≡ then_some (status_due before after) after.conditions → m.control.state ≡ after.state → w.requested ≡ own
-    → packets_view m w ≡ packets_of (route_in m) m.train.position (option_map (λ (r : Received). r.head) w.received) (changes_in m (told_hold w.told) (told_view m.progress w.told ++ changes_view w.changes)) (traction_brakes (route_in m) m.train.position own) before after
+    → w.status ≡ then_some (status_due before after) after.conditions → m.control.state ≡ after.state → w.requested ≡ own → option_map constraints_view w.constraints ≡ rows
+    → packets_view m w ≡ packets_of (route_in m) m.train.position (option_map (λ (r : Received). r.head) w.received) (changes_in m (told_hold w.told) (told_view m.progress w.told ++ changes_view w.changes)) (traction_brakes (route_in m) m.train.position own ++ adhesion_systems (route_in m) m.train.position rows) before after
 unfolding packets_of
-packets_in m w own before after n d s o =
+packets_in m w own rows before after n d s o r =
     let five = received_is m w.received n in
     let eight : map (ato_status (route_in m) m.train.position m.control.state) (listed w.status)
     ≡ when (status_due before after) (ato_status (route_in m) m.train.position after.state after.conditions)
     = ap (λ x. map (ato_status (route_in m) m.train.position m.control.state) (listed x)) d
     ∙ status_is (ato_status (route_in m) m.train.position m.control.state) (status_due before after) after.conditions
     ∙ ap (λ k. when (status_due before after) (ato_status (route_in m) m.train.position k after.conditions)) s in
-    λ i. in_order (five i) (map (timing_point (route_in m) m.train.position) (changes_in m (told_hold w.told) (told_view m.progress w.told ++ changes_view w.changes))) (traction_brakes (route_in m) m.train.position (o i)) (eight i)
+    λ i. in_order (five i) (map (timing_point (route_in m) m.train.position) (changes_in m (told_hold w.told) (told_view m.progress w.told ++ changes_view w.changes))) (traction_brakes (route_in m) m.train.position (o i) ++ adhesion_systems (route_in m) m.train.position (r i)) (eight i)

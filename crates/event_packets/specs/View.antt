@@ -1,6 +1,7 @@
 -- The packets that the code's `Writes` stands for, with the values of the engine after the event.
 use Rattle.std.specs.Prelude.{ℕ, ◌≡◌, ◌-◌, List, [], ◌∷◌, ◌++◌, map}
-use Rattle.std.specs.Prelude.{Option, Some, None}
+use Rattle.std.specs.Prelude.{Option, Some, None, option_map}
+use Rattle.adhesion.specs.View.{constraints_view}
 use denote.Ref.{Bor}
 use Rattle.std.proofs.lemmas.List.Edits.{sets}
 use Rattle.engine_value.specs.Engine.{route_in}
@@ -16,7 +17,7 @@ use Rattle.position.specs.Standing.{standing}
 use Rattle.conditions.specs.Conditions.{end_ahead}
 use Rattle.call.specs.Packets.{change_in, changes_in}
 use Rattle.call_values.specs.Packets as packets
-use Rattle.call_values.specs.Packets.{header, in_order, point_change, timing_point, jp_received_of, traction_brakes, ato_status}
+use Rattle.call_values.specs.Packets.{header, in_order, point_change, timing_point, jp_received_of, traction_brakes, adhesion_systems, ato_status}
 use Rattle.event_packets.specs.declared.Change.{Change}
 use Rattle.event_packets.specs.declared.Changes.{Changes}
 use Rattle.trackside.specs.View.{changes_from}
@@ -68,7 +69,7 @@ packets_view e w =
     in_order
     (map (jp_received_view e) (listed w.received))
     (map (timing_point (route_in e) e.train.position) (changes_in e (told_hold w.told) (told_view e.progress w.told ++ changes_view w.changes)))
-    (traction_brakes (route_in e) e.train.position w.requested)
+    (traction_brakes (route_in e) e.train.position w.requested ++ adhesion_systems (route_in e) e.train.position (option_map constraints_view w.constraints))
     (map (ato_status (route_in e) e.train.position e.control.state) (listed w.status))
 
 -- packets put from a position on: what is then put from the position r on stands behind them

@@ -5,6 +5,9 @@ ghost use Rattle.std.specs.Prelude.{◌≡◌, ◌≤◌, ◌-◌, length, optio
 ghost use Rattle.std.proofs.lemmas.List.Edits.{sets};
 ghost use Rattle.engine_value.specs.declared.Engine as engine;
 ghost use Rattle.engine_value.specs.declared.Progress as progress;
+ghost use Rattle.engine_value.specs.declared.Position as position;
+ghost use Rattle.engine_value.specs.Engine as model;
+ghost use Rattle.adhesion.specs.View.{constraints_view};
 ghost use Rattle.engine_value.specs.Engine.{max_points, route_in};
 ghost use Rattle.engine_value.specs.View.{route_view};
 ghost use Rattle.packets.specs.Packets.{joined};
@@ -13,15 +16,16 @@ ghost use Rattle.call.specs.Packets.{change_in};
 ghost use Rattle.packets.specs.View.{status_number, packet_view};
 ghost use Rattle.position.specs.Standing.{standing};
 ghost use Rattle.conditions.specs.Conditions.{end_ahead};
-ghost use Rattle.call_values.specs.Packets.{header, country, status_due, timing_point_of, timing_point, traction_brake, ato_status};
+ghost use Rattle.call_values.specs.Packets.{header, country, status_due, timing_point_of, timing_point, traction_brake, adhesion_system, adhesion_systems, ato_status};
 ghost use Rattle.trackside.specs.View.{change_of, changes_from};
 ghost use Rattle.event_packets.specs.View.{change_view, status_view, jp_received_view, revoked_packet, listed, told_hold, told_view, packets62, packets_view, Put};
 
+use adhesion::{CONSTRAINT_SIZE, Constraints};
 use engine_value::{Engine, MAX_POINTS, Point, Progress};
 use journey::Head;
 use packets::{
-    AtoStatus, Header, JpReceived, JpStatus, Packet, PacketKind, PointStatus, Requested,
-    TimingPoint, TractionBrake,
+    AdhesionSystem, AtoStatus, Header, JpReceived, JpStatus, Packet, PacketKind, PointStatus,
+    Requested, TimingPoint, TractionBrake,
 };
 use position::Place;
 use state_codes::State;
@@ -71,13 +75,14 @@ pub struct Status {
 }
 
 // What an event writes, beside the values of the engine after it, which has the new journey: a packet 65, what a load tells of the journey before it, the
-// changes of the points, a packet 61, and the conditions of a packet 68.
+// changes of the points, a packet 61, the rows of a packet 64, and the conditions of a packet 68.
 #[derive(Clone, Copy)]
 pub struct Writes<'a> {
     pub received: Option<Received>,
     pub told: Option<&'a Told>,
     pub changes: Changes,
     pub requested: Option<Requested>,
+    pub constraints: Option<Constraints<'a>>,
     pub status: Option<OperationalConditions>,
 }
 
@@ -97,7 +102,7 @@ pub fn header(e: &Engine) -> Header
 }
 
 // Packet 62 of a point, with the progress after its change.
-fn point_packet(e: &Engine, p: Point, status: PointStatus, after: Progress) -> Packet
+fn point_packet<'a>(e: &Engine, p: Point, status: PointStatus, after: Progress) -> Packet<'a>
     ensures { packet_view result ≡ timing_point_of (header (route_in e.now) e.now.train.position) p (status_number status) (end_ahead e.now.load (standing after)) }
 {
     Packet::TimingPoint(TimingPoint {
@@ -117,7 +122,7 @@ fn point_packet(e: &Engine, p: Point, status: PointStatus, after: Progress) -> P
 
 // Packet 62 for a change of a point.
 #[tactic(auto, unfolding(call_values::specs::Packets::timing_point))]
-fn timing_point(e: &Engine, c: Change) -> Packet
+fn timing_point<'a>(e: &Engine, c: Change) -> Packet<'a>
     ensures { packet_view result ≡ timing_point (route_in e.now) e.now.train.position (change_in (route_in e.now) (change_view c)) }
 {
     let p = position::point(e.route(), c.index);
@@ -137,7 +142,7 @@ fn told_change(k: u8, status: Option<PointStatus>, after: Progress) -> Option<Ch
 
 // Packet 62 for the hold at a point, revoked by a load.
 #[tactic(auto, unfolding(call_values::specs::Packets::timing_point))]
-fn hold_revoked(e: &Engine, p: Point) -> Packet
+fn hold_revoked<'a>(e: &Engine, p: Point) -> Packet<'a>
     ensures { packet_view result ≡ revoked_packet e.now p }
 {
     point_packet(e, p, PointStatus::HoldRevoked, e.progress)
@@ -151,7 +156,7 @@ pub fn country(p: Place) -> u16
 }
 
 // Packet 65 for an accepted load.
-fn jp_received(e: &Engine, r: Received) -> Packet
+fn jp_received<'a>(e: &Engine, r: Received) -> Packet<'a>
     ensures { packet_view result ≡ jp_received_view e.now r }
 {
     Packet::JpReceived(JpReceived {
@@ -167,7 +172,7 @@ fn jp_received(e: &Engine, r: Received) -> Packet
 
 // Packet 61 for a traction request.
 #[tactic(auto, unfolding(call_values::specs::Packets::traction_brake))]
-fn traction_brake(e: &Engine, requested: Requested) -> Packet
+fn traction_brake<'a>(e: &Engine, requested: Requested) -> Packet<'a>
     ensures { packet_view result ≡ traction_brake (route_in e.now) e.now.train.position requested }
 {
     Packet::TractionBrake(TractionBrake {
@@ -176,9 +181,32 @@ fn traction_brake(e: &Engine, requested: Requested) -> Packet
     })
 }
 
+// Packet 64 for rows of slippery rail.
+#[tactic(auto, unfolding(call_values::specs::Packets::adhesion_system))]
+fn adhesion_system<'a>(e: &Engine, constraints: Constraints<'a>) -> Packet<'a>
+    ensures { packet_view result ≡ adhesion_system (route_in e.now) e.now.train.position (constraints_view constraints.entry) }
+{
+    Packet::AdhesionSystem(AdhesionSystem {
+        header: header(e),
+        constraints,
+    })
+}
+
+// The bytes of a packet 64, where there is one.
+#[tactic(auto, using(crate::proofs::Stored::size_64))]
+fn adhesion_size(c: Option<Constraints>) -> usize
+    ensures value { (j : model.Route) (x : position.Position) → result ≡ length (joined (adhesion_systems j x (option_map constraints_view c.entry))) }
+    ensures most { result ≤ 4098 }
+{
+    let Some(c) = c else {
+        return 0;
+    };
+    PacketKind::AdhesionSystem.size() + CONSTRAINT_SIZE * usize::from(c.count())
+}
+
 // Packet 68 with the engine's state.
 #[tactic(auto, unfolding(call_values::specs::Packets::ato_status))]
-fn ato_status(e: &Engine, conditions: OperationalConditions) -> Packet
+fn ato_status<'a>(e: &Engine, conditions: OperationalConditions) -> Packet<'a>
     ensures { packet_view result ≡ ato_status (route_in e.now) e.now.train.position e.now.control.state conditions }
 {
     Packet::AtoStatus(AtoStatus {
@@ -229,6 +257,7 @@ pub fn size(w: &Writes) -> usize
     PacketKind::JpReceived.size() * usize::from(w.received.is_some())
         + PacketKind::TimingPoint.size() * points
         + PacketKind::TractionBrake.size() * usize::from(w.requested.is_some())
+        + adhesion_size(w.constraints)
         + PacketKind::AtoStatus.size() * usize::from(w.status.is_some())
 }
 
@@ -246,7 +275,7 @@ impl<'a> Output<'a> {
     #[tactic(auto, using(crate::proofs::Stored::put_one))]
     fn put(&mut self, p: Option<Packet>)
         ensures same_reference { self.new.memory.ghost_name ≡ self.old.memory.ghost_name }
-        ensures put { Put self.old.at (listed (option_map packet_view p)) self.old.memory.now self.new.memory.now self.new.at }
+        ensures put { Put self.old.at (listed (option_map packet_view p.entry)) self.old.memory.now self.new.memory.now self.new.at }
     {
         let Some(p) = p else {
             return;
@@ -316,6 +345,7 @@ pub fn write(e: &Engine, w: &Writes, out: &mut [u8])
     let last = c.last.map(|c| timing_point(e, c));
     let held = c.held.map(|c| timing_point(e, c));
     let requested = w.requested.map(|r| traction_brake(e, r));
+    let constraints = w.constraints.map(|c| adhesion_system(e, c));
     let status = w.status.map(|c| ato_status(e, c));
     let mut output = Output { memory: out, at: 0 };
     output.put(received);
@@ -326,5 +356,6 @@ pub fn write(e: &Engine, w: &Writes, out: &mut [u8])
     output.put(last);
     output.put(held);
     output.put(requested);
+    output.put(constraints);
     output.put(status);
 }

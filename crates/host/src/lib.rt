@@ -4,14 +4,16 @@
 ghost use Rattle.std.specs.Prelude.{◌≡◌, ◌≤◌};
 ghost use Rattle.engine_value.specs.Engine.{fresh};
 ghost use Rattle.call.specs.Call.{step_of};
+ghost use Rattle.call.specs.Shown.{constraint_in};
 ghost use Rattle.call.specs.View.{shown_view};
 ghost use Rattle.call_values.specs.View.{answer_view};
 ghost use Rattle.engine.specs.View.{call};
 ghost use Rattle.packets.specs.Packets.{packet_of, front_size};
-ghost use Rattle.packet_fields.specs.View.{fields_view};
+ghost use Rattle.packet_fields.specs.View.{fields_view, row_view};
 ghost use Rattle.host.specs.View.{answered};
 ghost use Rattle.host.specs.Version.{version};
 
+use adhesion::TemporaryConstraint;
 use call::Shown;
 use call_values::{Accepted, Refused};
 use engine_value::Engine;
@@ -20,7 +22,7 @@ use packet_fields::PacketFields;
 // The version of this interface, a byte each for the three numbers.
 const MAJOR: u32 = 2;
 
-const MINOR: u32 = 2;
+const MINOR: u32 = 3;
 
 const PATCH: u32 = 0;
 
@@ -90,12 +92,28 @@ pub extern "C" fn hollwern_show(e: &Engine) -> Shown
     call::show(e)
 }
 
+// Row k of slippery rail that the engine shows; blank from their count on.
+#[unsafe(no_mangle)]
+pub extern "C" fn hollwern_show_constraint(e: &Engine, k: usize) -> TemporaryConstraint
+    ensures { result ≡ constraint_in e.now k }
+{
+    call::constraint(e, k)
+}
+
 // One packet, exactly.
 #[unsafe(no_mangle)]
 pub extern "C" fn hollwern_read(bytes: &[u8]) -> PacketFields
     ensures { result ≡ fields_view (packet_of bytes.now) }
 {
     packet_fields::read_fields(bytes)
+}
+
+// Row k of a packet 64; blank from its count on, of another packet, and where the reader refuses.
+#[unsafe(no_mangle)]
+pub extern "C" fn hollwern_read_constraint(bytes: &[u8], k: usize) -> TemporaryConstraint
+    ensures { result ≡ row_view (packet_of bytes.now) k }
+{
+    packet_fields::read_row(bytes, k)
 }
 
 // The bytes of the packet in front. So cut, from the first packet on, what a call wrote falls into its packets: `cut_packets`, and

@@ -7,7 +7,9 @@ use Rattle.wire.specs.Judged.{row, then_judge}
 use Rattle.wire.specs.Judged.Judged.{refuse, accept}
 use Rattle.engine_value.specs.Engine.{route_in}
 use Rattle.engine_value.specs.declared.Engine.{Engine}
+use Rattle.adhesion.specs.View.{constraints_view}
 use Rattle.event.specs.Event.{Event}
+use Rattle.event.specs.Kinds.{carried}
 use Rattle.status_word.specs.Word.{conditions_of}
 use Rattle.status_word.specs.declared.OperationalConditions.{OperationalConditions}
 use Rattle.packets.specs.Packets.{joined}
@@ -22,7 +24,7 @@ use Rattle.traction.specs.View.{remembered_in, traction_of}
 use Rattle.call_values.specs.Packets.{status_due, packets_of}
 use Rattle.call.specs.Packets.{changes_in, own_packets}
 use Rattle.call.specs.Effect.{route_after}
-use Rattle.call.specs.Call.{Step, conditions_in, status_in, step_by, judge}
+use Rattle.call.specs.Call.{Step, conditions_in, status_in, rows_shown, step_by, judge}
 use Rattle.event_packets.specs.View.{status_view, told_hold, told_view, changes_view, packets_view}
 use Rattle.event_packets.proofs.Stored.{packets_in}
 use Rattle.event_packets.specs.declared.Received.{Received}
@@ -45,6 +47,8 @@ module _ (e : Engine) (v : Event) (memory : List ℕ) (f : Effect) (t : Judgemen
     (told : t.writes.told ≡ f.told)
     (changes : t.writes.changes ≡ f.changes)
     (requested : t.writes.requested ≡ written_content (state_at e.control.state) v (remembered_in e.traction) (remembered_in t.traction))
+    (constraints : option_map constraints_view t.writes.constraints ≡ (carried v).constraints)
+    (rows_are : option_map constraints_view t.shown ≡ rows_shown v)
     (status : t.writes.status ≡ then_some (status_due (status_in e) (status_view (status_of t.control f.train shows))) shows) where
   abbrev step : Step
   step = step_by e v (effect_view f)
@@ -59,7 +63,7 @@ module _ (e : Engine) (v : Event) (memory : List ℕ) (f : Effect) (t : Judgemen
 
   engine_is : engine_after e t ≡ step.engine
   unfolding conditions_in
-  engine_is = rw (effect, traction, control_is)
+  engine_is = rw (effect, traction, control_is, rows_are)
 
   status_are : status_view (status_of t.control f.train shows) ≡ status_in step.engine
   status_are = λ i. record { state = (control_is i).state; conditions = conditions_are i; speed = f.train.position.speed }
@@ -74,7 +78,7 @@ module _ (e : Engine) (v : Event) (memory : List ℕ) (f : Effect) (t : Judgemen
   packets_are : packets_view (engine_after e t) t.writes ≡ step.packets
   packets_are =
       ap (λ (m : Engine). packets_view m t.writes) engine_is
-      ∙ packets_in step.engine t.writes _ (status_in e) (status_in step.engine) (λ r h. beside.nidc r (sym loaded ∙ h)) due_is refl traction_is
+      ∙ packets_in step.engine t.writes _ _ (status_in e) (status_in step.engine) (λ r h. beside.nidc r (sym loaded ∙ h)) due_is refl traction_is constraints
       ∙ (λ i. packets_of (route_in step.engine) f.train.position (option_map (λ (r : Received). r.head) (loaded i)) (changes_in step.engine (told_hold (told i)) (told_view f.progress (told i) ++ changes_view (changes i))) (own_packets e v step.engine) (status_in e) (status_in step.engine))
 
   step_is : step_view e t ≡ step

@@ -1,5 +1,8 @@
 -- What the code's judgement stands for.
-use Rattle.engine_value.specs.Engine.{with_control}
+use Rattle.std.specs.Prelude.{option_map}
+use Rattle.adhesion.specs.View.{constraints_view}
+use Rattle.engine_value.specs.Engine.{adhesion_of, with_control}
+use Rattle.event.specs.Kinds.{newer}
 use Rattle.engine_value.specs.declared.Train.{Train}
 use Rattle.engine_value.specs.declared.Control.{Control}
 use Rattle.engine_value.specs.declared.Engine.{Engine}
@@ -16,7 +19,7 @@ status_of c t conditions = record { state = c.state; conditions = conditions; sp
 
 -- the engine with a judgement's values
 abbrev pub engine_after : Engine → Judgement → Engine
-engine_after e t = with_control (stored e (effect_view t.effect)) t.control t.traction
+engine_after e t = with_control (stored e (effect_view t.effect)) t.control t.traction (newer (option_map adhesion_of (option_map constraints_view t.shown)) e.adhesion)
 
 -- the step that it stands for
 abbrev pub step_view : Engine → Judgement → Step

@@ -1,31 +1,35 @@
 // The rows of the states over an effect, the packets that are due, and 16.
 #![tactic(auto)]
 
-ghost use Rattle.std.specs.Prelude.{◌≡◌, ◌≤◌, List, ℕ, length, IfOk};
+ghost use Rattle.std.specs.Prelude.{◌≡◌, ◌≤◌, List, ℕ, length, option_map, IfOk};
 ghost use Rattle.wire.specs.View.{judged_by};
 ghost use Rattle.engine_value.specs.declared.Engine as engine;
 ghost use Rattle.event.specs.View.{event_view};
 ghost use Rattle.packets.specs.Packets.{joined};
-ghost use Rattle.call.specs.Call.{status_in, judge};
+ghost use Rattle.adhesion.specs.View.{constraints_view};
+ghost use Rattle.call.specs.Call.{status_in, rows_shown, judge};
 ghost use Rattle.event_packets.specs.View.{status_view, packets_view};
 ghost use Rattle.effects.specs.View.{effect_view, Beside};
 ghost use Rattle.judge.specs.View.{status_of, step_view};
 
+use adhesion::Constraints;
 use effects::Effect;
 use engine_value::{Control, Traction, Train};
+use event::Event;
 use event_packets::{Status, Writes};
 use look_up::Occurrence;
 use state_codes::State;
 use status_word::OperationalConditions;
 use wire::Refusal;
 
-// An effect, and beside it the control group after the event, what is remembered of the traction requests, what the event writes, and in how
-// many bytes.
+// An effect, and beside it the control group after the event, what is remembered of the traction requests, the rows of slippery rail that are shown from now
+// on where it alters them, what the event writes, and in how many bytes.
 #[derive(Clone, Copy)]
 pub struct Judgement<'a> {
     pub effect: Effect<'a>,
     pub control: Control,
     pub traction: Traction,
+    pub shown: Option<Constraints<'a>>,
     pub writes: Writes<'a>,
     pub size: usize,
 }
@@ -55,8 +59,22 @@ fn status_in(o: &Occurrence) -> Status
     status(e.control, e.train, conditions)
 }
 
+// The rows that are shown from an event on that alters them: none after power off.
+fn rows_shown<'a>(v: Event<'a>) -> Option<Constraints<'a>>
+    ensures { option_map constraints_view result ≡ rows_shown (event_view v.entry) }
+{
+    match v {
+        Event::PowerOff => Some(Constraints::none()),
+        _ => v.constraints(),
+    }
+}
+
 // The effect of an event, judged; `room` are the bytes of the output memory.
-pub fn judge<'a>(o: &Occurrence, f: &Effect<'a>, room: usize) -> Result<Judgement<'a>, Refusal>
+pub fn judge<'a>(
+    o: &Occurrence<'_, 'a>,
+    f: &Effect<'a>,
+    room: usize,
+) -> Result<Judgement<'a>, Refusal>
     ensures step { (memory : List ℕ) → room ≡ length memory → Beside o.now.engine.now f.now → judged_by (step_view o.now.engine.now) result ≡ judge o.now.engine.now (event_view o.now.event) memory (effect_view f.now) }
     ensures size { IfOk result (λ t. (m : engine.Engine) → t.size ≡ length (joined (packets_view m t.writes))) }
     ensures fits { IfOk result (λ t. t.size ≤ room) }
@@ -80,11 +98,13 @@ pub fn judge<'a>(o: &Occurrence, f: &Effect<'a>, room: usize) -> Result<Judgemen
     let state = State::from(e.control.state);
     let after = State::from(control.state);
     let traction = traction::traction_after(state, v, after, e.traction);
+    let shown = rows_shown(v);
     let writes = Writes {
         received: f.received,
         told: f.told,
         changes: f.changes,
         requested: traction::content_written(state, v, e.traction, traction),
+        constraints: v.constraints(),
         status: due.then_some(conditions),
     };
     let size = event_packets::size(&writes);
@@ -95,6 +115,7 @@ pub fn judge<'a>(o: &Occurrence, f: &Effect<'a>, room: usize) -> Result<Judgemen
         effect: *f,
         control,
         traction,
+        shown,
         writes,
         size,
     })

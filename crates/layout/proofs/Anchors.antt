@@ -21,5 +21,15 @@ anchors = record {
   fit = refl;
   do_not = refl;
   nothing_fits = refl;
+  of_fields = refl;
+  of_rows = refl;
+  no_rows = refl;
+  body_sizes = refl;
+  least_sizes = refl;
+  rows_found = refl;
+  rows_past = refl;
+  no_count = refl;
+  rows_fit = refl;
+  fields_fit = refl;
   highest = refl;
 }

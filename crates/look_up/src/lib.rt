@@ -24,17 +24,17 @@ pub struct LookedUp {
 
 // An event as it occurs: the engine that it meets, and what it looks up there.
 #[derive(Clone, Copy)]
-pub struct Occurrence<'a> {
-    pub engine: &'a Engine,
-    pub event: Event,
+pub struct Occurrence<'e, 'a> {
+    pub engine: &'e Engine,
+    pub event: Event<'a>,
     pub looked: LookedUp,
     ghost found: { looked ≡ look_up engine.now (event_view event) },
 }
 
-impl<'a> Occurrence<'a> {
-    pub fn new(engine: &'a Engine, event: Event) -> Occurrence<'a>
+impl<'e, 'a> Occurrence<'e, 'a> {
+    pub fn new(engine: &'e Engine, event: Event<'a>) -> Occurrence<'e, 'a>
         ensures engine { result.engine.now ≡ engine.now }
-        ensures event { event_view result.event ≡ event_view event }
+        ensures event { event_view result.event ≡ event_view event.entry }
     {
         Occurrence {
             engine,
@@ -45,7 +45,7 @@ impl<'a> Occurrence<'a> {
 }
 
 pub fn look_up(e: &Engine, v: Event) -> LookedUp
-    ensures { result ≡ look_up e.now (event_view v) }
+    ensures { result ≡ look_up e.now (event_view v.entry) }
 {
     let before = conditions::route_conditions(Place::new(e.route(), e.train.position), e.progress);
     let place = Place::new(e.route(), v.position_after(e.train.position));

@@ -1,5 +1,7 @@
 -- What the packet reader answers, as one struct: a field that the kind does not have is 0.
-use Rattle.std.specs.Prelude.{ℕ, List, [], ◌∷◌, Bool, true, false, get_or}
+use Rattle.std.specs.Prelude.{ℕ, List, [], ◌∷◌, ◌++◌, Bool, true, false, get_or, length, replicate}
+use Rattle.adhesion.specs.Constraints.{blank_constraint}
+use Rattle.adhesion.specs.declared.TemporaryConstraint.{TemporaryConstraint}
 use Rattle.wire.specs.Judged.{Judged}
 use Rattle.wire.specs.Judged.Judged.{refuse, accept}
 use Rattle.packets.specs.declared.Header.{Header}
@@ -36,6 +38,7 @@ fields accepted number kind size h v = record {
   m_ato_locobrrq = get_or v 13 0;
   q_ato_suptb = get_or v 14 0;
   m_ato_rtbrq = get_or v 15 0;
+  constraint_count = get_or v 16 0;
 }
 
 -- a packet that was read, its content still 0
@@ -57,6 +60,7 @@ packet_fields_view (Packet.TractionBrake p) =
     let r = p.requested in
     read (Packet.TractionBrake p) p.header
     (0 ∷ 0 ∷ 0 ∷ 0 ∷ 0 ∷ 0 ∷ 0 ∷ 0 ∷ 0 ∷ 0 ∷ 0 ∷ 0 ∷ r.m_ato_trabrrq ∷ r.m_ato_locobrrq ∷ r.q_ato_suptb ∷ r.m_ato_rtbrq ∷ [])
+packet_fields_view (Packet.AdhesionSystem h rows) = read (Packet.AdhesionSystem h rows) h (replicate 16 0 ++ (length rows ∷ []))
 
 -- "Every refusal returns the number only"
 abbrev pub refused_view : ℕ → PacketFields
@@ -65,3 +69,15 @@ refused_view n = fields false n 0 0 no_header []
 abbrev pub fields_view : Judged Packet → PacketFields
 fields_view (accept p) = packet_fields_view p
 fields_view (refuse n) = refused_view n
+
+-- 02, Q-7: row k of a packet 64; blank from its count on, of another packet, and where the reader refuses
+abbrev pub row_in : Packet → ℕ → TemporaryConstraint
+row_in (Packet.TimingPoint p) k = blank_constraint
+row_in (Packet.JpReceived p) k = blank_constraint
+row_in (Packet.AtoStatus p) k = blank_constraint
+row_in (Packet.TractionBrake p) k = blank_constraint
+row_in (Packet.AdhesionSystem h rows) k = get_or rows k blank_constraint
+
+abbrev pub row_view : Judged Packet → ℕ → TemporaryConstraint
+row_view (accept p) k = row_in p k
+row_view (refuse n) k = blank_constraint

@@ -6,8 +6,9 @@ ghost use Rattle.wire.specs.Refusals.{number_of};
 ghost use Rattle.packets.specs.Layouts.{header_of};
 ghost use Rattle.packets.specs.View.{packet_view, packet_values};
 ghost use Rattle.packets.specs.Packets.{size_of, packet_fits, packet_of};
-ghost use Rattle.packet_fields.specs.View.{refused_view, begun_view, packet_fields_view, fields_view};
+ghost use Rattle.packet_fields.specs.View.{refused_view, begun_view, packet_fields_view, fields_view, row_in, row_view};
 
+use adhesion::TemporaryConstraint;
 use packets::{Header, Packet};
 use wire::Refusal;
 
@@ -37,6 +38,7 @@ pub struct PacketFields {
     pub m_ato_locobrrq: u8,
     pub q_ato_suptb: u8,
     pub m_ato_rtbrq: u16,
+    pub constraint_count: u8,
 }
 
 fn refused(r: Refusal) -> PacketFields
@@ -50,7 +52,7 @@ fn refused(r: Refusal) -> PacketFields
 
 // A packet that was read, its content still to come.
 fn begun(p: Packet) -> PacketFields
-    ensures { result ≡ begun_view (packet_values (packet_view p)).kind.number (size_of (packet_view p)) (header_of (packet_values (packet_view p)).header) }
+    ensures { result ≡ begun_view (packet_values (packet_view p.entry)).kind.number (size_of (packet_view p.entry)) (header_of (packet_values (packet_view p.entry)).header) }
 {
     PacketFields {
         accepted: true,
@@ -62,10 +64,10 @@ fn begun(p: Packet) -> PacketFields
 }
 
 // Promised of a packet that is in its ranges, as each that was read.
-impl From<Packet> for PacketFields {
+impl<'a> From<Packet<'a>> for PacketFields {
     ghost from_gives = { λ p f. packet_fits (packet_view p) ≡ true → f ≡ packet_fields_view (packet_view p) };
 
-    fn from(p: Packet) -> PacketFields {
+    fn from(p: Packet<'a>) -> PacketFields {
         let begun = begun(p);
         match p {
             Packet::TimingPoint(x) => PacketFields {
@@ -99,7 +101,33 @@ impl From<Packet> for PacketFields {
                 m_ato_rtbrq: x.requested.m_ato_rtbrq,
                 ..begun
             },
+            Packet::AdhesionSystem(x) => PacketFields {
+                constraint_count: x.constraints.count(),
+                ..begun
+            },
         }
+    }
+}
+
+// Row k of a packet 64; blank from its count on, and of another packet.
+fn row_of(p: Packet, k: usize) -> TemporaryConstraint
+    ensures { result ≡ row_in (packet_view p.entry) k }
+{
+    match p {
+        Packet::AdhesionSystem(x) if k < usize::from(x.constraints.count()) => {
+            x.constraints.row(k as u8)
+        }
+        _ => TemporaryConstraint::default(),
+    }
+}
+
+// Row k of a packet 64 that the reader takes; else blank.
+pub fn read_row(bytes: &[u8], k: usize) -> TemporaryConstraint
+    ensures { result ≡ row_view (packet_of bytes.now) k }
+{
+    match packet_reader::read_packet(bytes) {
+        Ok(p) => row_of(p, k),
+        Err(_) => TemporaryConstraint::default(),
     }
 }
 

@@ -3,14 +3,17 @@
 
 ghost use Rattle.std.specs.Prelude.{◌≡◌};
 ghost use Rattle.layout.specs.Layout.{values_at};
-ghost use Rattle.packets.specs.Layouts.{header_layout, header_of, kind62, kind65, kind68, kind61};
+ghost use Rattle.packets.specs.Layouts.{header_layout, header_of, kind62, kind65, kind68, kind61, kind64};
 ghost use Rattle.packets.specs.Packets.{packet_at, judged_packet, packet_of};
 ghost use Rattle.packets.specs.Packet as model;
+ghost use Rattle.packets.specs.declared.Packet as code;
 ghost use Rattle.packets.specs.View.{kind_view, packet_view};
 ghost use Rattle.wire.specs.View.{judged_by};
 
+use adhesion::Constraints;
 use packets::{
-    AtoStatus, Header, JpReceived, Packet, PacketKind, Requested, TimingPoint, TractionBrake,
+    AdhesionSystem, AtoStatus, Header, JpReceived, Packet, PacketKind, Requested, TimingPoint,
+    TractionBrake,
 };
 use status_word::OperationalConditions;
 use wire::{Number, Refusal};
@@ -82,8 +85,18 @@ pub fn get_traction_brake(s: &[u8]) -> TractionBrake
     }
 }
 
+#[tactic(auto, unfolding(layout::specs::Layout::values_at))]
+fn get_adhesion_system(s: &[u8]) -> AdhesionSystem<'_>
+    ensures { packet_view (code.Packet.AdhesionSystem result) ≡ packet_at kind64 s.now }
+{
+    AdhesionSystem {
+        header: get_header(s),
+        constraints: Constraints::get(s, 17),
+    }
+}
+
 // The packet of a kind, with the values that stand in its bytes.
-fn get_packet(kind: PacketKind, s: &[u8]) -> Packet
+fn get_packet(kind: PacketKind, s: &[u8]) -> Packet<'_>
     ensures { packet_view result ≡ packet_at (kind_view kind) s.now }
 {
     match kind {
@@ -91,13 +104,14 @@ fn get_packet(kind: PacketKind, s: &[u8]) -> Packet
         PacketKind::JpReceived => Packet::JpReceived(get_jp_received(s)),
         PacketKind::AtoStatus => Packet::AtoStatus(get_ato_status(s)),
         PacketKind::TractionBrake => Packet::TractionBrake(get_traction_brake(s)),
+        PacketKind::AdhesionSystem => Packet::AdhesionSystem(get_adhesion_system(s)),
     }
 }
 
 // A packet whose values were read from so many bytes, judged by its length and its ranges.
 #[tactic(auto, unfolding(packets::specs::Packets::judged_packet))]
-fn judge(n: usize, p: Packet) -> Result<Packet, Refusal>
-    ensures { judged_by packet_view result ≡ judged_packet n (packet_view p) }
+fn judge<'a>(n: usize, p: Packet<'a>) -> Result<Packet<'a>, Refusal>
+    ensures { judged_by packet_view result ≡ judged_packet n (packet_view p.entry) }
 {
     if n != p.size() {
         Err(Refusal::PacketLength)
@@ -110,7 +124,7 @@ fn judge(n: usize, p: Packet) -> Result<Packet, Refusal>
 
 // One packet, exactly.
 #[tactic(auto, unfolding(packets::specs::Packets::packet_of))]
-pub fn read_packet(s: &[u8]) -> Result<Packet, Refusal>
+pub fn read_packet(s: &[u8]) -> Result<Packet<'_>, Refusal>
     ensures { judged_by packet_view result ≡ packet_of s.now }
 {
     let number = s.first().ok_or(Refusal::PacketLength)?;

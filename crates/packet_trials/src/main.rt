@@ -1,15 +1,21 @@
-// Trials of the packets' reader and writer, from standard input. A trial is five bytes (what is tried, the position, the sizes of name, packet and
-// memory), then name, packet and memory. It gives a line: its name, and R and the number of a refusal, or W and the count, or the packet's number and its
+// Trials of the packets' reader and writer, from standard input. A trial is eight bytes (what is tried, then the position, the sizes of name, packet and
+// memory, that of the name in one byte, the others in two), then name, packet and memory. It gives a line: its name, and R and the number of a refusal, or W and the count, or the packet's number and its
 // values in decimal, header first; after writing also the memory in hexadecimal. tests/inputs/packet_trials.rs has the trials.
 #![tactic(auto)]
 
 ghost use Rattle.std.specs.Prelude.{◌≤◌, length, IfOk};
 
-use packets::{AtoStatus, Packet, PacketKind, TimingPoint, TractionBrake};
+use adhesion::Constraints;
+use packets::{AdhesionSystem, AtoStatus, Packet, PacketKind, TimingPoint, TractionBrake};
 use status_word::OperationalConditions;
 use std::io;
 use std::io::Read;
 use wire::{Number, Refusal};
+
+// The bytes of a trial's head, and the most bytes of its packet and of its memory.
+const HEAD: usize = 8;
+
+const MOST: usize = 600;
 
 // What is tried: to read the packet's bytes; to write the packet at the front of the memory, or from the position on.
 #[derive(Clone, Copy)]
@@ -30,6 +36,18 @@ impl From<u8> for Tried {
 }
 
 // ---- printing, a space before each
+
+fn print_rows<R: Print>(rt: &R, rows: Constraints) -> io::Result<()> {
+    print!(rt; " {}", rows.count())?;
+    for k in 0..rows.count() {
+        let r = rows.row(k);
+        print!(rt;
+            " {} {} {} {} {} {}",
+            r.nidc, r.nidsp, r.category, r.range, r.start, r.end
+        )?;
+    }
+    Ok(())
+}
 
 fn print_packet<R: Print>(rt: &R, p: Packet) -> io::Result<()> {
     let number = u8::from(p.kind());
@@ -52,6 +70,7 @@ fn print_packet<R: Print>(rt: &R, p: Packet) -> io::Result<()> {
             " {} {} {} {}",
             r.m_ato_trabrrq, r.m_ato_locobrrq, r.q_ato_suptb, r.m_ato_rtbrq
         ),
+        Packet::AdhesionSystem(x) => print_rows(rt, x.constraints),
     }
 }
 
@@ -74,7 +93,7 @@ fn print_written<R: Print>(rt: &R, w: Result<usize, Refusal>, memory: &[u8]) -> 
 // ---- trials
 
 // The packet to write: its number, header and content, each value in bytes of its own, so that all may be out of range.
-fn packet_of(s: &[u8]) -> Packet {
+fn packet_of(s: &[u8]) -> Packet<'_> {
     match PacketKind::try_from(u8::get(s, 0)) {
         Ok(PacketKind::TimingPoint) => Packet::TimingPoint(TimingPoint {
             header: packet_reader::get_header(s),
@@ -89,6 +108,10 @@ fn packet_of(s: &[u8]) -> Packet {
         Ok(PacketKind::TractionBrake) => {
             Packet::TractionBrake(packet_reader::get_traction_brake(s))
         }
+        Ok(PacketKind::AdhesionSystem) => Packet::AdhesionSystem(AdhesionSystem {
+            header: packet_reader::get_header(s),
+            constraints: Constraints::get(s, 17),
+        }),
         _ => Packet::AtoStatus(AtoStatus {
             header: packet_reader::get_header(s),
             state: u8::get(s, 17),
@@ -141,32 +164,32 @@ fn read_full<I: Read>(from: &mut I, s: &mut [u8]) -> io::Result<usize>
 fn try_next<R: Print, I: Read>(
     rt: &R,
     from: &mut I,
-    head: [u8; 5],
+    head: [u8; HEAD],
     name: &mut [u8; 255],
-    packet: &mut [u8; 255],
-    memory: &mut [u8; 255],
+    packet: &mut [u8; MOST],
+    memory: &mut [u8; MOST],
 ) -> io::Result<()> {
-    let [tried, at, named, size, room] = head;
-    let name = &mut name[..usize::from(named)];
-    let packet = &mut packet[..usize::from(size)];
-    let memory = &mut memory[..usize::from(room)];
+    let at = u16::get(&head, 1);
+    let name = &mut name[..usize::from(head[3])];
+    let packet = &mut packet[..usize::from(u16::get(&head, 4)).min(MOST)];
+    let memory = &mut memory[..usize::from(u16::get(&head, 6)).min(MOST)];
     read_full(from, name)?;
     read_full(from, packet)?;
     read_full(from, memory)?;
     rt.write_all(name)?;
     print!(rt; ":")?;
-    try_packet(rt, Tried::from(tried), packet, memory, usize::from(at))?;
+    try_packet(rt, Tried::from(head[0]), packet, memory, usize::from(at))?;
     println!(rt; "")
 }
 
 fn run<R: Print, I: Read>(rt: &R, from: &mut I) -> io::Result<()> {
     let mut name = [0u8; 255];
-    let mut packet = [0u8; 255];
-    let mut memory = [0u8; 255];
+    let mut packet = [0u8; MOST];
+    let mut memory = [0u8; MOST];
     // Nothing proves that an input ends, which a `while` would need: this counts to a number that no run reaches.
     for _ in 0..u64::MAX {
-        let mut head = [0u8; 5];
-        if read_full(from, &mut head)? < 5 {
+        let mut head = [0u8; HEAD];
+        if read_full(from, &mut head)? < HEAD {
             break;
         }
         try_next(rt, from, head, &mut name, &mut packet, &mut memory)?;

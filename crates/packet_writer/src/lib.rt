@@ -78,7 +78,7 @@ fn put_requested(r: Requested, out: &mut [u8])
 
 // The packet's bytes at the front, whatever its values; stores past the end store nothing. For a caller that has counted the bytes.
 pub fn put_packet(p: Packet, out: &mut [u8])
-    ensures { out.new ≡ sets out.old 0 (packet_bytes (packet_view p)) }
+    ensures { out.new ≡ sets out.old 0 (packet_bytes (packet_view p.entry)) }
 {
     put_header(p.kind(), p.header(), out);
     match p {
@@ -86,14 +86,15 @@ pub fn put_packet(p: Packet, out: &mut [u8])
         Packet::JpReceived(x) => put_jp_received(x, out),
         Packet::AtoStatus(x) => put_ato_status(x, out),
         Packet::TractionBrake(x) => put_requested(x.requested, out),
+        Packet::AdhesionSystem(x) => x.constraints.put(out, 17),
     }
 }
 
 // The packet at the front of the memory; the bytes behind it stay.
 #[tactic(auto, using(crate::proofs::WriterLaws::stored_front), unfolding(packets::specs::Packets::written_count, packets::specs::Packets::written_memory))]
 pub fn write_packet(p: Packet, out: &mut [u8]) -> Result<usize, Refusal>
-    ensures count { judged result ≡ written_count (packet_view p) out.old }
-    ensures memory { out.new ≡ written_memory (packet_view p) out.old }
+    ensures count { judged result ≡ written_count (packet_view p.entry) out.old }
+    ensures memory { out.new ≡ written_memory (packet_view p.entry) out.old }
 {
     let size = p.size();
     if !p.fits() {
@@ -108,8 +109,8 @@ pub fn write_packet(p: Packet, out: &mut [u8]) -> Result<usize, Refusal>
 
 // The packet from a position on; the bytes before it stay, too. Memory and position each by itself, as its callers have them: it is public.
 pub fn append_packet(p: Packet, out: &mut [u8], at: usize) -> Result<usize, Refusal>
-    ensures count { judged result ≡ written_count (packet_view p) (drop at out.old) }
-    ensures memory { out.new ≡ take at out.old ++ written_memory (packet_view p) (drop at out.old) }
+    ensures count { judged result ≡ written_count (packet_view p.entry) (drop at out.old) }
+    ensures memory { out.new ≡ take at out.old ++ written_memory (packet_view p.entry) (drop at out.old) }
 {
     let start = at.min(out.len());
     let (_, rest) = out.split_at_mut(start);

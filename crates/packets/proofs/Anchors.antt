@@ -18,6 +18,10 @@ in_bytes = record {
   jp_statuses = refl;
   status = record { bytes = refl; reads = refl; size = refl };
   traction = record { bytes = refl; reads = refl; size = refl };
+  no_rows = record { bytes = refl; reads = refl; size = refl };
+  one_row = record { bytes = refl; reads = refl; size = refl };
+  two_rows = record { bytes = refl; reads = refl; size = refl };
+  most_rows = record { bytes = refl; reads = refl; size = refl };
   sizes = refl;
   content_at_lem = refl;
   unknown = refl;
@@ -25,7 +29,7 @@ in_bytes = record {
 }
 
 ranges : Ranges
-unfolding number values_at judged_packet packet_of
+unfolding number values_at judged_packet packet_of written_count
 ranges = record {
   headers = refl;
   point_names = refl;
@@ -36,11 +40,14 @@ ranges = record {
   journeys = refl;
   states = refl;
   requests = refl;
+  rows = refl;
+  reversed_rows = refl;
+  row_counts = refl;
 }
 
 lengths : Lengths
 unfolding number values_at judged_packet packet_of
-lengths = record { empty = refl; shorter = refl; longer = refl; alone = refl; length_first = refl; others = refl; other = refl }
+lengths = record { rows = refl; empty = refl; shorter = refl; longer = refl; alone = refl; length_first = refl; others = refl; other = refl }
 
 writing : Writing
 unfolding value_bytes bytes bytes_of written_count written_memory
@@ -50,6 +57,9 @@ writing = record {
   memory = refl;
   short = refl;
   traction_short = refl;
+  rows_short = refl;
+  rows_kept = refl;
+  too_many = refl;
   short_kept = refl;
   unfit = refl;
   unfit_kept = refl;
@@ -59,8 +69,8 @@ writing = record {
 }
 
 pieces : Pieces
-unfolding cut cut_packets
-pieces = record { sizes = refl; fronts = refl; none = refl; three = refl; traction = refl; cut_short = refl; unknown = refl }
+unfolding number values_at cut cut_packets
+pieces = record { sizes = refl; by_count = refl; rows_first = refl; rows_cut_short = refl; fronts = refl; none = refl; three = refl; traction = refl; cut_short = refl; unknown = refl }
 
 pub anchors : Anchors
 anchors = record { in_bytes = in_bytes; ranges = ranges; lengths = lengths; writing = writing; pieces = pieces }

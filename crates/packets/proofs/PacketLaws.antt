@@ -1,9 +1,9 @@
 -- Laws of the packets' bytes and sizes, and of the writer.
-use Prim.Native.Nat.{ℕ, ◌+◌, ◌≤◌}
+use Prim.Native.Nat.{ℕ, ◌+◌, ◌*◌, ◌≤◌}
 use mathlib.Core.Path.{◌≡◌, refl, ap, ◌∙◌}
 use mathlib.Core.List.{List, [], ◌∷◌, ◌++◌, append_assoc, append-nil}
 use mathlib.Core.Bool.{true}
-use lib.ListN.{length, drop, length-append}
+use lib.ListN.{length, drop, length-append, length-map}
 use borrow.Author.Tests.{le-ltb}
 use native.Mathlib.Omega.{arith}
 use Rattle.std.specs.Borrow.{Bor}
@@ -13,13 +13,17 @@ use Rattle.std.specs.Slice.{IsGetRangeResult}
 use Rattle.wire.specs.Judged.Judged.{accept}
 use Rattle.wire.proofs.NumberLaws.{rest_from}
 use Rattle.layout.specs.Layout.{bytes, values_at}
-use Rattle.layout.specs.Body.{body_bytes}
+use Rattle.layout.specs.Body.{body_bytes, body_at}
 use Rattle.layout.proofs.LayoutLaws.{length-bytes, values_from}
 use Rattle.layout.proofs.BodyLaws.{length-body}
-use Rattle.packets.specs.Layouts.{header_layout, content61, requested_of}
+use Rattle.adhesion.specs.Constraints.{constraints_body, constraint_of, constraints_of}
+use Rattle.adhesion.specs.View.{constraint_view}
+use Rattle.adhesion.specs.declared.TemporaryConstraint.{TemporaryConstraint}
+use Rattle.packets.specs.Layouts.{header_layout, content_at, content61, kind64, requested_of}
 use Rattle.packets.specs.View.{PacketValues, packet_values}
-use Rattle.packets.specs.Packets.{value_bytes, values_size, packet_bytes, joined, size_of, packet_fits, written_count, written_memory}
+use Rattle.packets.specs.Packets.{value_bytes, values_size, packet_bytes, joined, size_of, size_for, packet_fits, written_count, written_memory}
 use Rattle.packets.specs.Packet.{Packet}
+use Rattle.packets.specs.declared.Header.{Header}
 
 pub length-values : (v : PacketValues) → length (value_bytes v) ≡ values_size v
 unfolding value_bytes
@@ -31,6 +35,13 @@ length-values v =
 
 pub length-packet_bytes : (p : Packet) → length (packet_bytes p) ≡ size_of p
 length-packet_bytes p = length-values (packet_values p)
+
+-- of a packet 64: 18, and 16 a row, by its rows and by its bytes
+pub size_64 : (h : Header) (rows : List TemporaryConstraint) → size_of (Packet.AdhesionSystem h rows) ≡ 18 + length rows * 16
+size_64 h rows = omega (arith, length-map rows constraint_view)
+
+pub told_64 : (s : List ℕ) → size_for (accept kind64) s ≡ 18 + length (constraints_of (body_at constraints_body content_at s)) * 16
+told_64 s = omega (arith, length-map (body_at constraints_body content_at s) constraint_of)
 
 -- ---- several packets
 

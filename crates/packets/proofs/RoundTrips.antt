@@ -18,7 +18,8 @@ use Rattle.layout.specs.Layout.{Values, bytes, values_at, fits}
 use Rattle.layout.specs.Body.{BodyValues, body_bytes, body_size, body_at, body_fits}
 use Rattle.layout.proofs.LayoutLaws.{length-bytes, Typed, read-written as values-back, written_read as bytes_back, read_typed as values-typed}
 use Rattle.layout.proofs.BodyLaws.{body_sound, BodyTyped, body_back, body_again, body_typed}
-use Rattle.packets.specs.Layouts.{PacketKind, header_layout, content_at, kinds}
+use Rattle.adhesion.proofs.Laws.{remade, values_remade}
+use Rattle.packets.specs.Layouts.{PacketKind, header_layout, content_at, kind64, kinds}
 use Rattle.packets.specs.View.{PacketValues, packet_values}
 use Rattle.packets.specs.Packets.{value_bytes, values_size, packet_bytes, size_of, values_fit, packet_fits, kind_from, packet_at, judged_packet, packet_of, written_count, written_memory}
 use Rattle.packets.proofs.PacketLaws.{length-values, written_all}
@@ -31,7 +32,7 @@ abbrev Made : PacketKind → Type 0
 Made k = (h : Values header_layout) (c : BodyValues k.content) → packet_values (k.packet h c) ≡ record { kind = k; header = h; content = c }
 
 made : All Made kinds
-made = (λ h c. refl, (λ h c. refl, (λ h c. refl, (λ h c. refl, tt))))
+made = (λ h c. refl, (λ h c. refl, (λ h c. refl, (λ h c. refl, (λ h c i. record { kind = kind64; header = h; content = values_remade c i }, tt)))))
 
 -- a packet is made of its values by its kind, which its number tells and whose layout holds its ranges
 pub record Known (p : Packet) : Type 0 where
@@ -44,6 +45,7 @@ known (Packet.TimingPoint p) = record { remade = refl; told = refl; sound_conten
 known (Packet.JpReceived p) = record { remade = refl; told = refl; sound_content = refl }
 known (Packet.AtoStatus p) = record { remade = refl; told = refl; sound_content = refl }
 known (Packet.TractionBrake p) = record { remade = refl; told = refl; sound_content = refl }
+known (Packet.AdhesionSystem h rows) = record { remade = ap (Packet.AdhesionSystem h) (remade rows); told = refl; sound_content = refl }
 
 -- ---- what was written is read
 

@@ -1,7 +1,9 @@
--- Packets in bytes, worked out by hand from documents 01 and 02 (Q-1, Q-2, Q-4), which the definitions must give.
-use Rattle.std.specs.Prelude.{ℕ, ◌≡◌, List, [], ◌∷◌, ◌++◌, map, length, take, set, replicate}
+-- Packets in bytes, worked out by hand from documents 01 and 02 (Q-1, Q-2, Q-4 to Q-7), which the definitions must give.
+use Rattle.std.specs.Prelude.{ℕ, ◌≡◌, List, [], ◌∷◌, ◌++◌, map, flat_map, length, take, set, replicate}
 use Rattle.wire.specs.Judged.{Judged}
 use Rattle.wire.specs.Judged.Judged.{refuse, accept}
+use Rattle.adhesion.specs.Anchors.{north, south, north_bytes, south_bytes}
+use Rattle.adhesion.specs.declared.TemporaryConstraint.{TemporaryConstraint}
 use Rattle.status_word.specs.Word.{conditions_of}
 use Rattle.status_word.specs.Anchors.{five, nine}
 use Rattle.packets.specs.Layouts.{content_at, unknown_nidc}
@@ -101,6 +103,20 @@ traction_brake =
 abbrev pub traction_brake_bytes : List ℕ
 traction_brake_bytes = 0x3D ∷ header_bytes ++ (0x2B ∷ 0x4C ∷ 0x6D ∷ 0x8E ∷ 0x5F ∷ [])
 
+-- 64, SUBSET-140's Table 7: count (1), then a row: NID_C (2), NID_SP (4), category (1), range (1), start (4), end (4)
+abbrev pub row : ℕ → ℕ → ℕ → TemporaryConstraint
+row nidc start end = record { nidsp = 0x456789AB; start = start; end = end; nidc = nidc; category = 0x2B; range = 0x4C }
+
+-- `south` of adhesion's anchors has 16,777,215 as start and end, and NID_C 1,023
+abbrev pub adhesion_system : List TemporaryConstraint → Packet
+adhesion_system rows = Packet.AdhesionSystem header rows
+
+abbrev pub adhesion_system_bytes : ℕ → List ℕ → List ℕ
+adhesion_system_bytes count rows = 0x40 ∷ header_bytes ++ (count ∷ rows)
+
+abbrev pub two_rows_bytes : List ℕ
+two_rows_bytes = adhesion_system_bytes 2 (north_bytes ++ south_bytes)
+
 pub record Worked (p : Packet) (s : List ℕ) : Type 0 where
   pub bytes : packet_bytes p ≡ s
   pub reads : packet_of s ≡ accept p
@@ -121,8 +137,13 @@ pub record InBytes : Type 0 where
   -- 5 + 32 + 64 + 512 + 2,048 + 4,096
   pub status : Worked (ato_status 5 five) ato_status_bytes
   pub traction : Worked traction_brake traction_brake_bytes
-  -- "for 62, 65, 68 .. 25, 29, 19 bytes"; 02: "packet 61 has 22 bytes": the content behind number and header
-  pub sizes : map size_of (stopped ∷ jp_received ∷ power_on ∷ traction_brake ∷ []) ≡ 25 ∷ 29 ∷ 19 ∷ 22 ∷ []
+  -- 02, Q-7: no row, one, two in their order, 31
+  pub no_rows : Worked (adhesion_system []) (adhesion_system_bytes 0 [])
+  pub one_row : Worked (adhesion_system (north ∷ [])) (adhesion_system_bytes 1 north_bytes)
+  pub two_rows : Worked (adhesion_system (north ∷ south ∷ [])) two_rows_bytes
+  pub most_rows : Worked (adhesion_system (replicate 31 south)) (adhesion_system_bytes 31 (flat_map (λ r. r) (replicate 31 south_bytes)))
+  -- "for 62, 65, 68 .. 25, 29, 19 bytes"; 02: "packet 61 has 22 bytes", "packet 64 has 18 bytes and 16 a row": the content behind number and header
+  pub sizes : map size_of (stopped ∷ jp_received ∷ power_on ∷ traction_brake ∷ adhesion_system [] ∷ adhesion_system (north ∷ south ∷ north ∷ []) ∷ []) ≡ 25 ∷ 29 ∷ 19 ∷ 22 ∷ 18 ∷ 66 ∷ []
   pub content_at_lem : content_at ≡ 17
   pub unknown : unknown_nidc ≡ 1024
   -- one after the other
@@ -145,6 +166,7 @@ of_each h =
     ∷ (0x41 ∷ h ++ (0x00 ∷ 0x11 ∷ 0x00 ∷ 0x00 ∷ 0x00 ∷ 0x00 ∷ 0x00 ∷ 0x00 ∷ 0x00 ∷ 0x00 ∷ 0x00 ∷ 0x00 ∷ []))
     ∷ (0x44 ∷ h ++ (0x08 ∷ 0x01 ∷ []))
     ∷ (0x3D ∷ h ++ (0x00 ∷ 0x00 ∷ 0x00 ∷ 0x00 ∷ 0x00 ∷ []))
+    ∷ (0x40 ∷ h ++ (0x00 ∷ []))
     ∷ []
 
 -- a packet of each kind with that content
@@ -156,6 +178,10 @@ read65 content = read_number (0x41 ∷ header_bytes ++ content)
 
 abbrev pub read68 : List ℕ → ℕ
 read68 content = read_number (0x44 ∷ header_bytes ++ content)
+
+-- start 251, end 250
+abbrev pub reversed_bytes : List ℕ
+reversed_bytes = 0x00 ∷ 0x11 ∷ 0x00 ∷ 0x00 ∷ 0x01 ∷ 0xF4 ∷ 0x01 ∷ 0x02 ∷ 0x00 ∷ 0x00 ∷ 0x00 ∷ 0xFB ∷ 0x00 ∷ 0x00 ∷ 0x00 ∷ 0xFA ∷ []
 
 abbrev pub read61 : List ℕ → ℕ
 read61 content = read_number (0x3D ∷ header_bytes ++ content)
@@ -170,7 +196,7 @@ pub record Ranges : Type 0 where
       ∷ (0x04 ∷ 0x00 ∷ 0x00 ∷ 0x00 ∷ 0x00 ∷ 0x00 ∷ 0x00 ∷ 0x00 ∷ 0x00 ∷ 0x00 ∷ 0x00 ∷ 0x00 ∷ 0x00 ∷ 0x00 ∷ 0x00 ∷ 0x00 ∷ [])
       ∷ (0x00 ∷ 0x00 ∷ 0x00 ∷ 0x00 ∷ 0x00 ∷ 0x00 ∷ 0x01 ∷ 0x00 ∷ 0x00 ∷ 0x00 ∷ 0x00 ∷ 0x00 ∷ 0x00 ∷ 0x00 ∷ 0x00 ∷ 0x00 ∷ [])
       ∷ []
-      ) ≡ (0 ∷ 0 ∷ 0 ∷ 0 ∷ []) ∷ (19 ∷ 19 ∷ 19 ∷ 19 ∷ []) ∷ (19 ∷ 19 ∷ 19 ∷ 19 ∷ []) ∷ []
+      ) ≡ (0 ∷ 0 ∷ 0 ∷ 0 ∷ 0 ∷ []) ∷ (19 ∷ 19 ∷ 19 ∷ 19 ∷ 19 ∷ []) ∷ (19 ∷ 19 ∷ 19 ∷ 19 ∷ 19 ∷ []) ∷ []
   -- 62: NID_C 1,023 with NID_TP FFFFFFFF; NID_C 1,024
   pub point_names : map read62 (
       (0x03 ∷ 0xFF ∷ 0xFF ∷ 0xFF ∷ 0xFF ∷ 0xFF ∷ 0x00 ∷ 0x00 ∷ [])
@@ -203,17 +229,34 @@ pub record Ranges : Type 0 where
       ≡ 0 ∷ 19 ∷ 19 ∷ 19 ∷ 19 ∷ []
   -- 61: "its content is free": each field at its least and at its greatest
   pub requests : map read61 ((0x00 ∷ 0x00 ∷ 0x00 ∷ 0x00 ∷ 0x00 ∷ []) ∷ (0xFF ∷ 0xFF ∷ 0xFF ∷ 0xFF ∷ 0xFF ∷ []) ∷ []) ≡ 0 ∷ 0 ∷ []
+  -- 64: "Start may not exceed end, nor either of them 16,777,215; NID_C ends at 1,023": each at its highest and one more, start at end and beyond it; NID_SP,
+  -- category and range are free
+  pub rows : map (λ r. number_in (written_count (adhesion_system (r ∷ [])) [])) (
+      row 0 0 0 ∷ row 1023 0 16777215 ∷ row 1023 16777215 16777215 ∷ row 1024 0 0 ∷ row 0 0 16777216 ∷ row 0 16777216 16777216 ∷ row 0 16777216 0
+      ∷ row 0 250 250 ∷ row 0 251 250 ∷ []
+      ) ≡ 16 ∷ 16 ∷ 16 ∷ 19 ∷ 19 ∷ 19 ∷ 19 ∷ 16 ∷ 19 ∷ []
+  -- the same by the bytes: start 251 and end 250 alone, behind another row, before another row
+  pub reversed_rows : map read_number (
+      adhesion_system_bytes 1 reversed_bytes ∷ adhesion_system_bytes 2 (north_bytes ++ reversed_bytes) ∷ adhesion_system_bytes 2 (reversed_bytes ++ north_bytes) ∷ []
+      ) ≡ 19 ∷ 19 ∷ 19 ∷ []
+  -- "count (0-31)": 31 rows and 32
+  pub row_counts : map (λ n. read_number (adhesion_system_bytes n (flat_map (λ r. r) (replicate n south_bytes)))) (31 ∷ 32 ∷ []) ≡ 0 ∷ 19 ∷ []
 
 pub record Lengths : Type 0 where
+  -- 64: 17 without the count, a byte less and a byte more than the count says, with a row less and a row more, for counts 2 and 32
+  pub rows : map read_number (
+      take 17 two_rows_bytes ∷ take 18 two_rows_bytes ∷ take 49 two_rows_bytes ∷ (two_rows_bytes ++ (0x00 ∷ [])) ∷ take 34 two_rows_bytes ∷ (two_rows_bytes ++ north_bytes)
+      ∷ adhesion_system_bytes 32 (north_bytes ++ south_bytes) ∷ adhesion_system_bytes 255 [] ∷ []
+      ) ≡ 17 ∷ 17 ∷ 17 ∷ 17 ∷ 17 ∷ 17 ∷ 17 ∷ 17 ∷ []
   -- "17 empty, or for 62, 65, 68 not 25, 29, 19 bytes", for 61 not 22: one less, one more, the number alone
   pub empty : packet_of [] ≡ refuse 17
   pub shorter : map read_number (take 24 stopped_bytes ∷ take 28 jp_received_bytes ∷ take 18 power_on_bytes ∷ take 21 traction_brake_bytes ∷ []) ≡ 17 ∷ 17 ∷ 17 ∷ 17 ∷ []
   pub longer : map (λ s. read_number (s ++ (0x00 ∷ []))) (stopped_bytes ∷ jp_received_bytes ∷ power_on_bytes ∷ traction_brake_bytes ∷ []) ≡ 17 ∷ 17 ∷ 17 ∷ 17 ∷ []
-  pub alone : map (λ n. read_number (n ∷ [])) (62 ∷ 65 ∷ 68 ∷ 61 ∷ []) ≡ 17 ∷ 17 ∷ 17 ∷ 17 ∷ []
+  pub alone : map (λ n. read_number (n ∷ [])) (62 ∷ 65 ∷ 68 ∷ 61 ∷ 64 ∷ []) ≡ 17 ∷ 17 ∷ 17 ∷ 17 ∷ 17 ∷ []
   -- the length is looked at before the ranges: a state 8 with a byte too much
   pub length_first : read68 (0x00 ∷ 0x08 ∷ 0x00 ∷ []) ≡ 17
   -- "18 another number", of whatever length
-  pub others : map (λ n. read_number (n ∷ [])) (0 ∷ 60 ∷ 63 ∷ 64 ∷ 66 ∷ 67 ∷ 69 ∷ 255 ∷ []) ≡ 18 ∷ 18 ∷ 18 ∷ 18 ∷ 18 ∷ 18 ∷ 18 ∷ 18 ∷ []
+  pub others : map (λ n. read_number (n ∷ [])) (0 ∷ 60 ∷ 63 ∷ 66 ∷ 67 ∷ 69 ∷ 255 ∷ []) ≡ 18 ∷ 18 ∷ 18 ∷ 18 ∷ 18 ∷ 18 ∷ 18 ∷ []
   pub other : read_number (0x45 ∷ header_bytes ++ (0x08 ∷ 0x01 ∷ [])) ≡ 18
 
 -- ---- the writer
@@ -226,6 +269,10 @@ pub record Writing : Type 0 where
   -- "16 shorter than": one byte less; "changes neither engine nor memory"
   pub short : map (λ m. written_count power_on m) (take 18 stopped_bytes ∷ take 19 stopped_bytes ∷ []) ≡ refuse 16 ∷ accept 19 ∷ []
   pub traction_short : map (λ m. written_count traction_brake m) (take 21 stopped_bytes ∷ take 22 stopped_bytes ∷ []) ≡ refuse 16 ∷ accept 22 ∷ []
+  pub rows_short : map (λ m. written_count (adhesion_system (north ∷ [])) m) (take 33 two_rows_bytes ∷ take 34 two_rows_bytes ∷ []) ≡ refuse 16 ∷ accept 34 ∷ []
+  pub rows_kept : written_memory (adhesion_system (south ∷ [])) two_rows_bytes ≡ adhesion_system_bytes 1 south_bytes ++ south_bytes
+  -- "over 31 rows": 19, with room and with none
+  pub too_many : map (λ n. number_in (written_count (adhesion_system (replicate n north)) [])) (31 ∷ 32 ∷ 255 ∷ 256 ∷ []) ≡ 16 ∷ 19 ∷ 19 ∷ 19 ∷ []
   pub short_kept : written_memory power_on (take 18 stopped_bytes) ≡ take 18 stopped_bytes
   -- "(the writer of one packet: 19, then 16)": with room and with none
   pub unfit : map (λ m. written_count (ato_status 8 []) m) (stopped_bytes ∷ [] ∷ []) ≡ refuse 19 ∷ refuse 19 ∷ []
@@ -243,7 +290,11 @@ pub record Writing : Type 0 where
 
 pub record Pieces : Type 0 where
   -- the bytes of a packet by its number
-  pub sizes : map (λ n. size_at (n ∷ [])) (62 ∷ 65 ∷ 68 ∷ 61 ∷ 0 ∷ 60 ∷ 255 ∷ []) ≡ 25 ∷ 29 ∷ 19 ∷ 22 ∷ 0 ∷ 0 ∷ 0 ∷ []
+  pub sizes : map (λ n. size_at (n ∷ [])) (62 ∷ 65 ∷ 68 ∷ 61 ∷ 64 ∷ 0 ∷ 60 ∷ 255 ∷ []) ≡ 25 ∷ 29 ∷ 19 ∷ 22 ∷ 18 ∷ 0 ∷ 0 ∷ 0 ∷ []
+  -- 64 by its count, whatever stands behind it: 18 and 16 × 0, 1, 2, 31, 32, 255
+  pub by_count : map (λ n. size_at (adhesion_system_bytes n (0xEE ∷ []))) (0 ∷ 1 ∷ 2 ∷ 31 ∷ 32 ∷ 255 ∷ []) ≡ 18 ∷ 34 ∷ 50 ∷ 514 ∷ 530 ∷ 4098 ∷ []
+  pub rows_first : cut_packets (two_rows_bytes ++ (adhesion_system_bytes 0 [] ++ power_on_bytes)) ≡ two_rows_bytes ∷ adhesion_system_bytes 0 [] ∷ power_on_bytes ∷ []
+  pub rows_cut_short : cut_packets (power_on_bytes ++ take 40 two_rows_bytes) ≡ power_on_bytes ∷ take 40 two_rows_bytes ∷ []
   -- of the piece in front: cut short, a packet and a byte, no such number
   pub fronts : map front_size ((0x3E ∷ 0x44 ∷ []) ∷ (power_on_bytes ++ (0x3E ∷ [])) ∷ (0x00 ∷ power_on_bytes) ∷ []) ≡ 2 ∷ 19 ∷ 20 ∷ []
   pub none : cut_packets [] ≡ []

@@ -1,12 +1,14 @@
--- Documents 01, "Packets", and 02, Q-1, Q-2 and Q-4: the layouts of 61, 62, 65 and 68, and what lies between their fields.
+-- Documents 01, "Packets", and 02, Q-1, Q-2, Q-4 and Q-7: what 61, 62, 64, 65 and 68 have behind their number, and what lies between the fields.
 -- "Ranges: NID_C to 1,023 (content of 65: 1,024); offset to 16,777,215; NID_ATOTS to 16,384; date to 32,767; alignment 0-2;
 -- status 0-8 in 62, ..; stopping data to 127, 0 unless status 1; state 0-7; spare bits 0. Other fields are free."
 -- 02, Q-4: "The reader now takes status 0 or 1 in packet 65"
-use Rattle.std.specs.Prelude.{ℕ, ◌+◌, List, [], ◌∷◌, Bool, true, ◌||◌, eqb}
+use Rattle.std.specs.Prelude.{ℕ, ◌+◌, List, [], ◌∷◌, Bool, true, not, ◌||◌, eqb}
 use Rattle.layout.specs.Layout.{Layout, Values, part, field, listed, size}
 use Rattle.layout.specs.Body.{Body, BodyValues, least_size}
 use Rattle.layout.specs.Body.Body.{fields}
 use Rattle.layout.specs.Layout.Content.{free, up_to, weighted}
+use Rattle.wire.specs.Lists.{any}
+use Rattle.adhesion.specs.Constraints.{row_layout, constraints_body, constraints_of, reversed}
 use Rattle.status_word.specs.Word.{condition_parts, conditions_of}
 use Rattle.packets.specs.declared.Header.{Header}
 use Rattle.packets.specs.declared.TimingPoint.{TimingPoint}
@@ -123,5 +125,16 @@ traction_brake_of h v = record { header = header_of h; requested = requested_of 
 abbrev pub kind61 : PacketKind
 kind61 = record { number = 61; content = fields content61; between = λ v. true; packet = λ h v. Packet.TractionBrake (traction_brake_of h v) }
 
+-- 02, Q-7: "packet 64 has 18 bytes and 16 a row": its content is the count and the rows
+abbrev pub adhesion_system_of : Values header_layout → List (Values row_layout) → Packet
+adhesion_system_of h vs = Packet.AdhesionSystem (header_of h) (constraints_of vs)
+
+-- "Start may not exceed end": none of them is reversed
+abbrev pub none_reversed : List (Values row_layout) → Bool
+none_reversed vs = not (any reversed (constraints_of vs))
+
+abbrev pub kind64 : PacketKind
+kind64 = record { number = 64; content = constraints_body; between = none_reversed; packet = adhesion_system_of }
+
 abbrev pub kinds : List PacketKind
-kinds = kind62 ∷ kind65 ∷ kind68 ∷ kind61 ∷ []
+kinds = kind62 ∷ kind65 ∷ kind68 ∷ kind61 ∷ kind64 ∷ []

@@ -22,7 +22,7 @@ abbrev pub joined : List Packet → List ℕ
 joined [] = []
 joined (p ∷ ps) = packet_bytes p ++ joined ps
 
--- "for 62, 65, 68 .. 25, 29, 19 bytes"; 02: "packet 61 has 22 bytes"
+-- "for 62, 65, 68 .. 25, 29, 19 bytes"; 02: "packet 61 has 22 bytes", "packet 64 has 18 bytes and 16 a row"
 abbrev pub values_size : PacketValues → ℕ
 values_size v = content_at + body_size v.kind.content v.content
 
@@ -46,7 +46,8 @@ kind_from (k ∷ ks) n = if eqb n k.number then accept k else kind_from ks n
 abbrev pub packet_at : PacketKind → List ℕ → Packet
 packet_at k s = k.packet (values_at header_layout 1 s) (body_at k.content content_at s)
 
--- "17 .. for 62, 65, 68 not 25, 29, 19 bytes", for 61 not 22; ".. 19 value out of range": p has the values that stand in n bytes
+-- "17 .. for 62, 65, 68 not 25, 29, 19 bytes", for 61 not 22, for 64 not 18 and 16 a row; ".. 19 value out of range", 02, Q-7: "a bad count or row gets
+-- 19": p has the values that stand in n bytes
 unfoldable pub judged_packet : ℕ → Packet → Judged Packet
 judged_packet n p = do
   row 17 (not (eqb n (size_of p)))

@@ -3,8 +3,9 @@ use Rattle.std.specs.Prelude.{ℕ}
 use Rattle.layout.specs.Layout.{Values, in_parts}
 use Rattle.layout.specs.Body.{BodyValues}
 use Rattle.status_word.specs.Word.{condition_parts}
+use Rattle.adhesion.specs.View.{constraints_view, constraints_values}
 use Rattle.status_word.specs.View.{conditions_view}
-use Rattle.packets.specs.Layouts.{PacketKind, header_layout, content62, content65, content68, content61, kind62, kind65, kind68, kind61}
+use Rattle.packets.specs.Layouts.{PacketKind, header_layout, content62, content65, content68, content61, kind62, kind65, kind68, kind61, kind64}
 use Rattle.packets.specs.declared.PacketKind as kind
 use Rattle.packets.specs.declared.Header.{Header}
 use Rattle.packets.specs.declared.TimingPoint.{TimingPoint}
@@ -57,6 +58,7 @@ packet_view (code.Packet.TimingPoint p) = Packet.TimingPoint p
 packet_view (code.Packet.JpReceived p) = Packet.JpReceived p
 packet_view (code.Packet.AtoStatus p) = Packet.AtoStatus p
 packet_view (code.Packet.TractionBrake p) = Packet.TractionBrake p
+packet_view (code.Packet.AdhesionSystem p) = Packet.AdhesionSystem p.header (constraints_view p.constraints)
 
 -- the values of one packet, by its kind
 pub record PacketValues : Type 0 where
@@ -69,6 +71,7 @@ packet_values (Packet.TimingPoint p) = record { kind = kind62; header = header_v
 packet_values (Packet.JpReceived p) = record { kind = kind65; header = header_view p.header; content = jp_received_view p }
 packet_values (Packet.AtoStatus p) = record { kind = kind68; header = header_view p.header; content = ato_status_view p }
 packet_values (Packet.TractionBrake p) = record { kind = kind61; header = header_view p.header; content = requested_view p.requested }
+packet_values (Packet.AdhesionSystem h rows) = record { kind = kind64; header = header_view h; content = constraints_values rows }
 
 -- the kind of a packet
 abbrev pub kind_view : kind.PacketKind → PacketKind
@@ -76,3 +79,4 @@ kind_view kind.PacketKind.TimingPoint = kind62
 kind_view kind.PacketKind.JpReceived = kind65
 kind_view kind.PacketKind.AtoStatus = kind68
 kind_view kind.PacketKind.TractionBrake = kind61
+kind_view kind.PacketKind.AdhesionSystem = kind64

@@ -1,9 +1,11 @@
-// Recorder packets 61, 62, 65 and 68: their values, their sizes and the ranges of their fields.
+// Recorder packets 61, 62, 64, 65 and 68: their values, their sizes and the ranges of their fields.
 #![tactic(auto)]
 
-ghost use Rattle.std.specs.Prelude.{◌≡◌, ◌&&◌};
+ghost use Rattle.std.specs.Prelude.{◌≡◌, ◌≤◌, ◌*◌, ◌&&◌, length};
+ghost use Rattle.adhesion.specs.View.{constraints_view};
 ghost use Rattle.packets.specs.Packets.{front_size};
 
+use adhesion::{CONSTRAINT_SIZE, Constraints};
 use status_word::OperationalConditions;
 use wire::{Number, Refusal};
 
@@ -134,12 +136,20 @@ pub struct TractionBrake {
     pub requested: Requested,
 }
 
+// Packet 64, Adhesion_System: SUBSET-140, Table 7. Its rows are lent: an enum holds no array.
 #[derive(Clone, Copy)]
-pub enum Packet {
+pub struct AdhesionSystem<'a> {
+    pub header: Header,
+    pub constraints: Constraints<'a>,
+}
+
+#[derive(Clone, Copy)]
+pub enum Packet<'a> {
     TimingPoint(TimingPoint),
     JpReceived(JpReceived),
     AtoStatus(AtoStatus),
     TractionBrake(TractionBrake),
+    AdhesionSystem(AdhesionSystem<'a>),
 }
 
 // The kinds of packets by their numbers. An enum beside `Packet`: the number is known before the values are read.
@@ -147,6 +157,7 @@ pub enum Packet {
 pub enum PacketKind {
     TractionBrake = 61,
     TimingPoint = 62,
+    AdhesionSystem = 64,
     JpReceived = 65,
     AtoStatus = 68,
 }
@@ -175,6 +186,7 @@ impl TryFrom<u8> for PacketKind {
         match n {
             61 => Ok(PacketKind::TractionBrake),
             62 => Ok(PacketKind::TimingPoint),
+            64 => Ok(PacketKind::AdhesionSystem),
             65 => Ok(PacketKind::JpReceived),
             68 => Ok(PacketKind::AtoStatus),
             _ => Err(Refusal::PacketNumber),
@@ -182,19 +194,44 @@ impl TryFrom<u8> for PacketKind {
     }
 }
 
+// The bytes of rows.
+fn rows_size(c: Constraints) -> usize
+    ensures value { result ≡ length (constraints_view c.entry) * 16 }
+    ensures most { result ≤ 4080 }
+{
+    usize::from(c.count()) * CONSTRAINT_SIZE
+}
+
 impl PacketKind {
+    ghost use Rattle.wire.specs.Judged.Judged.{accept};
     ghost use Rattle.packets.specs.Layouts.{kind_size};
+    ghost use Rattle.packets.specs.Packets.{size_for};
     ghost use Rattle.packets.specs.View.{kind_view};
 
-    // The bytes of a packet, as the papers count them: "for 62, 65, 68 .. 25, 29, 19 bytes", "packet 61 has 22 bytes".
+    // The bytes of a packet without its rows, as the papers count them: "for 62, 65, 68 .. 25, 29, 19 bytes", "packet 61 has 22 bytes",
+    // "packet 64 has 18 bytes and 16 a row".
     pub fn size(self) -> usize
         ensures { result ≡ kind_size (kind_view self) }
     {
         match self {
             PacketKind::TractionBrake => 22,
             PacketKind::TimingPoint => 25,
+            PacketKind::AdhesionSystem => 18,
             PacketKind::JpReceived => 29,
             PacketKind::AtoStatus => 19,
+        }
+    }
+
+    // The bytes of a packet of the kind, with the rows that it has by its bytes.
+    fn size_in(self, s: &[u8]) -> usize
+        ensures { result ≡ size_for (accept (kind_view self)) s.now }
+    {
+        match self {
+            PacketKind::AdhesionSystem => self.size() + rows_size(Constraints::get(s, 17)),
+            PacketKind::TractionBrake
+            | PacketKind::TimingPoint
+            | PacketKind::JpReceived
+            | PacketKind::AtoStatus => self.size(),
         }
     }
 }
@@ -287,42 +324,66 @@ impl AtoStatus {
     }
 }
 
-impl Packet {
+impl<'a> AdhesionSystem<'a> {
+    ghost use Rattle.std.specs.Prelude.{not};
+    ghost use Rattle.wire.specs.Lists.{any};
+    ghost use Rattle.layout.specs.Body.{body_fits};
+    ghost use Rattle.adhesion.specs.Constraints.{constraints_body, reversed};
+    ghost use Rattle.adhesion.specs.View.{constraints_values};
+
+    fn content_fits(self) -> bool
+        ensures { result ≡ (body_fits constraints_body (constraints_values (constraints_view self.entry.constraints)) && not (any reversed (constraints_view self.entry.constraints))) }
+    {
+        self.constraints.fit() && !self.constraints.reversed()
+    }
+}
+
+impl<'a> Packet<'a> {
     ghost use Rattle.packets.specs.View.{header_view, kind_view, packet_view, packet_values};
     ghost use Rattle.packets.specs.Packets.{size_of, packet_fits};
 
     pub fn kind(self) -> PacketKind
-        ensures { kind_view result ≡ (packet_values (packet_view self)).kind }
+        ensures { kind_view result ≡ (packet_values (packet_view self.entry)).kind }
     {
         match self {
             Packet::TimingPoint(_) => PacketKind::TimingPoint,
             Packet::JpReceived(_) => PacketKind::JpReceived,
             Packet::AtoStatus(_) => PacketKind::AtoStatus,
             Packet::TractionBrake(_) => PacketKind::TractionBrake,
+            Packet::AdhesionSystem(_) => PacketKind::AdhesionSystem,
         }
     }
 
     pub fn header(self) -> Header
-        ensures { header_view result ≡ (packet_values (packet_view self)).header }
+        ensures { header_view result ≡ (packet_values (packet_view self.entry)).header }
     {
         match self {
             Packet::TimingPoint(x) => x.header,
             Packet::JpReceived(x) => x.header,
             Packet::AtoStatus(x) => x.header,
             Packet::TractionBrake(x) => x.header,
+            Packet::AdhesionSystem(x) => x.header,
         }
     }
 
     // Its bytes.
     pub fn size(self) -> usize
-        ensures { result ≡ size_of (packet_view self) }
+        ensures value { result ≡ size_of (packet_view self.entry) }
+        ensures most { result ≤ 4098 }
     {
-        self.kind().size()
+        let size = self.kind().size();
+        match self {
+            Packet::TimingPoint(_) => size,
+            Packet::JpReceived(_) => size,
+            Packet::AtoStatus(_) => size,
+            Packet::TractionBrake(_) => size,
+            Packet::AdhesionSystem(x) => size + rows_size(x.constraints),
+        }
     }
 
     // Each value is in its range.
     pub fn fits(self) -> bool
-        ensures { result ≡ packet_fits (packet_view self) }
+        ensures { result ≡ packet_fits (packet_view self.entry) }
     {
         let header = self.header().fits();
         match self {
@@ -331,6 +392,7 @@ impl Packet {
             Packet::AtoStatus(x) => header && x.content_fits(),
             // Its content is free.
             Packet::TractionBrake(_) => header,
+            Packet::AdhesionSystem(x) => header && x.content_fits(),
         }
     }
 }
@@ -343,7 +405,7 @@ pub fn front_size(s: &[u8]) -> usize
         return 0;
     };
     match PacketKind::try_from(*number) {
-        Ok(kind) => kind.size().min(s.len()),
+        Ok(kind) => kind.size_in(s).min(s.len()),
         Err(_) => s.len(),
     }
 }

@@ -1,7 +1,7 @@
 -- A small journey, of which the values below are worked out by hand: two countries; two placed segments, a third that is not in the book and a
 -- fourth that is in the book but not placed, as the third stands before it; a front, a middle and a rear point; the End of Journey before the last.
 use Rattle.std.specs.Prelude.{ℕ, List, [], ◌∷◌, Bool, true, false}
-use Rattle.engine_value.specs.Engine.{Route, no_operational, fresh_inputs, fresh_control, no_traction, progress}
+use Rattle.engine_value.specs.Engine.{Route, no_operational, fresh_inputs, fresh_control, no_traction, progress, no_adhesion}
 use Rattle.engine_value.specs.declared.Zone.{Zone}
 use Rattle.engine_value.specs.declared.Segment.{Segment}
 use Rattle.engine_value.specs.declared.Point.{Point}
@@ -101,4 +101,5 @@ engine_at x n reached = record {
   inputs = fresh_inputs;
   control = fresh_control;
   traction = no_traction;
+  adhesion = no_adhesion;
 }

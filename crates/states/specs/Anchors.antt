@@ -113,9 +113,9 @@ pub record Anchors : Type 0 where
   pub row_pressed : map (λ r. by_row (pressed RE) r false driving) rows ≡ still CO ∷ still AV ∷ still NP ∷ still FA ∷ still EG ∷ still EG ∷ []
   pub row_reached : map (λ r. by_row (still EG) r true driving) rows ≡ still CO ∷ still AV ∷ still NP ∷ still FA ∷ still AV ∷ still AV ∷ []
   pub row_FA : map (λ r. by_row (still FA) r false waiting) rows ≡ still CO ∷ still RE ∷ still NP ∷ still FA ∷ still FA ∷ still FA ∷ []
-  -- the kinds 1 to 14, in RE with a press pending and now in AD; a press; a point reached
+  -- the kinds 1 to 15, in RE with a press pending and now in AD; a press; a point reached
   pub by_kind : map (λ e. machine_after (pressed RE) e false driving) kinds
-      ≡ still CO ∷ still AV ∷ still NP ∷ still FA ∷ replicate 10 (still EG)
+      ≡ still CO ∷ still AV ∷ still NP ∷ still FA ∷ replicate 11 (still EG)
   pub press_kind : machine_after (still RE) Press false waiting ≡ pressed RE
   pub reached_kind : machine_after (still EG) (PositionReport fresh_position) true driving ≡ still AV
   -- "AD request (000 §9.12): wanted in RE, EG, DE, and in AV with AD and N"

@@ -113,7 +113,7 @@ fn by_state(s: State, press: bool, reached: bool, v: Values) -> Machine
 // State and press after an event.
 #[tactic(auto, unfolding(crate::specs::States::machine_after))]
 fn machine_after(m: Machine, event: Event, reached: bool, v: Values) -> Machine
-    ensures { result ≡ machine_after m (event_view event) reached v }
+    ensures { result ≡ machine_after m (event_view event.entry) reached v }
 {
     let s = m.state;
     match event {
@@ -184,7 +184,7 @@ pub fn control_after(
     reached: bool,
     conditions: OperationalConditions,
 ) -> Control
-    ensures { result ≡ control_after inputs c (event_view event) reached conditions }
+    ensures { result ≡ control_after inputs c (event_view event.entry) reached conditions }
 {
     let v = values_in(inputs, conditions);
     let m = machine_after(Machine::from(c), event, reached, v);

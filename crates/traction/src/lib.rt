@@ -90,7 +90,7 @@ fn driving(s: State) -> bool
 
 // The request of an event that comes in that state.
 fn made(s: State, v: Event) -> Option<TractionRequest>
-    ensures { result ≡ made s (event_view v) }
+    ensures { result ≡ made s (event_view v.entry) }
 {
     if let Event::Traction(x) = v
         && driving(s)
@@ -103,7 +103,7 @@ fn made(s: State, v: Event) -> Option<TractionRequest>
 
 // Power off, or EG is entered.
 fn forgets(before: State, v: Event, after: State) -> bool
-    ensures { result ≡ forgets before (event_view v) after }
+    ensures { result ≡ forgets before (event_view v.entry) after }
 {
     matches!(v, Event::PowerOff) || (after == State::EG && before != State::EG)
 }
@@ -120,7 +120,7 @@ fn requested(m: Option<Remembered>, x: TractionRequest) -> Remembered
 
 // What is remembered after an event in the state `before`, which led to `after`.
 pub fn traction_after(before: State, v: Event, after: State, t: Traction) -> Traction
-    ensures { result ≡ traction_of (remembered_after before (event_view v) after (remembered_in t)) }
+    ensures { result ≡ traction_of (remembered_after before (event_view v.entry) after (remembered_in t)) }
 {
     let m = remembered_in(t);
     let kept = made(before, v).map(|x| requested(m, x)).or(m);
@@ -147,7 +147,7 @@ pub fn content_written(
     before: Traction,
     after: Traction,
 ) -> Option<Requested>
-    ensures { result ≡ written_content state (event_view v) (remembered_in before) (remembered_in after) }
+    ensures { result ≡ written_content state (event_view v.entry) (remembered_in before) (remembered_in after) }
 {
     if changed(remembered_in(before), remembered_in(after)) {
         made(state, v).map(|x| x.content)

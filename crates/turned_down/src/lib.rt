@@ -16,7 +16,7 @@ use wire::Refusal;
 
 // Nothing of the journey that was refused is told: stamp 0, and the NID_ATOTS of a journey that has none.
 #[tactic(auto, unfolding(call_values::specs::Packets::jp_turned_down))]
-fn jp_turned_down(e: &Engine) -> Packet
+fn jp_turned_down<'a>(e: &Engine) -> Packet<'a>
     ensures { packet_view result ≡ jp_turned_down (route_in e.now) e.now.train.position }
 {
     let place = Place::new(e.route(), e.train.position);

@@ -1,6 +1,6 @@
 -- In every history the values that conditions and packets look at are within their ranges: each was read with its range, or is fresh.
 use Rattle.std.specs.Prelude.{if◌then◌else◌, Option, Some, None}
-use mathlib.Core.Path.{◌≡◌, refl}
+use mathlib.Core.Path.{◌≡◌, refl, subst}
 use mathlib.Core.Bool.{Bool, true, false, false≢true}
 use mathlib.Core.List.{List, [], ◌∷◌}
 use Prim.Native.Nat.{ℕ, zero, suc, ◌≤◌, ◌<◌}
@@ -12,17 +12,19 @@ use Rattle.engine_value.specs.Engine.{Route, no_route, fresh_position, blank_poi
 use Rattle.engine_value.specs.declared.Segment.{Segment}
 use Rattle.engine_value.specs.declared.Position.{Position}
 use Rattle.event.specs.Events.{event_of}
-use Rattle.event.proofs.Accepted.{PositionFits, Fits, position_fits, event-fits}
+use Rattle.adhesion.specs.declared.TemporaryConstraint.{TemporaryConstraint}
+use Rattle.event.proofs.Accepted.{PositionFits, Fits, Straight, position_fits, event-fits, event-straight}
+use Rattle.event.proofs.Adhesion.{rows-fit}
 use Rattle.event.specs.Event.{Event}
 use Rattle.event.specs.Event.Event.{PowerOn}
-use Rattle.event.proofs.Known.{OfPosition, position_of}
+use Rattle.event.proofs.Known.{OfPosition, position_of, OfConstraints, constraints-of}
 use Rattle.event.specs.Kinds.{carried, Role, off, load, report, other, skip, newer, is_off}
 use Rattle.route.specs.Route.{LoadValue, load_of}
 use Rattle.route.proofs.Ranges.{PointFits, LoadFits, load_fits}
 use Rattle.position.specs.Position.{point, point_count}
 use Rattle.conditions.specs.Sentences.{ZonesBooked}
 use Rattle.call_values.specs.Call.{Call}
-use Rattle.whole_list.specs.Values.{History, event_of_call, load_of_call, role_of_call, latest, position_by, route_loaded, route_by}
+use Rattle.whole_list.specs.Values.{History, event_of_call, load_of_call, role_of_call, latest, constraints_by, position_by, route_loaded, route_by}
 use Rattle.whole_list.proofs.Recorded.{Ranged}
 
 -- ---- the position
@@ -34,6 +36,30 @@ event-in c = go (event_of c.event) refl
     go : (j : Judged Event) → event_of c.event ≡ j → Fits (elim j [ refuse n ↦ PowerOn | accept e ↦ e ])
     go (refuse n) q = (tt, refl, refl)
     go (accept e) q = event-fits c.event e q
+
+pub event-straight_in : (c : Call) → Straight (event_of_call c)
+unfolding event_of_call
+event-straight_in c = go (event_of c.event) refl
+  where
+    go : (j : Judged Event) → event_of c.event ≡ j → Straight (elim j [ refuse n ↦ PowerOn | accept e ↦ e ])
+    go (refuse n) q = refl
+    go (accept e) q = event-straight c.event e q
+
+-- the rows in force are at most 31
+few_then : (o : Option (List TemporaryConstraint)) (e : Event) → OfConstraints o e → Fits e → (l : List TemporaryConstraint) → length l ≤ 31 → length (newer o l) ≤ 31
+few_then None e k f l h = h
+few_then (Some rows) e k f l h = (rows-fit rows (subst Fits k f)).few
+
+pub few_rows : (h : History) → length (constraints_by h) ≤ 31
+unfolding latest
+few_rows [] = omega arith
+few_rows (c ∷ h) =
+    let few = few_then (carried (event_of_call c)).constraints (event_of_call c) (constraints-of (event_of_call c)) (event-in c) (constraints_by h) (few_rows h) in
+    go (is_off (role_of_call c)) (newer (carried (event_of_call c)).constraints (constraints_by h)) few
+  where
+    go : (b : Bool) (l : List TemporaryConstraint) → length l ≤ 31 → length (if b then [] else l) ≤ 31
+    go true l k = omega arith
+    go false l k = k
 
 -- the latest of the values that events carry
 carried-in : (e : Event) (x : Position) → Fits e → PositionFits x → PositionFits (newer (carried e).position x)

@@ -22,7 +22,7 @@ use Rattle.whole_list.specs.Creeping.{TrulyDeparted, Leaving, SurelyDeparted, Ke
 use Rattle.whole_list.specs.Held.{PressHeld, BecomesHeld, HoldEnds}
 use Rattle.whole_list.specs.Example.{Example, stopped, driven, finished, crept, coming, held, pressed, skipped_load}
 use Rattle.trackside.specs.Trackside.{foretold}
-use Rattle.whole_list.specs.Recorded.{timing_points}
+use Rattle.whole_list.specs.Recorded.{timing_points, rows_told}
 use Rattle.whole_list.specs.Trackside.{journey_of_call, journey_by, Gives, Takes}
 use Rattle.whole_list.proofs.Computed.{worked}
 use Rattle.whole_list.proofs.WholeList.{whole_list}
@@ -31,7 +31,7 @@ use Rattle.whole_list.proofs.Held.{each-held}
 use Rattle.whole_list.proofs.Creeping.{by_leaves, truly-departed, surely-departed, no_trace_of_creeping}
 
 pub example : Example
-unfolding worked packet_of judged_packet timing_points journey_of_call journey_by foretold
+unfolding worked packet_of judged_packet timing_points rows_told journey_of_call journey_by foretold
 example = record {
   answers = refl;
   reached = refl;
@@ -74,6 +74,9 @@ example = record {
   ranged = refl;
   remembers = refl;
   none_left = refl;
+  answers_slippery = refl;
+  told_slippery = refl;
+  in_force = refl;
 }
 
 -- ---- what the claim says of them

@@ -11,7 +11,7 @@ use lib.Seq.{get_or-set_same, get_or-set_other}
 use borrow.Author.Tests.{eqb-true, eqb-false}
 use Rattle.wire.specs.Numbers.{flag}
 use Rattle.status_word.specs.Word.{conditions_of}
-use Rattle.engine_value.specs.Engine.{train_of, inputs_of, Route, no_skips, progress}
+use Rattle.engine_value.specs.Engine.{train_of, inputs_of, adhesion_of, Route, no_skips, progress}
 use Rattle.engine_value.specs.declared.Position.{Position}
 use Rattle.engine_value.specs.declared.Progress.{Progress}
 use Rattle.engine_value.specs.declared.Train.{Train}
@@ -29,7 +29,7 @@ use Rattle.timing.proofs.Steps.{InRange, started, run-range, target-most}
 use Rattle.timing.proofs.Rule.{as_the_rule}
 use Rattle.state_codes.specs.Codes.{code}
 use Rattle.conditions.specs.Conditions.{end_ahead, last_ahead, first_ahead, profiles_there, route_conditions, nine, conditions}
-use Rattle.whole_list.specs.Values.{History, role_of_call, number_by, reports_by, position_by, length_by, route_by, is_point, skipped_by, reports_since, behind_at_load}
+use Rattle.whole_list.specs.Values.{History, role_of_call, number_by, constraints_by, reports_by, position_by, length_by, route_by, is_point, skipped_by, reports_since, behind_at_load}
 use Rattle.whole_list.specs.Rules.{standing_by, conditions_by, machine_by, state_by, request_by}
 use Rattle.traction.specs.View.{traction_of}
 use Rattle.whole_list.specs.Requests.{traction_by}
@@ -75,6 +75,7 @@ engine_of h = record {
   inputs = inputs_by h;
   control = control_by h;
   traction = traction_of (traction_by h);
+  adhesion = adhesion_of (constraints_by h);
 }
 
 -- ---- driver skips

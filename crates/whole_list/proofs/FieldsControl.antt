@@ -1,9 +1,11 @@
 -- The rows of the states at the engine of a history lead to the engine of the history with the event.
 use mathlib.Core.Path.{◌≡◌, refl, sym, ◌∙◌, ap}
-use mathlib.Core.Bool.{Bool, false}
-use mathlib.Core.List.{◌∷◌}
-use Rattle.std.specs.Prelude.{Option}
-use Rattle.engine_value.specs.Engine.{with_control}
+use mathlib.Core.Bool.{Bool, true, false}
+use mathlib.Core.List.{List, [], ◌∷◌}
+use Rattle.std.specs.Prelude.{Option, Some, None, option_map, if◌then◌else◌}
+use Rattle.adhesion.specs.declared.TemporaryConstraint.{TemporaryConstraint}
+use Rattle.event.specs.Kinds.{is_off, newer, carried}
+use Rattle.engine_value.specs.Engine.{adhesion_of, with_control}
 use Rattle.engine_value.specs.declared.Control.{Control}
 use Rattle.event.specs.Event.{Event}
 use Rattle.event.specs.Kinds.{Role, off, load, report, other, skip, row_of, role_of}
@@ -22,8 +24,8 @@ use Rattle.traction.proofs.Laws.{told_again}
 use Rattle.states.specs.ControlGroup.{values_in, machine_in, control_of, control_after}
 use Rattle.call.specs.Effect.{stored}
 use Rattle.call_values.specs.Call.{Call}
-use Rattle.call.specs.Call.{conditions_in, settled, step_by}
-use Rattle.whole_list.specs.Values.{History, event_of_call, mode_by, lever_by, reports_by, position_by, route_by}
+use Rattle.call.specs.Call.{conditions_in, adhesion_after, settled, step_by}
+use Rattle.whole_list.specs.Values.{History, event_of_call, role_of_call, latest, constraints_by, mode_by, lever_by, reports_by, position_by, route_by}
 use Rattle.whole_list.specs.Rules.{standing_by, conditions_by, values_by, became_reached_by, machine_by, state_by, request_by}
 use Rattle.whole_list.specs.Requests.{traction_by}
 use Rattle.whole_list.proofs.Requests.{remembered-is}
@@ -101,9 +103,20 @@ traction-is h c =
     ∙ ap (λ (s : State). traction_of (remembered_after (state_by h) e s (traction_by h))) (state_code (state_by (c ∷ h)))
     ∙ ap traction_of (remembered-is h c)
 
+-- the rows that it then shows
+adhesion-is : (h : History) (c : Call) → adhesion_after (event_of_call c) (adhesion_of (constraints_by h)) ≡ adhesion_of (constraints_by (c ∷ h))
+unfolding latest
+adhesion-is h c = go (is_off (role_of_call c)) (carried (event_of_call c)).constraints
+  where
+    go : (b : Bool) (o : Option (List TemporaryConstraint))
+        → newer (option_map adhesion_of (if b then Some [] else o)) (adhesion_of (constraints_by h)) ≡ adhesion_of (if b then [] else newer o (constraints_by h))
+    go true o = refl
+    go false None = refl
+    go false (Some rows) = refl
+
 -- the engine after the event
 pub engine-is : (h : History) (c : Call) → (step_by (engine_of h) (event_of_call c) (effect_of h c)).engine ≡ engine_of (c ∷ h)
 engine-is h c =
     ap (λ m. settled (engine_of h) (event_of_call c) m (step_by (engine_of h) (event_of_call c) (effect_of h c)).engine.control) (stored_is h c)
-    ∙ ap (λ x. settled (engine_of h) (event_of_call c) (with_control (engine_of (c ∷ h)) x (engine_of h).traction) x) (control-is h c)
-    ∙ ap (λ t. with_control (engine_of (c ∷ h)) (control_by (c ∷ h)) t) (traction-is h c)
+    ∙ ap (λ x. settled (engine_of h) (event_of_call c) (with_control (engine_of (c ∷ h)) x (engine_of h).traction (engine_of h).adhesion) x) (control-is h c)
+    ∙ (λ i. with_control (engine_of (c ∷ h)) (control_by (c ∷ h)) (traction-is h c i) (adhesion-is h c i))

@@ -166,7 +166,7 @@ module _ (h : History) where
       go None = refl
       go (Some k) = refl
 
-pub stored_is : (h : History) (c : Call) → stored (engine_of h) (effect_of h c) ≡ with_control (engine_of (c ∷ h)) (effect_of h c).control (engine_of h).traction
+pub stored_is : (h : History) (c : Call) → stored (engine_of h) (effect_of h c) ≡ with_control (engine_of (c ∷ h)) (effect_of h c).control (engine_of h).traction (engine_of h).adhesion
 unfolding route_by skips_of
 stored_is h c =
     let j : route_after (engine_of h) (effect_of h c).journey ≡ route_by (c ∷ h) = route_after_lem h (role_of_call c) (load_of_call c) in
@@ -180,6 +180,7 @@ stored_is h c =
       inputs = inputs_by (c ∷ h);
       control = (effect_of h c).control;
       traction = (engine_of h).traction;
+      adhesion = (engine_of h).adhesion;
     }
 
 -- ---- kind by kind

@@ -16,6 +16,7 @@ pub mod Shown
 pub mod ChangeKinds
 pub mod Passed
 pub mod Points
+pub mod Slippery
 pub mod WholeList
 pub mod Creeping
 pub mod RowNumbers

@@ -18,20 +18,16 @@ use Rattle.packets.specs.Layouts.{kind65, kind_size}
 use Rattle.packets.specs.Packets.{packet_of}
 use Rattle.packets.specs.declared.TimingPoint.{TimingPoint}
 use Rattle.status_word.specs.declared.OperationalConditions.{OperationalConditions}
-use Rattle.packets.specs.declared.Requested.{Requested}
 use Rattle.packets.specs.Packet.{Packet}
 use Rattle.position.specs.Position.{point}
 use Rattle.timing.specs.Changes.{Change, status_passed, status_held, when, report_changes}
 use Rattle.timing.proofs.Changes.{Behind, recorded_behind, index_below}
 use Rattle.journey.specs.declared.Head.{Head}
-use Rattle.call_values.specs.Packets.{PointChange, timing_point, jp_received, traction_brake, traction_brakes, ato_status, status_due, received, packets_of, jp_turned_down, packets_refused}
+use Rattle.call_values.specs.Packets.{PointChange, timing_point, jp_received, ato_status, status_due, received, packets_of, jp_turned_down, packets_refused}
 use Rattle.call_values.specs.Call.{Call}
 use Rattle.call.specs.Call.{step_of}
 use Rattle.whole_list.specs.Values.{History, event_of_call, position_by, route_by, report_at}
 use Rattle.whole_list.specs.Table.{changes_by, head_of_call, own_by, status_by, packets_by, table_by, packets_if, written_by}
-use Rattle.whole_list.specs.Rules.{state_by}
-use Rattle.traction.specs.Requests.{written_content}
-use Rattle.whole_list.specs.Requests.{traction_by}
 use Rattle.whole_list.specs.Calls.{engine_after, history_of}
 use Rattle.whole_list.specs.Recorded.{In}
 use Rattle.whole_list.specs.WholeList.{bytes_of_each, JudgedByTable, WrittenAt, Each62, TrulyPassed, NothingAhead}
@@ -39,6 +35,7 @@ use Rattle.whole_list.proofs.Requests.{in_left, in_right, in-append}
 use Rattle.whole_list.proofs.Fields.{progress_run, in-range}
 use Rattle.whole_list.proofs.FieldsStep.{route_kept, position_new}
 use Rattle.whole_list.proofs.Readable.{written_fit, read_as}
+use Rattle.whole_list.proofs.Recorded.{own-in, own-are}
 use Rattle.whole_list.proofs.ChangeKinds.{member, in_map, Reports, Kind, of_report, of_hold, of_trackside, of_driver, which, tells_late, driver_late}
 
 -- a change of status 0 to 3 is of a position report
@@ -66,12 +63,6 @@ module _ (j : Route) (x : Position) (p : TimingPoint) where
   not_68 true s n (inr q) = q
   not_68 false s n q = q
 
-  not_61 : (o : Option Requested) → In (Packet.TimingPoint p) (traction_brakes j x o) → ⊥
-  unfolding traction_brake
-  not_61 None q = q
-  not_61 (Some r) (inl e) = cc
-  not_61 (Some r) (inr q) = q
-
   -- the values of a packet 62
   values_62 : (d : PointChange) → Packet.TimingPoint p ≡ timing_point j x d → (p.status ≡ d.status) × (p.nidtp ≡ d.point.nidtp)
   unfolding timing_point
@@ -87,7 +78,7 @@ timing_among h c p i = first (in-append (Packet.TimingPoint p) (received (route_
     last = when (status_due (status_by h) (status_by (c ∷ h))) (ato_status (route_by (c ∷ h)) (position_by (c ∷ h)) (status_by (c ∷ h)).state (status_by (c ∷ h)).conditions)
 
     third : In (Packet.TimingPoint p) (own_by h c) ⊎ In (Packet.TimingPoint p) last → ⊥
-    third (inl q) = not_61 (route_by (c ∷ h)) (position_by (c ∷ h)) p (written_content (state_by h) (event_of_call c) (traction_by h) (traction_by (c ∷ h))) q
+    third (inl q) = own-in (Packet.TimingPoint p) (own_by h c) (own-are h c) q
     third (inr q) = not_68 (route_by (c ∷ h)) (position_by (c ∷ h)) p (status_due (status_by h) (status_by (c ∷ h))) _ _ q
 
     second : In (Packet.TimingPoint p) (map (timing_point (route_by (c ∷ h)) (position_by (c ∷ h))) (changes_by h c)) ⊎ In (Packet.TimingPoint p) (own_by h c ++ last)

@@ -17,22 +17,19 @@ use Rattle.engine_value.specs.declared.Position.{Position}
 use Rattle.journey.specs.declared.Head.{Head}
 use Rattle.packets.specs.Layouts.{kind65, kind_size}
 use Rattle.packets.specs.Packets.{packet_bytes}
-use Rattle.packets.specs.declared.Requested.{Requested}
 use Rattle.packets.specs.declared.TimingPoint.{TimingPoint}
 use Rattle.packets.specs.Packet.{Packet}
 use Rattle.packets.proofs.RoundTrips.{read-written}
 use Rattle.status_word.specs.declared.OperationalConditions.{OperationalConditions}
 use Rattle.timing.specs.Changes.{status_stopped, when}
-use Rattle.traction.specs.Requests.{written_content}
-use Rattle.call_values.specs.Packets.{PointChange, header, timing_point, received, jp_received, traction_brake, traction_brakes, ato_status, status_due, packets_of, jp_turned_down, packets_refused}
+use Rattle.call_values.specs.Packets.{PointChange, header, timing_point, received, jp_received, ato_status, status_due, packets_of, jp_turned_down, packets_refused}
 use Rattle.call_values.specs.Call.{Call}
-use Rattle.whole_list.specs.Values.{History, event_of_call, position_by, route_by}
-use Rattle.whole_list.specs.Rules.{state_by}
-use Rattle.whole_list.specs.Requests.{traction_by}
+use Rattle.whole_list.specs.Values.{History, position_by, route_by}
 use Rattle.whole_list.specs.Table.{changes_by, head_of_call, own_by, status_by, packets_by, table_by, packets_refused_by, written_by}
 use Rattle.whole_list.specs.Recorded.{timing_point_in, timing_points, In}
 use Rattle.whole_list.specs.WholeList.{bytes_of_each}
 use Rattle.whole_list.specs.Held.{Is62}
+use Rattle.whole_list.proofs.Recorded.{Own, own-are}
 use Rattle.whole_list.proofs.Readable.{Fits, packets_fit, refused_fit, written_fit, read_as}
 use Rattle.whole_list.proofs.Passed.{timing_among, told_accepted}
 
@@ -75,10 +72,13 @@ module _ (j : Route) (x : Position) where
   of_65 None = refl
   of_65 (Some d) = refl
 
-  of_61 : (o : Option Requested) → among (traction_brakes j x o) ≡ []
-  unfolding traction_brake
-  of_61 None = refl
-  of_61 (Some r) = refl
+  of_own : (l : List Packet) → All Own l → among l ≡ []
+  of_own [] a = refl
+  of_own (Packet.TimingPoint p ∷ l) a = absurd a.0
+  of_own (Packet.JpReceived p ∷ l) a = absurd a.0
+  of_own (Packet.AtoStatus p ∷ l) a = absurd a.0
+  of_own (Packet.TractionBrake p ∷ l) a = of_own l a.1
+  of_own (Packet.AdhesionSystem h rows ∷ l) a = of_own l a.1
 
   of_68 : (due : Bool) (s : ℕ) (n : OperationalConditions) → among (when due (ato_status j x s n)) ≡ []
   unfolding ato_status
@@ -105,7 +105,7 @@ module _ (h : History) (c : Call) where
       ∙ among_append points (own_by h c ++ last)
       ∙ ap (λ (l : List TimingPoint). among points ++ l)
       (among_append (own_by h c) last
-      ∙ ap (λ (l : List TimingPoint). l ++ among last) (of_61 j x (written_content (state_by h) (event_of_call c) (traction_by h) (traction_by (c ∷ h))))
+      ∙ ap (λ (l : List TimingPoint). l ++ among last) (of_own j x (own_by h c) (own-are h c))
       ∙ of_68 j x (status_due (status_by h) after) after.state after.conditions)
       ∙ append-nil (among points)
       ∙ of_62 j x (changes_by h c)

@@ -20,11 +20,14 @@ use Rattle.engine_value.specs.declared.Position.{Position}
 use Rattle.wire.specs.Lists.{All}
 use Rattle.journey.proofs.Accepted.{HeadFits}
 use Rattle.journey.specs.declared.Head.{Head}
-use Rattle.event.specs.Kinds.{Role, off, load, report, other, skip}
+use Rattle.event.specs.Kinds.{carried, Role, off, load, report, other, skip}
 use Rattle.event.specs.declared.TractionRequest.{TractionRequest}
 use Rattle.event.specs.Event.{Event}
-use Rattle.event.proofs.Known.{OfTraction, traction-of}
-use Rattle.event.proofs.Accepted.{ContentFits, content-fits, Fits as EventFits}
+use Rattle.event.proofs.Known.{OfTraction, traction-of, OfConstraints, constraints-of}
+use Rattle.event.proofs.Accepted.{ContentFits, content-fits, Fits as EventFits, Straight}
+use Rattle.event.proofs.Adhesion.{rows-fit}
+use Rattle.adhesion.specs.declared.TemporaryConstraint.{TemporaryConstraint}
+use Rattle.adhesion.proofs.Laws.{remade}
 use Rattle.route.specs.Route.{LoadValue}
 use Rattle.route.proofs.Ranges.{PointFits}
 use Rattle.layout.specs.Layout.{fits}
@@ -55,7 +58,7 @@ use Rattle.hold.proofs.Laws.{held_is}
 use Rattle.trackside.specs.Trackside.{mark_of, marks, each_told}
 use Rattle.trackside.proofs.Laws.{each_all}
 use Rattle.trackside.proofs.Sentences.{sentences}
-use Rattle.call_values.specs.Packets.{PointChange, point_change, hold_revoked, header, timing_point, jp_received, traction_brake, traction_brakes, ato_status, status_due, received, packets_of, jp_turned_down, packets_refused}
+use Rattle.call_values.specs.Packets.{PointChange, point_change, hold_revoked, header, timing_point, jp_received, traction_brake, traction_brakes, adhesion_system, adhesion_systems, ato_status, status_due, received, packets_of, jp_turned_down, packets_refused}
 use Rattle.call_values.specs.Call.{Call}
 use Rattle.whole_list.specs.Values.{History, event_of_call, load_of_call, role_of_call, position_by, route_by}
 use Rattle.whole_list.specs.Rules.{standing_by, conditions_by, state_by}
@@ -64,7 +67,7 @@ use Rattle.whole_list.specs.Table.{own_by, becomes_reached, held_stop_by, hold_c
 use Rattle.whole_list.specs.Recorded.{In}
 use Rattle.whole_list.specs.WholeList.{bytes_of_each}
 use Rattle.whole_list.proofs.Recorded.{Ranged}
-use Rattle.whole_list.proofs.Decoded.{event-in, load-in, RouteIn, route-in, ranged}
+use Rattle.whole_list.proofs.Decoded.{event-in, event-straight_in, load-in, RouteIn, route-in, ranged}
 
 all_append : {A : Type 0} (P : A → Type 0) (a b : List A) → All P a → All P b → All P (a ++ b)
 all_append P [] b x y = y
@@ -131,6 +134,12 @@ module _ (j : Route) (x : Position) (r : Ranged j x) where
   unfolding traction_brake
   fits_61 q f = (rw header_fits, (header_typed, (omega (arith, f.trabrrq), (omega (arith, f.locobrrq), (omega (arith, f.suptb), (omega (arith, f.rtbrq), tt))))))
 
+  fits_64 : (rows : List TemporaryConstraint) → EventFits (Event.Adhesion rows) → Straight (Event.Adhesion rows) → Fits (adhesion_system j x rows)
+  unfolding adhesion_system
+  fits_64 rows f s =
+      let r = rows-fit rows f in
+      (rw (header_fits, r.fit, remade rows, s), (header_typed, r.typed))
+
   fits_68 : (s : ℕ) (c : OperationalConditions) → s ≤ 7 → ZerosAndOnes (conditions_view c) → Fits (ato_status j x s c)
   unfolding ato_status
   fits_68 s c h k = (status_fits (record { header = header j x; state = s; conditions = c }) header_fits h k, (header_typed, (tt, tt)))
@@ -156,6 +165,10 @@ module _ (j : Route) (x : Position) (r : Ranged j x) where
   all_61 : (o : Option Requested) → ((q : Requested) → o ≡ Some q → ContentFits q) → All Fits (traction_brakes j x o)
   all_61 None k = tt
   all_61 (Some q) k = (fits_61 q (k q refl), tt)
+
+  all_64 : (o : Option (List TemporaryConstraint)) → ((rows : List TemporaryConstraint) → o ≡ Some rows → EventFits (Event.Adhesion rows) × Straight (Event.Adhesion rows)) → All Fits (adhesion_systems j x o)
+  all_64 None k = tt
+  all_64 (Some rows) k = let f = k rows refl in (fits_64 rows f.0 f.1, tt)
 
   all_68 : (due : Bool) (s : ℕ) (c : OperationalConditions) → s ≤ 7 → ZerosAndOnes (conditions_view c) → All Fits (when due (ato_status j x s c))
   all_68 true s c h k = (fits_68 s c h k, tt)
@@ -271,6 +284,12 @@ module _ (h : History) (c : Call) where
       let k : event_of_call c ≡ Event.Traction x = subst (λ (o : Option TractionRequest). OfTraction o (event_of_call c)) w.2.1 (traction-of (event_of_call c)) in
       subst ContentFits z (content-fits x (subst EventFits k (event-in c)))
 
+  -- the rows of a packet 64 are those of the event
+  rows_in_event : (rows : List TemporaryConstraint) → (carried (event_of_call c)).constraints ≡ Some rows → EventFits (Event.Adhesion rows) × Straight (Event.Adhesion rows)
+  rows_in_event rows e =
+      let k : event_of_call c ≡ Event.Adhesion rows = subst (λ (o : Option (List TemporaryConstraint)). OfConstraints o (event_of_call c)) e (constraints-of (event_of_call c)) in
+      (subst EventFits k (event-in c), subst Straight k (event-straight_in c))
+
   pub packets_fit : All Fits (packets_by h c)
   unfolding packets_by packets_of conditions_by
   packets_fit =
@@ -278,7 +297,7 @@ module _ (h : History) (c : Call) where
       all_append Fits (received (route_by (c ∷ h)) (position_by (c ∷ h)) (head_of_call c)) _ (all_65 _ _ r (head_of_call c) (head_in c))
       (all_append Fits (map (timing_point (route_by (c ∷ h)) (position_by (c ∷ h))) (changes_by h c)) _
       (all_62 _ _ r (changes_by h c) (changes_in_lem h c))
-      (all_append Fits (own_by h c) _ (all_61 _ _ r _ content_in)
+      (all_append Fits (own_by h c) _ (all_append Fits _ _ (all_61 _ _ r _ content_in) (all_64 _ _ r _ rows_in_event))
       (all_68 _ _ r (status_due (status_by h) (status_by (c ∷ h))) _ _ (code-most (state_by (c ∷ h))) (conditions_zeros _ _ _ _))))
 
   pub refused_fit : (n : ℕ) → All Fits (packets_refused_by h c n)

@@ -16,7 +16,8 @@ use Rattle.engine_value.specs.Engine.{max_segments}
 use Rattle.engine_value.specs.declared.Point.{Point}
 use Rattle.event.specs.Event.{Event}
 use Rattle.packets.specs.Packets.{joined}
-use Rattle.event.specs.Kinds.{Content, kind, kinds, kind_of, Role, off, load, report, other, skip}
+use Rattle.adhesion.specs.Constraints.{reversed}
+use Rattle.event.specs.Kinds.{Content, kind, kinds, kind_of, rows_of, Role, off, load, report, other, skip}
 use Rattle.event.specs.Events.{event_rows, event_with, content_among, event_of_kind, event_of}
 use Rattle.fields.specs.Parse.{Parse, read, whole}
 use Rattle.fields.specs.Parse.Parse.{bad, good}
@@ -88,16 +89,17 @@ content_refuses (x ∷ es) n k e = go (eqb n (kind x).number) (content_refuses e
     go true h q = cc
     go false h q = h k q
 
-event_refuses : (l : List ℕ) → Refuses (1 ∷ 1 ∷ 1 ∷ 2 ∷ []) (event_of l)
+event_refuses : (l : List ℕ) → Refuses (1 ∷ 1 ∷ 1 ∷ 2 ∷ 21 ∷ []) (event_of l)
 unfolding event_of event_of_kind event_with event_rows
 event_refuses l =
-    then-refuses (1 ∷ []) (1 ∷ 1 ∷ 2 ∷ []) (row 1 (eqb (length l) 0)) _ (row_refuses 1 (eqb (length l) 0))
-    (λ u. then-refuses (1 ∷ []) (1 ∷ 2 ∷ []) (content_among kinds (get_or l 0 0)) _ (content_refuses kinds (get_or l 0 0)) (λ c. fields c))
+    then-refuses (1 ∷ []) (1 ∷ 1 ∷ 2 ∷ 21 ∷ []) (row 1 (eqb (length l) 0)) _ (row_refuses 1 (eqb (length l) 0))
+    (λ u. then-refuses (1 ∷ []) (1 ∷ 2 ∷ 21 ∷ []) (content_among kinds (get_or l 0 0)) _ (content_refuses kinds (get_or l 0 0)) (λ c. fields c))
   where
-    fields : (c : Content) → Refuses (1 ∷ 2 ∷ []) (event_with c l)
+    fields : (c : Content) → Refuses (1 ∷ 2 ∷ 21 ∷ []) (event_with c l)
     fields c =
-        then-refuses (1 ∷ []) (2 ∷ []) (row 1 (not (eqb (length l) (1 + body_size c.body (body_at c.body 1 l))))) _ (row_refuses 1 _)
-        (λ u. then-refuses (2 ∷ []) [] (row 2 (not (body_fits c.body (body_at c.body 1 l)))) _ (row_refuses 2 _) (λ v. never (c.event (body_at c.body 1 l))))
+        then-refuses (1 ∷ []) (2 ∷ 21 ∷ []) (row 1 (not (eqb (length l) (1 + body_size c.body (body_at c.body 1 l))))) _ (row_refuses 1 _)
+        (λ u. then-refuses (2 ∷ []) (21 ∷ []) (row 2 (not (body_fits c.body (body_at c.body 1 l)))) _ (row_refuses 2 _)
+        (λ v. then-refuses (21 ∷ []) [] (row 21 (any reversed (rows_of (c.event (body_at c.body 1 l))))) _ (row_refuses 21 _) (λ w. never (c.event (body_at c.body 1 l)))))
 
 power_refuses : (s : State) (k : ℕ) → Refuses (3 ∷ 4 ∷ 5 ∷ []) (power_rows s k)
 unfolding power_rows
@@ -193,10 +195,10 @@ module _ (h : History) (c : Call) where
       in_right n (7 ∷ 8 ∷ 9 ∷ 10 ∷ 11 ∷ 12 ∷ 13 ∷ []) (14 ∷ 15 ∷ []) (skip_refuses h (stop_named (route_by h) t) on n e)
 
   -- of any event but a load
-  pub table_refuses : (role_of_call c ≡ load → ⊥) → Refuses (1 ∷ 1 ∷ 1 ∷ 2 ∷ 3 ∷ 4 ∷ 5 ∷ 6 ∷ 20 ∷ 13 ∷ 14 ∷ 15 ∷ 16 ∷ []) (table_by h c)
+  pub table_refuses : (role_of_call c ≡ load → ⊥) → Refuses (1 ∷ 1 ∷ 1 ∷ 2 ∷ 21 ∷ 3 ∷ 4 ∷ 5 ∷ 6 ∷ 20 ∷ 13 ∷ 14 ∷ 15 ∷ 16 ∷ []) (table_by h c)
   unfolding table_by kind_rows
   table_refuses no_load =
-      then-refuses (1 ∷ 1 ∷ 1 ∷ 2 ∷ []) (3 ∷ 4 ∷ 5 ∷ 6 ∷ 20 ∷ 13 ∷ 14 ∷ 15 ∷ 16 ∷ []) (event_of c.event) _ (event_refuses c.event) (λ e.
+      then-refuses (1 ∷ 1 ∷ 1 ∷ 2 ∷ 21 ∷ []) (3 ∷ 4 ∷ 5 ∷ 6 ∷ 20 ∷ 13 ∷ 14 ∷ 15 ∷ 16 ∷ []) (event_of c.event) _ (event_refuses c.event) (λ e.
       then-refuses (3 ∷ 4 ∷ 5 ∷ []) (6 ∷ 20 ∷ 13 ∷ 14 ∷ 15 ∷ 16 ∷ []) (power_rows (state_by h) (kind_of e)) _ (power_refuses (state_by h) (kind_of e)) (λ u.
       then-refuses (6 ∷ []) (20 ∷ 13 ∷ 14 ∷ 15 ∷ 16 ∷ []) (state_row (state_by h) (kind_of e)) _ (state_refuses (state_by h) (kind_of e)) (λ v.
       then-refuses (20 ∷ []) (13 ∷ 14 ∷ 15 ∷ 16 ∷ []) (hold_row (held_stop_by h) (kind_of e)) _ (held_refuses (held_stop_by h) (kind_of e)) (λ k.
@@ -213,7 +215,7 @@ module _ (h : History) (c : Call) where
   pub twenty : table_by h c ≡ refuse 20 → Twenty
   unfolding table_by kind_rows
   twenty e =
-      let (v, e₁, f₁) = gone_on_lem (1 ∷ 1 ∷ 1 ∷ 2 ∷ []) (event_of c.event) _ (event_refuses c.event) refl e in
+      let (v, e₁, f₁) = gone_on_lem (1 ∷ 1 ∷ 1 ∷ 2 ∷ 21 ∷ []) (event_of c.event) _ (event_refuses c.event) refl e in
       let (u, e₂, f₂) = gone_on_lem (3 ∷ 4 ∷ 5 ∷ []) (power_rows (state_by h) (kind_of v)) _ (power_refuses (state_by h) (kind_of v)) refl f₁ in
       let (w, e₃, f₃) = gone_on_lem (6 ∷ []) (state_row (state_by h) (kind_of v)) _ (state_refuses (state_by h) (kind_of v)) refl f₂ in
       record { event = v; is_event = e₁; allowed = e₃; row_20 = at_hold (hold_row (held_stop_by h) (kind_of v)) f₃ }

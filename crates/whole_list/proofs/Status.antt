@@ -16,14 +16,12 @@ use Rattle.state_codes.proofs.CodeLaws.{code-most, state_code}
 use Rattle.state_codes.specs.declared.State.TheVariants.{NP}
 use Rattle.call_values.specs.Call.{Call}
 use Rattle.call_values.specs.Packets.{Status, ato_status, status_due}
-use Rattle.whole_list.specs.Values.{History, event_of_call, position_by, route_by}
+use Rattle.whole_list.specs.Values.{History, position_by, route_by}
 use Rattle.whole_list.specs.Rules.{conditions_by, state_by, machine_by}
-use Rattle.traction.specs.Requests.{written_content}
-use Rattle.whole_list.specs.Requests.{traction_by}
 use Rattle.whole_list.specs.Table.{head_of_call, changes_by, own_by, status_by, packets_by}
 use Rattle.whole_list.specs.Recorded.{newest}
 use Rattle.whole_list.specs.WholeList.{bytes_of_each, StatusPacket}
-use Rattle.whole_list.proofs.Recorded.{newest_61, newest_is, status_tells}
+use Rattle.whole_list.proofs.Recorded.{own-are, newest_is, status_tells}
 use Rattle.whole_list.proofs.Decoded.{ranged}
 
 -- ---- when one is due
@@ -56,7 +54,7 @@ packet-tells h = status_tells (route_by h) (position_by h) (code (state_by h)) (
 module _ (o : Option (List ℕ)) (h : History) (c : Call) where
   pub newest_by : newest o (bytes_of_each (packets_by h c)) ≡ (if status_due (status_by h) (status_by (c ∷ h)) then Some (status_packet (c ∷ h)) else o)
   unfolding packets_by newest
-  newest_by = newest_is (route_by (c ∷ h)) (position_by (c ∷ h)) o (head_of_call c) (changes_by h c) (own_by h c) (status_by h) (status_by (c ∷ h)) (λ o. newest_61 _ _ o (written_content (state_by h) (event_of_call c) (traction_by h) (traction_by (c ∷ h))))
+  newest_by = newest_is (route_by (c ∷ h)) (position_by (c ∷ h)) o (head_of_call c) (changes_by h c) (own_by h c) (status_by h) (status_by (c ∷ h)) (own-are h c)
 
 -- the last packet 68 names the state and the conditions of a history
 pub record Names (o : Option (List ℕ)) (h : History) : Type 0 where

@@ -1,7 +1,7 @@
 -- A call at the engine of a history goes by the table and the packets of the rules.
 use mathlib.Core.Path.{◌≡◌, refl, ◌∙◌, ap, subst}
 use mathlib.Core.Bool.{Bool}
-use mathlib.Core.List.{List, ◌∷◌}
+use mathlib.Core.List.{List, ◌∷◌, ◌++◌}
 use Rattle.std.specs.Prelude.{Option}
 use lib.Dec.{ltb}
 use lib.ListN.{length}
@@ -23,7 +23,8 @@ use Rattle.traction.specs.View.{remembered_in}
 use Rattle.traction.proofs.Laws.{told_again}
 use Rattle.hold.specs.Hold.{held_stop_in, hold_row}
 use Rattle.call.specs.Packets.{own_packets}
-use Rattle.call_values.specs.Packets.{traction_brakes, packets_of}
+use Rattle.event.specs.Kinds.{carried}
+use Rattle.call_values.specs.Packets.{traction_brakes, adhesion_systems, packets_of}
 use Rattle.call.specs.Effect.{Effect, effect}
 use Rattle.call_values.specs.Call.{Call}
 use Rattle.call.specs.Call.{Step, status_in, step_to, step_by, judge, judged}
@@ -50,7 +51,8 @@ status_is h = λ i. record { state = code (state_by h); conditions = conditions-
 
 own_is : (h : History) (c : Call) → own_packets (engine_of h) (event_of_call c) (engine_of (c ∷ h)) ≡ own_by h c
 own_is h c =
-    let packet : Option Requested → List Packet = traction_brakes (route_by (c ∷ h)) (position_by (c ∷ h)) in
+    let slippery = adhesion_systems (route_by (c ∷ h)) (position_by (c ∷ h)) (carried (event_of_call c)).constraints in
+    let packet : Option Requested → List Packet = λ o. traction_brakes (route_by (c ∷ h)) (position_by (c ∷ h)) o ++ slippery in
     ap (λ (s : State). packet (written_content s (event_of_call c) (remembered_in (engine_of h).traction) (remembered_in (engine_of (c ∷ h)).traction))) (state_code (state_by h))
     ∙ ap (λ (m : Option Remembered). packet (written_content (state_by h) (event_of_call c) m (remembered_in (engine_of (c ∷ h)).traction))) (told_again (traction_by h))
     ∙ ap (λ (m : Option Remembered). packet (written_content (state_by h) (event_of_call c) (traction_by h) m)) (told_again (traction_by (c ∷ h)))

@@ -19,7 +19,6 @@ use Rattle.event.specs.Kinds.{kind_of, Role, off, load, report, other, skip}
 use Rattle.event.specs.Events.{event_of}
 use Rattle.status_word.specs.declared.OperationalConditions.{OperationalConditions}
 use Rattle.packets.specs.Packets.{packet_bytes, joined}
-use Rattle.packets.specs.declared.Requested.{Requested}
 use Rattle.packets.specs.declared.JpReceived.{JpReceived}
 use Rattle.packets.specs.Packet.{Packet}
 use Rattle.journey.specs.declared.Head.{Head}
@@ -27,20 +26,18 @@ use Rattle.timing.specs.Changes.{when}
 use Rattle.state_codes.specs.Numbers.{power_rows, state_row}
 use Rattle.hold.specs.Hold.{hold_row}
 use Rattle.route.specs.Route.{LoadValue, load_of}
-use Rattle.traction.specs.Requests.{written_content}
-use Rattle.call_values.specs.Packets.{PointChange, timing_point, jp_received, traction_brake, traction_brakes, ato_status, status_due, received, packets_of, jp_turned_down, packets_refused}
+use Rattle.call_values.specs.Packets.{PointChange, timing_point, jp_received, ato_status, status_due, received, packets_of, jp_turned_down, packets_refused}
 use Rattle.call_values.specs.Call.{Call}
 use Rattle.call.specs.Call.{Outcome, step_of}
-use Rattle.whole_list.specs.Values.{History, event_of_call, load_of_call, role_of_call, position_by, route_by}
+use Rattle.whole_list.specs.Values.{History, load_of_call, role_of_call, position_by, route_by}
 use Rattle.whole_list.specs.Rules.{state_by}
-use Rattle.whole_list.specs.Requests.{traction_by}
 use Rattle.whole_list.specs.Table.{held_stop_by, changes_by, head_of, head_of_call, status_by, own_by, packets_by, kind_rows, table_by, packets_refused_by, packets_if, written_by}
 use Rattle.whole_list.specs.Calls.{engine_after, history_of}
 use Rattle.whole_list.specs.Recorded.{packets_after, newest, In}
 use Rattle.whole_list.specs.WholeList.{bytes_of_each}
 use Rattle.whole_list.specs.TurnedDown.{TurnedDown, Has65, EachReceived}
 use Rattle.whole_list.proofs.Requests.{in_left, in-append}
-use Rattle.whole_list.proofs.Recorded.{newest_refused}
+use Rattle.whole_list.proofs.Recorded.{own-in, own-are, newest_refused}
 use Rattle.whole_list.proofs.Readable.{written_fit, written_as, read_as}
 use Rattle.whole_list.proofs.Engaged.{then_accepts}
 use Rattle.whole_list.proofs.RowNumbers.{none_of, load_rows, rows_as, table_refuses}
@@ -49,7 +46,7 @@ use Rattle.whole_list.proofs.WholeList.{judged_next}
 module _ (h : History) (c : Call) where
   -- an event that is no load is refused by no number from 7 to 12
   otherwise : (role_of_call c ≡ load → ⊥) → (n : ℕ) → table_by h c ≡ refuse n → turns_down n ≡ false
-  otherwise no_load n e = none_of turns_down (1 ∷ 1 ∷ 1 ∷ 2 ∷ 3 ∷ 4 ∷ 5 ∷ 6 ∷ 20 ∷ 13 ∷ 14 ∷ 15 ∷ 16 ∷ []) refl n (table_refuses h c no_load n e)
+  otherwise no_load n e = none_of turns_down (1 ∷ 1 ∷ 1 ∷ 2 ∷ 21 ∷ 3 ∷ 4 ∷ 5 ∷ 6 ∷ 20 ∷ 13 ∷ 14 ∷ 15 ∷ 16 ∷ []) refl n (table_refuses h c no_load n e)
 
   -- ---- profiles are turned down
 
@@ -102,12 +99,6 @@ module _ (j : Route) (x : Position) (p : JpReceived) where
   not_62 (c ∷ l) (inl e) = cc
   not_62 (c ∷ l) (inr i) = not_62 l i
 
-  not_61 : (o : Option Requested) → In (Packet.JpReceived p) (traction_brakes j x o) → ⊥
-  unfolding traction_brake
-  not_61 None i = i
-  not_61 (Some r) (inl e) = cc
-  not_61 (Some r) (inr i) = i
-
   not_68 : (due : Bool) (s : ℕ) (n : OperationalConditions) → In (Packet.JpReceived p) (when due (ato_status j x s n)) → ⊥
   unfolding ato_status
   not_68 true s n (inl e) = cc
@@ -149,7 +140,7 @@ module _ (h : History) (c : Call) (p : JpReceived) where
       last = when (status_due (status_by h) (status_by (c ∷ h))) (ato_status j x (status_by (c ∷ h)).state (status_by (c ∷ h)).conditions)
 
       third : In q (own_by h c) ⊎ In q last → ⊥
-      third (inl i) = not_61 j x p (written_content (state_by h) (event_of_call c) (traction_by h) (traction_by (c ∷ h))) i
+      third (inl i) = own-in q (own_by h c) (own-are h c) i
       third (inr i) = not_68 j x p (status_due (status_by h) (status_by (c ∷ h))) _ _ i
 
       second : In q points ⊎ In q (own_by h c ++ last) → ⊥

@@ -32,8 +32,10 @@ use Rattle.whole_list.specs.Requests.{requests_since, after_requests, traction_b
 use Rattle.whole_list.proofs.Requests.{traction_exactly}
 use Rattle.whole_list.specs.Table.{packets_by, accepted_by, table_by, packets_refused_by, packets_if, written_by, answer_if, answer_by}
 use Rattle.whole_list.specs.Calls.{play, engine_after, trace, with_accepted, accepted_in, history_of, later_answer, last_answer, keep, accepted_calls}
-use Rattle.whole_list.specs.Recorded.{packets_after, newest, last_status}
-use Rattle.whole_list.specs.WholeList.{EngagedExactly, PointsStand, bytes_of_each, StatusPacket, StatusWritten, RequestWrites, Has61, JudgedByTable, WholeList, NothingAhead, NoTrace, RequestExactly}
+use Rattle.whole_list.specs.Recorded.{packets_after, rows_told, newest, last_status}
+use Rattle.whole_list.specs.Slippery.{SlipperyTold}
+use Rattle.whole_list.proofs.Slippery.{shows-rows, slippery_stands, slippery_rows}
+use Rattle.whole_list.specs.WholeList.{EngagedExactly, PointsStand, bytes_of_each, StatusPacket, StatusWritten, RequestWrites, Has, Slippery, JudgedByTable, WholeList, NothingAhead, NoTrace, RequestExactly}
 use Rattle.whole_list.proofs.Decoded.{zones-booked}
 use Rattle.whole_list.proofs.Fields.{skips_of, progress_run, engine_of, stands_at}
 use Rattle.whole_list.proofs.FieldsControl.{conditions-in}
@@ -110,7 +112,8 @@ module _ (h : History) (c : Call) where
     as_long = memory_length (engine_of h) c;
     packets = written_is;
     read_back = ap (map packet_of) written_is ∙ read_back (written_by h c) (written_fit h c);
-    traction = λ e. subst (λ (l : List (List ℕ)). Has61 l ↔ RequestWrites h c) (sym (written_is ∙ ap (λ t. bytes_of_each (packets_if h c t)) e)) (traction_exactly h c);
+    traction = λ e. subst (λ (l : List (List ℕ)). Has 61 l ↔ RequestWrites h c) (sym (written_is ∙ ap (λ t. bytes_of_each (packets_if h c t)) e)) (traction_exactly h c);
+    slippery = subst (λ (l : List (List ℕ)). Has 64 l ↔ ((table_by h c ≡ accept tt) × Slippery c)) (sym written_is) (slippery_stands h c);
   }
 
 -- ---- a list of calls
@@ -253,6 +256,7 @@ whole_list calls =
       traction = ap (λ x. x.traction) k.seen;
       as_ruled = record { stands = stands_exactly (history_of calls); became = saw (history_of calls); held = held_exactly (history_of calls); zones = zones-booked (history_of calls) };
       shown = rw k.seen (shown_by (history_of calls));
+      slippery = rw k.seen (shows-rows (history_of calls));
     }
 
 -- of a call that is made next
@@ -260,6 +264,10 @@ pub judged_next : (earlier : List Call) (c : Call) → JudgedByTable (engine_aft
 judged_next earlier c = claim_judged _ _ c (kept earlier).seen
 
 -- ---- corollaries
+
+-- each accepted kind 15, and nothing else, writes a packet 64, with its rows
+pub each-slippery : (earlier : List Call) (c : Call) → SlipperyTold earlier c
+each-slippery earlier c = ap rows_told (judged_next earlier c).packets ∙ slippery_rows (history_of earlier) c
 
 -- refused calls leave no trace
 left : (e : Engine) (c : Call) (n bytes : ℕ) → (step_of e c).answer ≡ refused n bytes → (step_of e c).engine ≡ e

@@ -1,5 +1,5 @@
 -- The claim is not empty: lists of calls, refused ones among them: one that ends in EG, one that ends in DE, one that creeps, one whose profiles are turned
--- down, one that is held, one with traction requests.
+-- down, one that is held, one with traction requests, one with rows of slippery rail.
 use Rattle.std.specs.Prelude.{◌≡◌, true, false, List, [], ◌∷◌, ◌++◌, map, ℕ, length, take, drop, replicate, set, Some, None, is_some}
 use Rattle.status_word.specs.View.{conditions_number}
 use Rattle.engine_value.specs.Engine.{fresh}
@@ -8,16 +8,18 @@ use Rattle.position.specs.declared.Standing.{Standing}
 use Rattle.position.specs.declared.Standing.TheVariants.{Unused, Targeted, Reached, Passed}
 use Rattle.state_codes.specs.Codes.{code}
 use Rattle.call_values.specs.Call.{Call, Answer, refused}
+use Rattle.adhesion.specs.Anchors.{north, south, north_bytes, south_bytes}
 use Rattle.call.specs.Trials.{answered, plain, power_on, configured, loads, reports, at, press, mode, plainly, trial_book, trial_journey, trial_load}
 use Rattle.event.specs.declared.TractionRequest.{TractionRequest}
 use Rattle.traction.specs.Requests.{remembered}
 use Rattle.whole_list.specs.Requests.{requests_since, traction_by}
+use Rattle.whole_list.specs.Values.{constraints_by}
 use Rattle.whole_list.specs.Rules.{standing_by, conditions_by, state_by, request_by}
 use Rattle.whole_list.specs.Table.{held_stop_by}
 use Rattle.whole_list.specs.Calls.{engine_after, Done, trace, history_of, last_answer}
 use Rattle.trackside.specs.Trackside.{Foretold, foretell}
 use Rattle.whole_list.specs.Trackside.{journey_of_call, journey_by, foretold_from, skips_told}
-use Rattle.whole_list.specs.Recorded.{recorded_by, last_status}
+use Rattle.whole_list.specs.Recorded.{recorded_by, last_status, rows_told}
 
 -- the journey of document 01's trials: a stop at 7001, where a press in CO is refused
 abbrev pub stopped : List Call
@@ -88,6 +90,16 @@ pulling = stopped ++ (reports 31 ∷ configured ∷ request 20 7 ∷ press ∷ m
 abbrev pub entered : List Call
 entered = pulling ++ (mode 0 ∷ press ∷ mode 1 ∷ [])
 
+-- two rows told; one refused, its start behind its end; none told; two again, and power off
+abbrev pub telling : ℕ → List ℕ → Call
+telling count rows = plain (0x0F ∷ count ∷ rows)
+
+abbrev pub reversed_row : List ℕ
+reversed_row = replicate 11 0 ++ (1 ∷ replicate 4 0)
+
+abbrev pub slippery : List Call
+slippery = power_on ∷ telling 2 (north_bytes ++ south_bytes) ∷ telling 1 reversed_row ∷ telling 0 [] ∷ telling 2 (south_bytes ++ north_bytes) ∷ plain (0x03 ∷ []) ∷ []
+
 abbrev pub answers_of : List Call → List Answer
 answers_of calls = map (λ (d : Done). d.answer) (trace fresh calls)
 
@@ -156,3 +168,10 @@ pub record Example : Type 0 where
   pub ranged : traction_by (history_of pulling) ≡ Some (remembered 2 6)
   pub remembers : (engine_after pulling).traction ≡ record { remembered = true; range = 2; suptb = 6; spare = 0 }
   pub none_left : map traction_by (history_of stopped ∷ history_of driven ∷ history_of entered ∷ []) ≡ None ∷ None ∷ None ∷ []
+  -- 64 with the rows of each that is accepted; by the rules those of the latest, and none after power off
+  pub answers_slippery : answers_of slippery
+      ≡ answered 1 false 19 ∷ answered 1 false 50 ∷ refused 21 0 ∷ answered 1 false 18 ∷ answered 1 false 50 ∷ answered 0 false 19 ∷ []
+  pub told_slippery : map (λ (d : Done). rows_told (recorded_by d)) (trace fresh slippery)
+      ≡ [] ∷ ((north ∷ south ∷ []) ∷ []) ∷ [] ∷ ([] ∷ []) ∷ ((south ∷ north ∷ []) ∷ []) ∷ [] ∷ []
+  pub in_force : map (λ n. constraints_by (history_of (take n slippery))) (1 ∷ 2 ∷ 3 ∷ 4 ∷ 5 ∷ 6 ∷ [])
+      ≡ [] ∷ (north ∷ south ∷ []) ∷ (north ∷ south ∷ []) ∷ [] ∷ (south ∷ north ∷ []) ∷ [] ∷ []

@@ -10,4 +10,5 @@ pub mod Creeping
 pub mod TurnedDown
 pub mod Held
 pub mod Trackside
+pub mod Slippery
 pub mod Example

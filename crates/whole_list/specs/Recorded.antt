@@ -5,6 +5,7 @@ use Rattle.wire.specs.Judged.{Judged}
 use Rattle.wire.specs.Judged.Judged.{refuse, accept}
 use Rattle.packets.specs.Packets.{packet_of, cut_packets}
 use Rattle.packets.specs.declared.TimingPoint.{TimingPoint}
+use Rattle.adhesion.specs.declared.TemporaryConstraint.{TemporaryConstraint}
 use Rattle.packets.specs.Packet.{Packet}
 use Rattle.call_values.specs.Call.{Answer, bytes_written}
 use Rattle.whole_list.specs.Calls.{Done}
@@ -26,9 +27,22 @@ timing_point_in (accept (Packet.TimingPoint p)) = Some p
 timing_point_in (accept (Packet.JpReceived p)) = None
 timing_point_in (accept (Packet.AtoStatus p)) = None
 timing_point_in (accept (Packet.TractionBrake p)) = None
+timing_point_in (accept (Packet.AdhesionSystem h rows)) = None
 
 unfoldable pub timing_points : List (List ℕ) → List TimingPoint
 timing_points l = filter_map (λ packet. timing_point_in (packet_of packet)) l
+
+-- the rows of each packet 64 of a list, as the packet reader gives them
+abbrev pub rows_in : Judged Packet → Option (List TemporaryConstraint)
+rows_in (refuse n) = None
+rows_in (accept (Packet.TimingPoint p)) = None
+rows_in (accept (Packet.JpReceived p)) = None
+rows_in (accept (Packet.AtoStatus p)) = None
+rows_in (accept (Packet.TractionBrake p)) = None
+rows_in (accept (Packet.AdhesionSystem h rows)) = Some rows
+
+unfoldable pub rows_told : List (List ℕ) → List (List TemporaryConstraint)
+rows_told l = filter_map (λ packet. rows_in (packet_of packet)) l
 
 -- the last packet 68 of a list, else the one before it
 unfoldable pub newest : Option (List ℕ) → List (List ℕ) → Option (List ℕ)

@@ -5,7 +5,7 @@ use Rattle.wire.specs.Judged.Judged.{refuse, accept}
 use Rattle.engine_value.specs.Engine.{Route}
 use Rattle.engine_value.specs.declared.Point.{Point}
 use Rattle.event.specs.Events.{event_of}
-use Rattle.event.specs.Kinds.{kind_of, off, load, report, other, skip}
+use Rattle.event.specs.Kinds.{kind_of, carried, off, load, report, other, skip}
 use Rattle.journey.specs.declared.Head.{Head}
 use Rattle.route.specs.Route.{LoadValue, load_of}
 use Rattle.packets.specs.Packets.{joined}
@@ -21,7 +21,7 @@ use Rattle.hold.specs.Hold.{held_stop, hold_row, hold_ended}
 use Rattle.trackside.specs.Trackside.{each_told}
 use Rattle.conditions.specs.Conditions.{end_ahead}
 use Rattle.state_codes.specs.Numbers.{power_rows, state_row}
-use Rattle.call_values.specs.Packets.{PointChange, point_change, hold_revoked, Status, traction_brakes, packets_of, packets_refused}
+use Rattle.call_values.specs.Packets.{PointChange, point_change, hold_revoked, Status, traction_brakes, adhesion_systems, packets_of, packets_refused}
 use Rattle.call_values.specs.Rows.{offset_beyond, same_bool}
 use Rattle.call_values.specs.Call.{Call, Answer, refused, accepted}
 use Rattle.call_values.specs.declared.Accepted.{Accepted}
@@ -108,9 +108,11 @@ head_of_call c = elim (role_of_call c) [ off ↦ None | load ↦ head_of (load_o
 abbrev pub status_by : History → Status
 status_by h = record { state = code (state_by h); conditions = conditions_by h; speed = (position_by h).speed }
 
--- the packets that one kind of event alone writes: packet 61 of a traction request
+-- the packets that one kind of event alone writes: packet 61 of a traction request; 02, Q-7: "Each accepted such event, and nothing else, writes packet 64 with its rows"
 abbrev pub own_by : History → Call → List Packet
-own_by h c = traction_brakes (route_by (c ∷ h)) (position_by (c ∷ h)) (written_content (state_by h) (event_of_call c) (traction_by h) (traction_by (c ∷ h)))
+own_by h c =
+    traction_brakes (route_by (c ∷ h)) (position_by (c ∷ h)) (written_content (state_by h) (event_of_call c) (traction_by h) (traction_by (c ∷ h)))
+    ++ adhesion_systems (route_by (c ∷ h)) (position_by (c ∷ h)) (carried (event_of_call c)).constraints
 
 unfoldable pub packets_by : History → Call → List Packet
 packets_by h c = packets_of (route_by (c ∷ h)) (position_by (c ∷ h)) (head_of_call c) (changes_by h c) (own_by h c) (status_by h) (status_by (c ∷ h))

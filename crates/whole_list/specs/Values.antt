@@ -4,6 +4,7 @@ use Rattle.std.specs.Prelude.{Bool, false, List, [], ◌∷◌, ◌++◌, ℕ, e
 use Rattle.wire.specs.Judged.Judged.{refuse, accept}
 use Rattle.engine_value.specs.Engine.{Value, mode, lever, reports, train_length, Route, no_route, fresh_position}
 use Rattle.engine_value.specs.declared.Position.{Position}
+use Rattle.adhesion.specs.declared.TemporaryConstraint.{TemporaryConstraint}
 use Rattle.event.specs.Events.{event_of}
 use Rattle.event.specs.Event.{Event}
 use Rattle.event.specs.Event.Event.{PowerOn}
@@ -51,6 +52,10 @@ position_by = latest (λ c. c.position) fresh_position
 
 abbrev pub length_by : History → ℕ
 length_by = number_by train_length
+
+-- 02, Q-7: "the rows of the latest one since power off, else none"
+abbrev pub constraints_by : History → List TemporaryConstraint
+constraints_by = latest (λ c. c.constraints) []
 
 -- "so does the load in force"
 abbrev pub route_loaded : Option LoadValue → Route → Route

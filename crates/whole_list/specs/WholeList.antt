@@ -1,11 +1,13 @@
 -- THE CLAIM (demand 3): one statement over every list of calls, refused ones included, on one fresh engine. It assumes nothing.
 use Rattle.std.specs.Prelude.{◌≡◌, ◌≢◌, ◌↔◌, ◌⊎◌, true, List, [], ◌∷◌, ◌++◌, map, ℕ, ◌≤◌, ◌<◌, length, drop, get_or, Option, Some, None, is_some}
 use Rattle.wire.specs.Judged.Judged.{refuse, accept}
-use Rattle.engine_value.specs.Engine.{route_in, fresh, max_points}
+use Rattle.adhesion.specs.Constraints.{blank_constraint}
+use Rattle.adhesion.specs.declared.TemporaryConstraint.{TemporaryConstraint}
+use Rattle.engine_value.specs.Engine.{route_in, fresh, max_points, adhesion_of}
 use Rattle.engine_value.specs.declared.Position.{Position}
 use Rattle.engine_value.specs.declared.Engine.{Engine}
 use Rattle.event.specs.declared.TractionRequest.{TractionRequest}
-use Rattle.event.specs.Event.Event.{PositionReport, Traction}
+use Rattle.event.specs.Event.Event.{PositionReport, Traction, Adhesion}
 use Rattle.status_word.specs.View.{conditions_number}
 use Rattle.packets.specs.Packets.{packet_of, packet_bytes, joined}
 use Rattle.status_word.specs.declared.OperationalConditions.{OperationalConditions}
@@ -26,9 +28,10 @@ use Rattle.traction.specs.View.{traction_of}
 use Rattle.call_values.specs.Call.{Call, refused, accepted, bytes_written}
 use Rattle.call_values.specs.declared.Accepted.{Accepted}
 use Rattle.call.specs.Call.{Outcome, step_of, conditions_in}
+use Rattle.call.specs.Shown.{constraint_in}
 use Rattle.call.specs.View.{shown_view}
 use Rattle.call.specs.declared.Shown.{Shown}
-use Rattle.whole_list.specs.Values.{History, event_of_call, route_by, report_at}
+use Rattle.whole_list.specs.Values.{History, event_of_call, constraints_by, route_by, report_at}
 use Rattle.whole_list.specs.Rules.{StandsBy, standing_by, conditions_by, values_by, JustReached, became_reached_by, AtHeldStop, state_by, request_by, upto, Engaged}
 use Rattle.whole_list.specs.Requests.{traction_by}
 use Rattle.whole_list.specs.Table.{held_stop_by, table_by, written_by, answer_by}
@@ -71,9 +74,14 @@ pub record RequestWrites (h : History) (c : Call) : Type 0 where
   pub in_state_lem : (state_by h ≡ EG) ⊎ (state_by h ≡ DE)
   pub changed : (traction_by h ≡ None) ⊎ (traction_by (c ∷ h) ≢ traction_by h)
 
--- a packet 61 is among them
-abbrev pub Has61 : List (List ℕ) → Type 0
-Has61 l = (packet : List ℕ) × In packet l × (number_in packet ≡ 61)
+-- a packet of that number is among them
+abbrev pub Has : ℕ → List (List ℕ) → Type 0
+Has n l = (packet : List ℕ) × In packet l × (number_in packet ≡ n)
+
+-- 02, Q-7: the call c is a kind 15
+pub record Slippery (c : Call) : Type 0 where
+  pub rows : List TemporaryConstraint
+  pub is_adhesion : event_of_call c ≡ Adhesion rows
 
 -- 4. a call c at the engine e, after the history h, gives r
 pub record JudgedByTable (e : Engine) (h : History) (c : Call) (r : Outcome) : Type 0 where
@@ -92,7 +100,9 @@ pub record JudgedByTable (e : Engine) (h : History) (c : Call) (r : Outcome) : T
   pub packets : packets_after r.answer r.memory ≡ bytes_of_each (written_by h c)
   pub read_back : map packet_of (packets_after r.answer r.memory) ≡ map accept (written_by h c)
   -- a packet 61 stands among them exactly when the call is a request that changes range or Q_ATO_SupTB, or is the first
-  pub traction : table_by h c ≡ accept tt → Has61 (packets_after r.answer r.memory) ↔ RequestWrites h c
+  pub traction : table_by h c ≡ accept tt → Has 61 (packets_after r.answer r.memory) ↔ RequestWrites h c
+  -- 02, Q-7: a packet 64 stands among them exactly for an accepted kind 15
+  pub slippery : Has 64 (packets_after r.answer r.memory) ↔ ((table_by h c ≡ accept tt) × Slippery c)
 
 -- 5. what is computed of a history, and what the rules say of it word by word, are the same
 pub record AsRuled (h : History) : Type 0 where
@@ -116,6 +126,12 @@ pub record ShownBy (s : Shown) (h : History) : Type 0 where
   pub each : (k : ℕ) → k < point_count (route_by h) → get_or s.standings k 0 ≡ standing_code (standing_by h k)
   pub no_point : (k : ℕ) → point_count (route_by h) ≤ k → get_or s.standings k 0 ≡ 0
 
+-- 7. 02, Q-7: "the engine shows the rows of the latest one since power off, else none": how many, and row k; blank from the count on
+pub record ShowsRows (e : Engine) (rows : List TemporaryConstraint) : Type 0 where
+  pub group : e.adhesion ≡ adhesion_of rows
+  pub count : (shown_view e).constraint_count ≡ length rows
+  pub each : (k : ℕ) → constraint_in e k ≡ get_or rows k blank_constraint
+
 pub record WholeList (calls : List Call) : Type 0 where
   pub engaged : EngagedExactly (engine_after calls) (history_of calls) (last_answer None (trace fresh calls))
   pub points : PointsStand (engine_after calls) (history_of calls)
@@ -127,6 +143,7 @@ pub record WholeList (calls : List Call) : Type 0 where
   pub traction : (engine_after calls).traction ≡ traction_of (traction_by (history_of calls))
   pub as_ruled : AsRuled (history_of calls)
   pub shown : ShownBy (shown_view (engine_after calls)) (history_of calls)
+  pub slippery : ShowsRows (engine_after calls) (constraints_by (history_of calls))
 
 -- ---- corollaries
 

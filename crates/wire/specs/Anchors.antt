@@ -81,15 +81,15 @@ pub record Rows : Type 0 where
   pub judged : map (λ (p : Judged ℕ). then_judge {B = ℕ} p refuse) (refuse 9 ∷ accept 3 ∷ []) ≡ refuse 9 ∷ refuse 3 ∷ []
   -- "For an answer that is an enum, a definition gives this paper's number"
   pub verdicts : map (view {A = Unit {0}}) (Ok tt ∷ Err Refusal.Order ∷ []) ≡ accept tt ∷ refuse 12 ∷ []
-  -- "Numbers by place of checking", each number from 1 to 19 once and in order; 02, Q-5: 20
+  -- "Numbers by place of checking", each number from 1 to 19 once and in order; 02, Q-5: 20; Q-7: 21
   pub all : map number_of (
       Refusal.EventForm ∷ Refusal.EventRange ∷ Refusal.NoPower ∷ Refusal.Powered ∷ Refusal.Fault ∷ Refusal.State ∷ Refusal.BookForm ∷ Refusal.BookTwice
       ∷ Refusal.JourneyForm ∷ Refusal.SegmentTwice ∷ Refusal.Points ∷ Refusal.Order ∷ Refusal.Beyond ∷ Refusal.NoStop ∷ Refusal.Skip ∷ Refusal.Output
-      ∷ Refusal.PacketLength ∷ Refusal.PacketNumber ∷ Refusal.PacketRange ∷ Refusal.Held ∷ []
-      ) ≡ 1 ∷ 2 ∷ 3 ∷ 4 ∷ 5 ∷ 6 ∷ 7 ∷ 8 ∷ 9 ∷ 10 ∷ 11 ∷ 12 ∷ 13 ∷ 14 ∷ 15 ∷ 16 ∷ 17 ∷ 18 ∷ 19 ∷ 20 ∷ []
-  -- 02, Q-4: "refused by 7 to 12", of 1 to 20
-  pub profiles : map turns_down (1 ∷ 2 ∷ 3 ∷ 4 ∷ 5 ∷ 6 ∷ 7 ∷ 8 ∷ 9 ∷ 10 ∷ 11 ∷ 12 ∷ 13 ∷ 14 ∷ 15 ∷ 16 ∷ 17 ∷ 18 ∷ 19 ∷ 20 ∷ [])
-      ≡ false ∷ false ∷ false ∷ false ∷ false ∷ false ∷ true ∷ true ∷ true ∷ true ∷ true ∷ true ∷ false ∷ false ∷ false ∷ false ∷ false ∷ false ∷ false ∷ false ∷ []
+      ∷ Refusal.PacketLength ∷ Refusal.PacketNumber ∷ Refusal.PacketRange ∷ Refusal.Held ∷ Refusal.Reversed ∷ []
+      ) ≡ 1 ∷ 2 ∷ 3 ∷ 4 ∷ 5 ∷ 6 ∷ 7 ∷ 8 ∷ 9 ∷ 10 ∷ 11 ∷ 12 ∷ 13 ∷ 14 ∷ 15 ∷ 16 ∷ 17 ∷ 18 ∷ 19 ∷ 20 ∷ 21 ∷ []
+  -- 02, Q-4: "refused by 7 to 12", of 1 to 21
+  pub profiles : map turns_down (1 ∷ 2 ∷ 3 ∷ 4 ∷ 5 ∷ 6 ∷ 7 ∷ 8 ∷ 9 ∷ 10 ∷ 11 ∷ 12 ∷ 13 ∷ 14 ∷ 15 ∷ 16 ∷ 17 ∷ 18 ∷ 19 ∷ 20 ∷ 21 ∷ [])
+      ≡ false ∷ false ∷ false ∷ false ∷ false ∷ false ∷ true ∷ true ∷ true ∷ true ∷ true ∷ true ∷ false ∷ false ∷ false ∷ false ∷ false ∷ false ∷ false ∷ false ∷ false ∷ []
 
 pub record Anchors : Type 0 where
   pub numbers : Numbers

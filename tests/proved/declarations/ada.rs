@@ -38,7 +38,7 @@ fn arrays(declared: &Declared, text: &str) -> BTreeMap<String, (Type, Option<u64
     arrays.collect()
 }
 
-/// One field a line: `Standings : Standing_Array;`
+/// One field a line: `Standings : Standing_Array;`. Words of Ada have `The_` before them.
 fn read_structs(declared: &mut Declared, text: &str) {
     let arrays = arrays(declared, text);
     for part in text.split("end record").filter_map(|part| part.rsplit_once("type ")) {
@@ -47,7 +47,7 @@ fn read_structs(declared: &mut Declared, text: &str) {
             let Some((field, rest)) = line.trim_end_matches(';').split_once(" : ") else { continue };
             let typed = rest.split(" := ").next().unwrap_or_default();
             let (typed, count) = arrays.get(typed).cloned().unwrap_or((type_of(typed), None));
-            declared.add_field(&camel(name), field, typed, count);
+            declared.add_field(&camel(name), field.strip_prefix("The_").unwrap_or(field), typed, count);
         }
     }
 }

@@ -46,6 +46,17 @@ impl Declared {
         }
     }
 
+    /// With a struct by another name.
+    pub fn renamed(mut self, from: &str, to: &str) -> Declared {
+        if let Some(fields) = self.structs.remove(from) {
+            self.structs.insert(to.into(), fields);
+        }
+        let fields = self.structs.values_mut().flatten().map(|field| &mut field.typed);
+        let types = fields.chain(self.calls.values_mut().flatten());
+        types.filter(|typed| *typed == from).for_each(|typed| *typed = to.into());
+        self
+    }
+
     /// A constant joins those before it, which its value may name; one whose value cannot be told does not.
     fn add_constant(&mut self, name: &str, value: &str) {
         if let Some(value) = self.value(value) {

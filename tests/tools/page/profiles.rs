@@ -31,11 +31,10 @@ struct Layout<'a> {
 }
 
 fn field_of<'a>(row: &Row<'a>) -> Checked<Field<'a>> {
-    let (bit, each) = match row.text("Bit")?.split_once(' ') {
-        Some((bit, "each")) => (bit, true),
-        _ => (row.text("Bit")?, false),
-    };
-    let Some(bit) = number_of(bit).filter(|bit| *bit < 8) else { return wrong(row.line, "no bit of a map") };
+    let (bit, each) = row.each("Bit")?;
+    if bit > 7 {
+        return wrong(row.line, "no bit of a map");
+    }
     let width = if row.text("Width")?.is_empty() { None } else { Some(row.width()?) };
     let ends = if row.text("Range")?.is_empty() { None } else { Some(row.ends("Range")?) };
     if width.is_some_and(|width| width > 0) != ends.is_some() {

@@ -2,6 +2,7 @@
 
 use crate::engines::play;
 use crate::text::{hex_bytes, number_of, same, wrong, BlockLine, Checked, Page};
+use model::adhesion::Constraint;
 use model::calls::Call;
 use model::engine::EG;
 use model::values::{read_book, Journey};
@@ -15,6 +16,7 @@ struct Step<'a> {
     answer: Option<(usize, &'a str)>,
     packets: Vec<(usize, Vec<u8>)>,
     shows: Option<(usize, &'a str)>,
+    rows: Vec<(usize, &'a str)>,
 }
 
 fn read_steps<'a>(lines: &'a [BlockLine<'a>]) -> Checked<Vec<Step<'a>>> {
@@ -24,7 +26,7 @@ fn read_steps<'a>(lines: &'a [BlockLine<'a>]) -> Checked<Vec<Step<'a>>> {
         let (word, rest) = block_line.split();
         if word == "event" {
             let call = Call::of(hex_bytes(line, rest)?);
-            steps.push(Step { line, call, answer: None, packets: Vec::new(), shows: None });
+            steps.push(Step { line, call, answer: None, packets: Vec::new(), shows: None, rows: Vec::new() });
             continue;
         }
         let Some(step) = steps.last_mut() else { return wrong(line, "no event before this line") };
@@ -34,6 +36,7 @@ fn read_steps<'a>(lines: &'a [BlockLine<'a>]) -> Checked<Vec<Step<'a>>> {
             "answer" => step.answer = Some((line, rest)),
             "packet" => step.packets.push((line, hex_bytes(line, rest)?)),
             "shows" => step.shows = Some((line, rest)),
+            "row" => step.rows.push((line, rest)),
             _ => return wrong(line, format!("'{word}' is no word of a session")),
         }
     }
@@ -44,6 +47,27 @@ fn shown(pair: &Pair) -> String {
     let now = &pair.model.now;
     let standings: String = pair.model.standings().map(|standing| format!(" {}", standing as u8)).collect();
     format!("{} {} {:03X}{standings}", now.state, u8::from(now.request), now.conditions)
+}
+
+/// The rows of slippery rail that are shown, `none` where there are none.
+fn shown_rows(pair: &Pair) -> Vec<String> {
+    let row = |row: &Constraint| {
+        let Constraint { nidc, nidsp, category, range, start, end } = row;
+        format!("{nidc} {nidsp} {category} {range} {start} {end}")
+    };
+    match &pair.model.constraints[..] {
+        [] => vec!["none".into()],
+        rows => rows.iter().map(row).collect(),
+    }
+}
+
+/// Each line of rows is a row that is shown, and there are as many.
+fn check_rows(pair: &Pair, lines: &[(usize, &str)]) -> Checked<()> {
+    let shown = shown_rows(pair);
+    for (k, (line, expected)) in lines.iter().enumerate() {
+        same(*line, "row", *expected, shown.get(k).map_or("", |row| row))?;
+    }
+    lines.last().map_or(Ok(()), |(line, _)| same(*line, "rows", lines.len(), shown.len()))
 }
 
 fn play_step(pair: &mut Pair, step: &Step) -> Checked<()> {
@@ -57,6 +81,7 @@ fn play_step(pair: &mut Pair, step: &Step) -> Checked<()> {
     if packets.len() > step.packets.len() {
         return wrong(line, format!("the page lacks the packet {}", hex(&packets[step.packets.len()])));
     }
+    check_rows(pair, &step.rows)?;
     step.shows.map_or(Ok(()), |(line, expected)| same(line, "shows", expected, &shown(pair)))
 }
 

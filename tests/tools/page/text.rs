@@ -40,6 +40,13 @@ pub struct Row<'a> {
     cells: Vec<(&'a str, &'a str)>,
 }
 
+/// Bytes of a layout, and of each row that it counts: 0 where it counts none.
+#[derive(Clone, Copy)]
+pub struct Size {
+    pub fixed: usize,
+    pub row: usize,
+}
+
 /// A line of a block, and the comment behind it.
 pub struct BlockLine<'a> {
     pub line: usize,
@@ -110,6 +117,12 @@ impl Page {
     }
 }
 
+impl Size {
+    pub fn with(&self, rows: usize) -> usize {
+        self.fixed + self.row * rows
+    }
+}
+
 impl<'a> Row<'a> {
     pub fn text(&self, column: &str) -> Checked<&'a str> {
         let cell = self.cells.iter().find(|(name, _)| *name == column);
@@ -126,6 +139,26 @@ impl<'a> Row<'a> {
         match self.number(column)? {
             number if !(0..=most).contains(&number) => wrong(self.line, format!("{column} {number} is too much")),
             number => Ok(number as usize),
+        }
+    }
+
+    /// A number with nothing behind it or `each`, for what stands in every row of a layout.
+    pub fn each(&self, column: &str) -> Checked<(usize, bool)> {
+        let text = self.text(column)?;
+        let (number, each) = text.strip_suffix(" each").map_or((text, false), |number| (number, true));
+        match number_of(number).map(usize::try_from) {
+            Some(Ok(number)) => Ok((number, each)),
+            _ => wrong(self.line, format!("{column} '{text}' is no number")),
+        }
+    }
+
+    /// A cell such as 25, or 18 + 16 × count.
+    pub fn size(&self, column: &str) -> Checked<Size> {
+        let text = self.text(column)?;
+        let (fixed, row) = text.strip_suffix(" × count").and_then(|text| text.split_once(" + ")).unwrap_or((text, "0"));
+        match (fixed.parse(), row.parse()) {
+            (Ok(fixed), Ok(row)) => Ok(Size { fixed, row }),
+            _ => wrong(self.line, format!("{column} '{text}' is no size")),
         }
     }
 

@@ -13,8 +13,9 @@ use std::collections::BTreeSet;
 
 /// The most characters of a line.
 const LINE: usize = 120;
-/// The highest number, and its place in the table is behind 6.
+/// Their places in the table are behind 6 and behind 2.
 const HELD: u8 = 20;
+const REVERSED: u8 = 21;
 const STANDINGS: [&str; 4] = ["not used", "targeted", "reached", "passed"];
 /// With no journey.
 const NO_CONDITION: u16 = 0x080;
@@ -243,9 +244,10 @@ fn check_loads(page: &Page) -> Checked<()> {
     Ok(())
 }
 
-/// The numbers of the places, put together, count up from 1, with the last one behind 6; so do those that are explained.
+/// The numbers of the places, put together, count up from 1, with the last two in places of their own; those that are
+/// explained count up to the last.
 fn check_numbers(page: &Page) -> Checked<()> {
-    let mut in_order = (1..=6).chain([HELD]).chain(7..HELD);
+    let mut in_order = [1, 2, REVERSED].into_iter().chain(3..=6).chain([HELD]).chain(7..HELD);
     for row in page.table("10. Numbers", "Place")? {
         for number in row.text("Numbers")?.split(' ') {
             let next = in_order.next().unwrap_or(0);
@@ -255,7 +257,7 @@ fn check_numbers(page: &Page) -> Checked<()> {
         }
     }
     same(1, "numbers not in the table", in_order.count(), 0)?;
-    same(1, "numbers", count_items(page, "## 10. Numbers", "- **")?, HELD.into())
+    same(1, "numbers", count_items(page, "## 10. Numbers", "- **")?, REVERSED.into())
 }
 
 /// Items that begin so count up from 1 without a gap; how many there are.

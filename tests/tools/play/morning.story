@@ -1,4 +1,4 @@
-42 events. Below each, the unit's answer and the packets that it writes for the recorder.
+44 events. Below each, the unit's answer and the packets that it writes for the recorder.
 Distances are in cm, speeds in cm/s; AD is the ETCS mode automatic driving.
 
 line 37: power on
@@ -174,56 +174,64 @@ line 95: position Depot 95000 speed 2500
         62 Bridge passed: NID_C 17, NID_TP 7002, Q_EOJ_REACHED 1 (End of Journey ahead), alignment front, stopping data 0
         [NID_C 17 NID_SP 500 offset 95000 speed 2500 NID_OPERATIONAL 00012345]
 
-line 98: position Valley 61000 speed 2500
+line 99: slippery on Valley from 20000 to 48000 category 1 on Valley from 125000 to 149000 category 2
+    EG, AD requested; slippery rail: 2 rows in place of none; targeted: Mill
+    400011000001F40001731809C400012345020011000001F5010000004E200000BB800011000001F502000001E84800024608
+        64 slippery rail: 2 rows
+        row 1: NID_C 17, NID_SP 501, category 1, range 0, start 20000, end 48000
+        row 2: NID_C 17, NID_SP 501, category 2, range 0, start 125000, end 149000
+        [NID_C 17 NID_SP 500 offset 95000 speed 2500 NID_OPERATIONAL 00012345]
+
+line 102: position Valley 61000 speed 2500
     EG, AD requested; passed: Mill; targeted: Tunnel
     3E0011000001F50000EE4809C400012345001100001B5B0300
         62 Mill passed: NID_C 17, NID_TP 7003, Q_EOJ_REACHED 1 (End of Journey ahead), alignment middle, stopping data 0
         [NID_C 17 NID_SP 501 offset 61000 speed 2500 NID_OPERATIONAL 00012345]
 
-line 101: position Valley 100500 speed 2500
+line 105: position Valley 100500 speed 2500
     DE (disengaging), AD requested; targeted: Tunnel
         DE: the driver may take over by the lever at brake or by leaving AD
     440011000001F50001889409C40001234517F6
         68 state DE: lacking: 7 outside zones
         [NID_C 17 NID_SP 501 offset 100500 speed 2500 NID_OPERATIONAL 00012345]
 
-line 102: lever brake
+line 106: lever brake
     NA, AD not requested; targeted: Tunnel
     440011000001F50001889409C40001234517F2
         68 state NA: lacking: 7 outside zones
         [NID_C 17 NID_SP 501 offset 100500 speed 2500 NID_OPERATIONAL 00012345]
 
-line 103: position Valley 110000 speed 1000
+line 107: position Valley 110000 speed 1000
     AV, AD not requested; targeted: Tunnel
     440011000001F50001ADB003E8000123451FF3
         68 state AV: all nine conditions
         [NID_C 17 NID_SP 501 offset 110000 speed 1000 NID_OPERATIONAL 00012345]
 
-line 104: mode other
+line 108: mode other
     AV, AD not requested; targeted: Tunnel
 
-line 105: lever neutral
+line 109: lever neutral
     RE, AD requested; targeted: Tunnel
     440011000001F50001ADB003E8000123451FF4
         68 state RE: all nine conditions
         [NID_C 17 NID_SP 501 offset 110000 speed 1000 NID_OPERATIONAL 00012345]
 
-line 106: engage
+line 110: engage
     RE, AD requested; targeted: Tunnel
 
-line 107: mode AD
+line 111: mode AD
     EG, AD requested; targeted: Tunnel
     440011000001F50001ADB003E8000123451FF5
         68 state EG: all nine conditions
         [NID_C 17 NID_SP 501 offset 110000 speed 1000 NID_OPERATIONAL 00012345]
 
-line 110: skip Chapel
+line 114: skip Chapel
     EG, AD requested; targeted: Tunnel
     3E0011000001F50001ADB003E800012345001100001B5D2900
         62 Chapel skipped by the driver: NID_C 17, NID_TP 7005, Q_EOJ_REACHED 1 (End of Journey ahead), alignment front, stopping data 0
         [NID_C 17 NID_SP 501 offset 110000 speed 1000 NID_OPERATIONAL 00012345]
 
-line 111: position Valley 160000 speed 2500
+line 115: position Valley 160000 speed 2500
     EG, AD requested; passed: Tunnel, Chapel; targeted: Quay
     3E0011000001F50002710009C400012345001100001B5C0100
         62 Tunnel passed: NID_C 17, NID_TP 7004, Q_EOJ_REACHED 1 (End of Journey ahead), alignment front, stopping data 0
@@ -232,10 +240,16 @@ line 111: position Valley 160000 speed 2500
         62 Chapel passed: NID_C 17, NID_TP 7005, Q_EOJ_REACHED 1 (End of Journey ahead), alignment front, stopping data 0
         [NID_C 17 NID_SP 501 offset 160000 speed 2500 NID_OPERATIONAL 00012345]
 
-line 114: position Harbour 60000 speed 1200
+line 118: slippery none
+    EG, AD requested; slippery rail: none in place of 2 rows; targeted: Quay
+    400011000001F50002710009C40001234500
+        64 slippery rail: 0 rows
+        [NID_C 17 NID_SP 501 offset 160000 speed 2500 NID_OPERATIONAL 00012345]
+
+line 121: position Harbour 60000 speed 1200
     EG, AD requested; targeted: Quay
 
-line 115: position Harbour 90000 speed 0
+line 122: position Harbour 90000 speed 0
     NA, AD not requested; reached: Quay
     3E0011000001F600015F90000000012345001100001B5E0C0C
         62 Quay stopped: NID_C 17, NID_TP 7006, Q_EOJ_REACHED 0 (End of Journey reached or passed), alignment rear, stopping data 12
@@ -244,14 +258,14 @@ line 115: position Harbour 90000 speed 0
         68 state NA: lacking: 2 End of Journey not reached
         [NID_C 17 NID_SP 502 offset 90000 speed 0 NID_OPERATIONAL 00012345]
 
-line 116: mode other
+line 123: mode other
     NA, AD not requested; reached: Quay
 
-line 117: power off
+line 124: power off
     NP (no power), AD not requested
         NP: the driver may drive by hand; the unit takes no part
     4400000000000000FFFFFF0000FFFFFFFF0800
         68 state NP: lacking: 0 ETCS conditions, 1 no emergency brake, 2 End of Journey not reached, 3 last point not passed, 4 profiles to the target, 5 no inconsistency, 6 located in the journey, 8 data valid
         [NID_C 0 NID_SP 0 offset undefined speed 0 NID_OPERATIONAL FFFFFFFF]
 
-40 events accepted, 2 refused; the independent model answers the same
+42 events accepted, 2 refused; the independent model answers the same

@@ -11,3 +11,6 @@ returns-in-AtoStatus c = rw c.in-AtoStatus.is c.get_ato_status.ensures
 
 pub returns-in-TractionBrake : goal.returns-in-TractionBrake
 returns-in-TractionBrake c = rw c.in-TractionBrake.is c.get_traction_brake.ensures
+
+pub returns-in-AdhesionSystem : goal.returns-in-AdhesionSystem
+returns-in-AdhesionSystem c = rw c.in-AdhesionSystem.is c.get_adhesion_system.ensures

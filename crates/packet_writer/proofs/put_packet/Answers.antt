@@ -1,4 +1,5 @@
 use Rattle.packets.specs.View.{packet_values}
+use Rattle.adhesion.specs.View.{constraints_view}
 use Rattle.packets.specs.Packet.{Packet}
 use Rattle.packet_writer.proofs.WriterLaws.{behind-header}
 use Rattle.packet_writer.proofs.put_packet.Goals as goal
@@ -14,6 +15,11 @@ returns-in-JpReceived c =
 pub returns-in-AtoStatus : goal.returns-in-AtoStatus
 returns-in-AtoStatus c =
     rw (c.put_ato_status.ensures, c.put_header.ensures, c.kind.ensures, c.header.ensures, c.in-AtoStatus.is) (behind-header (packet_values (Packet.AtoStatus c.in-AtoStatus.x)) c.args.out.now)
+
+pub returns-in-AdhesionSystem : goal.returns-in-AdhesionSystem
+returns-in-AdhesionSystem c =
+    let x = c.in-AdhesionSystem.x in
+    rw (c.put.ensures, c.put_header.ensures, c.kind.ensures, c.header.ensures, c.in-AdhesionSystem.is) (behind-header (packet_values (Packet.AdhesionSystem x.header (constraints_view x.constraints))) c.args.out.now)
 
 pub returns-in-TractionBrake : goal.returns-in-TractionBrake
 returns-in-TractionBrake c =

@@ -1,5 +1,5 @@
 use Prim.Native.Nat.{◌%◌}
-use mathlib.Core.Path.{◌≡◌}
+use mathlib.Core.Path.{◌≡◌, refl}
 use native.Mathlib.Omega.{arith}
 use Rattle.status_word.specs.View.{conditions_number}
 use Rattle.status_word.proofs.ConditionLaws.{number-most}
@@ -12,3 +12,6 @@ returns-in-AtoStatus c fits =
     let most = number-most p.conditions (fits_zeros p (rw c.in-AtoStatus.is at fits)) in
     let number : conditions_number p.conditions % 65536 ≡ conditions_number p.conditions = omega arith in
     rw (c.begun-begun.ensures, c.number.ensures, number, c.in-AtoStatus.is)
+
+pub returns-in-AdhesionSystem : goal.returns-in-AdhesionSystem
+returns-in-AdhesionSystem c fits = rw (c.begun-begun.ensures, c.count.ensures, c.in-AdhesionSystem.is) refl

@@ -1,0 +1,4 @@
+-- Rows of slippery rail: kind 15 and packet 64.
+pub mod Constraints
+pub mod View
+pub mod Anchors
