@@ -199,7 +199,10 @@ package Hollwern is
    end record with Convention => C_Pass_By_Copy, Object_Size => 8 * 70;
 
    --  A row of kind 15 and packet 64, a temporary constraint: a stretch of slippery rail. In the bytes the fields stand
-   --  in another order: NID_C, NID_SP, category, range, start, end. Words of Ada have The_ before them.
+   --  in another order: NID_C, NID_SP, category, range, start, end. Words of Ada have The_ before them. NID_C is 0 to
+   --  1,023. Start and end are in cm, counted as SUBSET-126 says (7.3.6.2), each 0 to 16,777,215, start not above end;
+   --  the unit compares them with each other alone. Category and range are SUBSET-140's Q_Adhesion_Category and
+   --  Q_Range, both free.
    type Constraint is record
       Nidsp : Unsigned_32;
       Start : Unsigned_32;

@@ -23,7 +23,7 @@
  *   use each from a thread of its own. Calls that take `const` pointers only may share what they are lent.
  * - Every call ends, and needs nothing but memcpy and memset.
  * - Equal calls on equal engines leave equal bytes: no byte of an engine is padding, memcmp and checksums are sound.
- *   Answer, shown and packet fields do have padding: compare them field by field. */
+ *   Answer and packet fields do have padding: compare them field by field. */
 #ifndef HOLLWERN_H
 #define HOLLWERN_H
 
@@ -192,9 +192,9 @@
 #define HOLLWERN_REFUSED_OUTPUT 16         /* `out` shorter than the event's packets */
 #define HOLLWERN_REFUSED_PACKET_LENGTH 17  /* empty, or 61, 62, 64, 65 or 68 of wrong length */
 #define HOLLWERN_REFUSED_PACKET_NUMBER 18  /* another number than 61, 62, 64, 65 and 68 */
-#define HOLLWERN_REFUSED_PACKET_RANGE 19   /* field of the packet out of its range */
+#define HOLLWERN_REFUSED_PACKET_RANGE 19   /* field of the packet out of its range, or a reversed row */
 #define HOLLWERN_REFUSED_HELD 20           /* press while a held stop is reached */
-#define HOLLWERN_REFUSED_REVERSED 21       /* a row whose start exceeds its end */
+#define HOLLWERN_REFUSED_REVERSED 21       /* a row of the event whose start exceeds its end */
 
 /* An engine. Only the calls below look inside. */
 typedef struct hollwern_engine {
@@ -226,7 +226,9 @@ typedef struct hollwern_shown {
 } hollwern_shown;
 
 /* A row of kind 15 and packet 64, a temporary constraint: a stretch of slippery rail. In the bytes the fields stand in
- * another order: NID_C, NID_SP, category, range, start, end. */
+ * another order: NID_C, NID_SP, category, range, start, end. NID_C is 0 to 1,023. Start and end are in cm, counted as
+ * SUBSET-126 says (7.3.6.2), each 0 to 16,777,215, start not above end; the unit compares them with each other alone.
+ * Category and range are SUBSET-140's Q_Adhesion_Category and Q_Range, both free. */
 typedef struct hollwern_constraint {
     uint32_t nidsp;
     uint32_t start;

@@ -205,7 +205,9 @@ pub struct Shown {
 }
 
 /// A row of kind 15 and packet 64, a temporary constraint: a stretch of slippery rail. In the bytes the fields stand in
-/// another order: NID_C, NID_SP, category, range, start, end.
+/// another order: NID_C, NID_SP, category, range, start, end. NID_C is 0 to 1,023. Start and end are in cm, counted as
+/// SUBSET-126 says (7.3.6.2), each 0 to 16,777,215, start not above end; the unit compares them with each other alone.
+/// Category and range are SUBSET-140's Q_Adhesion_Category and Q_Range, both free.
 #[repr(C)]
 #[derive(Clone, Copy, PartialEq, Eq, Debug, Default)]
 pub struct Constraint {

@@ -370,7 +370,8 @@ pub(crate) fn zeros(number: u8, count: usize) -> Vec<u8> {
     bytes
 }
 
-/// 17: empty, or for 61, 62, 65, 68 not 22, 25, 29, 19 bytes. 18: another number, whatever the length.
+/// 17: empty, or for 61, 62, 65, 68 not 22, 25, 29, 19 bytes, for 64 not 18 and 16 a row, whose trials stand in
+/// `adhesion_trials`. 18: another number, whatever the length.
 fn lengths_and_numbers() -> Vec<PacketTrial> {
     let sized = |name, number, count, expected| read(name, zeros(number, count), Some(expected));
     vec![

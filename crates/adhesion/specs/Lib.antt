@@ -1,4 +1,5 @@
 -- Rows of slippery rail: kind 15 and packet 64.
 pub mod Constraints
+pub mod Ranges
 pub mod View
 pub mod Anchors

@@ -421,17 +421,19 @@ pub record Anchors : Type 0 where
   pub slippery : map (λ (v : Event). does (slippery_in 2 one_group) v >>= judge (slippery_in 2 one_group) v (replicate 50 0)) (Adhesion icy ∷ Adhesion [] ∷ [])
       ≡ accept (record { engine = slippery_in 2 icy_group; packets = packet64 (header 15000 7 0x12345678) icy ∷ [] })
       ∷ accept (record { engine = slippery_in 2 no_adhesion; packets = packet64 (header 15000 7 0x12345678) [] ∷ [] }) ∷ []
-  -- "and nothing else": no other event writes one; "since power off, else none": none but it and power off alters the rows
+  -- "the rows of the latest one since power off, else none": other events leave them, a load too; power off and another kind 15 do not
   pub rows_kept : map (λ (v : Event). shows_after (slippery_in 2 icy_group) v)
       (Fault ∷ Reports 0 ∷ Mode 0 ∷ Lever 0 ∷ PositionReport (at 5 6) ∷ Length 9 ∷ Skip 7005 ∷ Request (request 5 6) ∷ []) ≡ replicate 8 (accept icy_group)
   pub rows_loaded : (settled (slippery_in 2 icy_group) Load (slippery_in 2 icy_group) (control 2 false true)).adhesion ≡ icy_group
   pub rows_off : map (shows_after (slippery_in 2 icy_group)) (PowerOff ∷ Adhesion (row_from 300 ∷ []) ∷ []) ≡ accept no_adhesion ∷ accept one_group ∷ []
+  -- "and nothing else": a request and a train length write none
   pub none_written : writes (slippery_in 2 icy_group) (Request (request 5 6)) ∷ writes (slippery_in 2 icy_group) (Length 400) ∷ [] ≡ accept [] ∷ accept [] ∷ []
   -- 64 before 68: in AV without all nine conditions the rows lead to NA
-  pub rows_order : writes (slippery_in 3 no_adhesion) (Adhesion icy) ≡ accept (packet64 (header 15000 7 0x12345678) icy ∷ packet68 (header 15000 7 0x12345678) 2 252 ∷ [])
+  pub slippery_order : writes (slippery_in 3 no_adhesion) (Adhesion icy) ≡ accept (packet64 (header 15000 7 0x12345678) icy ∷ packet68 (header 15000 7 0x12345678) 2 252 ∷ [])
   -- a packet 64 of one row has 34 bytes
   pub row_16_slippery : map (λ (n : ℕ). refusal (judged (slippery_in 2 icy_group) (call (15 ∷ 1 ∷ row_bytes 100) n))) (0 ∷ 33 ∷ 34 ∷ []) ≡ 16 ∷ 16 ∷ 0 ∷ []
-  -- "21 .. checked after 2 and before 3": in NP and FA, a reversed row (start 90,000 and end 255), a count too much, an event that is right
+  -- "21 .. checked after 2 and before 3": in NP, FA and NA: a reversed row (start 90,000 and end 255), a byte too much, an event that is
+  -- right, but for the memory of no byte
   pub row_21_order : map (λ (s : ℕ). refusals s ((15 ∷ 1 ∷ reversed_bytes) ∷ (15 ∷ 0 ∷ 0 ∷ []) ∷ (15 ∷ 0 ∷ []) ∷ [])) (0 ∷ 7 ∷ 2 ∷ [])
       ≡ (21 ∷ 1 ∷ 3 ∷ []) ∷ (21 ∷ 1 ∷ 5 ∷ []) ∷ (21 ∷ 1 ∷ 16 ∷ []) ∷ []
   -- what is shown: how many rows, and row k; blank beyond them, also where an engine counts more than its array holds

@@ -18,7 +18,7 @@ use Rattle.engine_value.specs.declared.Position.{Position}
 use Rattle.packets.specs.declared.Requested.{Requested}
 use Rattle.wire.specs.Lists.{any}
 use Rattle.adhesion.specs.Constraints.{reversed}
-use Rattle.event.specs.Kinds.{Content, kind, kinds, kind_of, rows_of}
+use Rattle.event.specs.Kinds.{Content, kind, kinds, kind_of, event_constraints}
 use Rattle.event.specs.Events.{event_rows, event_with, content_among, event_of_kind, event_of}
 use Rattle.event.specs.declared.TractionRequest.{TractionRequest}
 use Rattle.event.specs.Event.{Event}
@@ -29,7 +29,7 @@ Fits e = let c = (kind e).content in (v : BodyValues c.body) × (body_fits c.bod
 
 -- none of its rows is reversed
 abbrev pub Straight : Event → Type 0
-Straight e = any reversed (rows_of e) ≡ false
+Straight e = any reversed (event_constraints e) ≡ false
 
 pub record PositionFits (p : Position) : Type 0 where
   pub nidc : p.nidc ≤ max_nidc
@@ -76,7 +76,7 @@ content-fits x f =
 -- ---- every kind
 
 -- a content gives events of the kind n, with their fields in their ranges
-abbrev Gives : ℕ → Content → Type 0
+abbrev pub Gives : ℕ → Content → Type 0
 Gives n c = (v : BodyValues c.body) → body_fits c.body v ≡ true → Fits (c.event v) × (kind_of (c.event v) ≡ n)
 
 gives : (e : Event) → Gives (kind e).number (kind e).content
@@ -96,7 +96,7 @@ gives (Event.Revoke t) v h = ((v, h, refl), refl)
 gives (Event.Traction x) v h = ((v, h, refl), refl)
 gives (Event.Adhesion rs) v h = ((v, h, refl), refl)
 
-among-gives : (es : List Event) (n : ℕ) (c : Content) → content_among es n ≡ accept c → Gives n c
+pub among-gives : (es : List Event) (n : ℕ) (c : Content) → content_among es n ≡ accept c → Gives n c
 unfolding content_among
 among-gives [] n c q = let z : ◌≡◌ {A = ℕ} 0 1 = cc in absurd (omega arith)
 among-gives (e ∷ es) n c q = go (eqb n (kind e).number) refl q (among-gives es n c)
@@ -117,12 +117,12 @@ module _ (c : Content) (l : List ℕ) (e : Event) where
 
   with_inv : event_with c l ≡ accept e → (body_fits c.body (body_at c.body 1 l) ≡ true) × (made ≡ e) × Straight made
   unfolding event_with event_rows
-  with_inv q = go (eqb (length l) (1 + body_size c.body (body_at c.body 1 l))) (body_fits c.body (body_at c.body 1 l)) refl (any reversed (rows_of made)) refl q
+  with_inv q = go (eqb (length l) (1 + body_size c.body (body_at c.body 1 l))) (body_fits c.body (body_at c.body 1 l)) refl (any reversed (event_constraints made)) refl q
     where
       same : accept made ≡ accept e → made ≡ e
       same p = cc
 
-      go : (a b : Bool) → body_fits c.body (body_at c.body 1 l) ≡ b → (d : Bool) → any reversed (rows_of made) ≡ d
+      go : (a b : Bool) → body_fits c.body (body_at c.body 1 l) ≡ b → (d : Bool) → any reversed (event_constraints made) ≡ d
           → then_judge (row 1 (not a)) (λ t. then_judge (row 2 (not b)) (λ u. then_judge (row 21 d) (λ w. accept made))) ≡ accept e
           → (body_fits c.body (body_at c.body 1 l) ≡ true) × (made ≡ e) × Straight made
       go true true f false r q = (f, same q, r)

@@ -35,12 +35,12 @@ row_fits v t =
     let (nidc, (nidsp, (category, (range, _)))) = v in
     rw (le-leb nidsp 4294967295 (omega (arith, t.1.0)), le-leb category 255 (omega (arith, t.1.1.0)), le-leb range 255 (omega (arith, t.1.1.1.0))) refl
 
-rows_fit : (vs : List (Values row_layout)) → All (Typed row_layout) vs → every (fits (to_highest row_layout)) vs ≡ every (fits row_layout) vs
-rows_fit [] t = refl
-rows_fit (v ∷ vs) t = rw (row_fits v t.0, rows_fit vs t.1)
+pub values_fit : (vs : List (Values row_layout)) → All (Typed row_layout) vs → every (fits (to_highest row_layout)) vs ≡ every (fits row_layout) vs
+values_fit [] t = refl
+values_fit (v ∷ vs) t = rw (row_fits v t.0, values_fit vs t.1)
 
 pub same_fit : (s : List ℕ) → Bytes s → body_fits event_body (body_at constraints_body 1 s) ≡ body_fits constraints_body (body_at constraints_body 1 s)
-same_fit s b = rw (rows_fit (body_at constraints_body 1 s) (body_typed constraints_body 1 s b))
+same_fit s b = rw (values_fit (body_at constraints_body 1 s) (body_typed constraints_body 1 s b))
 
 -- ---- an accepted event's rows
 

@@ -2,3 +2,4 @@ pub mod Anchors
 pub mod Known
 pub mod Accepted
 pub mod Adhesion
+pub mod Sentences

@@ -8,7 +8,7 @@ use Rattle.engine_value.specs.Engine.{mode, lever, reports, train_length}
 use Rattle.engine_value.specs.declared.Position.{Position}
 use Rattle.event.specs.Kinds.{Row, SwitchOn, Configure, SwitchOff, Fail, EngagePress, ByState}
 use Rattle.event.specs.Kinds.{Role, off, load, report, other, skip, is_off, is_load, is_report, is_skip, skip_given, skip_name, newer}
-use Rattle.event.specs.Kinds.{kind_of, row_of, role_of, carried, rows_of}
+use Rattle.event.specs.Kinds.{kind_of, row_of, role_of, carried, event_constraints}
 use Rattle.event.specs.Events.{event_of}
 use Rattle.event.specs.View.{kind_number, known_kind, role_view}
 use Rattle.adhesion.specs.Anchors.{north, south, north_bytes, south_bytes}
@@ -138,7 +138,7 @@ pub record Rows : Type 0 where
       ∷ []
       ) ≡ 0 ∷ 2 ∷ 2 ∷ 2 ∷ 0 ∷ 21 ∷ []
   -- "A count over 31 of fitting length .. gets 2", over all rows before "21 .. checked after 2"; a reversed row among others
-  pub rows_order : map number_for (
+  pub constraint_order : map number_for (
       (15 ∷ 31 ∷ flat_map (λ r. r) (replicate 31 south_bytes))
       ∷ (15 ∷ 32 ∷ flat_map (λ r. r) (replicate 32 south_bytes))
       ∷ (15 ∷ 32 ∷ flat_map (λ r. r) (replicate 32 reversed_bytes))
@@ -149,7 +149,7 @@ pub record Rows : Type 0 where
       ) ≡ 0 ∷ 2 ∷ 2 ∷ 2 ∷ 21 ∷ 21 ∷ []
   -- "A length other than 2 + 16 × count gets 1, also for a count over 31": no count; none, and a byte; one, and a byte more, a byte less, two, none; 32 and one; a
   -- reversed row with a byte too much
-  pub rows_lengths : map number_for (
+  pub constraint_lengths : map number_for (
       (15 ∷ []) ∷ (15 ∷ 0 ∷ []) ∷ (15 ∷ 0 ∷ 0 ∷ []) ∷ (15 ∷ 1 ∷ north_bytes ++ (0 ∷ [])) ∷ (15 ∷ 1 ∷ take 15 north_bytes) ∷ (15 ∷ 1 ∷ north_bytes ++ south_bytes)
       ∷ (15 ∷ 1 ∷ []) ∷ (15 ∷ 32 ∷ north_bytes) ∷ (15 ∷ 255 ∷ []) ∷ (15 ∷ 1 ∷ reversed_bytes ++ (0 ∷ [])) ∷ []
       ) ≡ 1 ∷ 0 ∷ 1 ∷ 1 ∷ 1 ∷ 1 ∷ 1 ∷ 1 ∷ 1 ∷ 1 ∷ []
@@ -198,7 +198,7 @@ pub record Roles : Type 0 where
   -- 02, Q-7: the rows in their order; none of another kind, as of a kind 15 without rows
   pub constraints : map (λ v. (carried (event_in v)).constraints) vectors
       ≡ None ∷ None ∷ None ∷ None ∷ None ∷ None ∷ None ∷ None ∷ None ∷ None ∷ None ∷ None ∷ None ∷ None ∷ Some (north ∷ south ∷ []) ∷ []
-  pub rows : map rows_of (Event.Adhesion (south ∷ north ∷ []) ∷ Event.Adhesion [] ∷ Event.Traction asked ∷ []) ≡ (south ∷ north ∷ []) ∷ [] ∷ [] ∷ []
+  pub rows : map event_constraints (Event.Adhesion (south ∷ north ∷ []) ∷ Event.Adhesion [] ∷ Event.Traction asked ∷ []) ≡ (south ∷ north ∷ []) ∷ [] ∷ [] ∷ []
   pub newest : map {B = ℕ} (λ b. newer b 5) (None ∷ Some 6 ∷ []) ≡ 5 ∷ 6 ∷ []
 
 pub record Anchors : Type 0 where

@@ -5,7 +5,7 @@ use Rattle.wire.specs.Judged.Judged.{refuse, accept}
 use Rattle.layout.specs.Body.{body_size, body_at, body_fits}
 use Rattle.wire.specs.Lists.{any}
 use Rattle.adhesion.specs.Constraints.{reversed}
-use Rattle.event.specs.Kinds.{Content, kind, kinds, rows_of}
+use Rattle.event.specs.Kinds.{Content, kind, kinds, event_constraints}
 use Rattle.event.specs.Event.{Event}
 
 -- "1 .. wrong length; 2 field out of range": the event e, if there are n bytes and its fields fit; 02, Q-7: "21, a row whose start exceeds its end, checked
@@ -14,7 +14,7 @@ unfoldable pub event_rows : ℕ → Bool → Event → List ℕ → Judged Event
 event_rows n fit e l = do
   row 1 (not (eqb (length l) n))
   row 2 (not fit)
-  row 21 (any reversed (rows_of e))
+  row 21 (any reversed (event_constraints e))
   accept e
 
 -- "One byte kind, then": its fields from the second byte on

@@ -177,5 +177,5 @@ abbrev pub carried : Event → Carried
 carried e = bringing (kind e).brings
 
 -- 02, Q-7: the rows of an event; one that brings none has none
-abbrev pub rows_of : Event → List TemporaryConstraint
-rows_of e = newer (carried e).constraints []
+abbrev pub event_constraints : Event → List TemporaryConstraint
+event_constraints e = newer (carried e).constraints []

@@ -3,3 +3,4 @@ pub mod Kinds
 pub mod Events
 pub mod View
 pub mod Anchors
+pub mod Sentences

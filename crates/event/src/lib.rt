@@ -5,7 +5,7 @@ ghost use Rattle.std.specs.Prelude.{◌≡◌};
 ghost use Rattle.wire.specs.View.{judged_by};
 ghost use Rattle.wire.specs.Lists.{any};
 ghost use Rattle.adhesion.specs.Constraints.{reversed};
-ghost use Rattle.event.specs.Kinds.{position_content, traction_content, adhesion_content, rows_of};
+ghost use Rattle.event.specs.Kinds.{position_content, traction_content, adhesion_content, event_constraints};
 ghost use Rattle.event.specs.Events.{event_rows, event_with, event_of};
 ghost use Rattle.event.specs.View.{event_view};
 
@@ -180,7 +180,7 @@ impl<'a> Event<'a> {
 
 // A row whose start exceeds its end.
 fn reversed(e: Event) -> bool
-    ensures { result ≡ any reversed (rows_of (event_view e.entry)) }
+    ensures { result ≡ any reversed (event_constraints (event_view e.entry)) }
 {
     match e {
         Event::Adhesion(c) => c.reversed(),

@@ -1,6 +1,6 @@
 -- Values that the definitions must give for the journey of position/Sample, worked out by hand from document 02, Q-5: of its five points 7003, which
 -- trackside skips, and 7004 are held; 7006 stands behind the count.
-use Rattle.std.specs.Prelude.{ℕ, ◌≡◌, [], ◌∷◌, map, Bool, true, false, Option, Some, None, option_map}
+use Rattle.std.specs.Prelude.{ℕ, ◌≡◌, [], ◌∷◌, ◌++◌, map, replicate, Bool, true, false, Option, Some, None, option_map}
 use Rattle.wire.specs.Judged.Judged.{refuse, accept}
 use Rattle.engine_value.specs.Engine.{Route, no_operational}
 use Rattle.engine_value.specs.declared.Point.{Point}
@@ -40,7 +40,8 @@ pub record Anchors : Type 0 where
   pub not_reached : held_at 3 false ∷ held_at 4 false ∷ [] ≡ None ∷ None ∷ []
   pub standings : map (λ s. name_of (held_stop (journey_to 4) (each s))) (Unused ∷ Targeted ∷ Reached ∷ Passed ∷ []) ≡ None ∷ None ∷ Some 7003 ∷ None ∷ []
   -- "20, a press at a held stop": kind 8, and no other
-  pub row_20 : map (hold_row (Some (point journey 3))) (7 ∷ 8 ∷ 9 ∷ []) ≡ accept tt ∷ refuse 20 ∷ accept tt ∷ []
+  pub row_20 : map (hold_row (Some (point journey 3))) (1 ∷ 2 ∷ 3 ∷ 4 ∷ 5 ∷ 6 ∷ 7 ∷ 8 ∷ 9 ∷ 10 ∷ 11 ∷ 12 ∷ 13 ∷ 14 ∷ 15 ∷ [])
+      ≡ replicate 7 (accept tt) ++ (refuse 20 ∷ replicate 7 (accept tt))
   pub no_held_stop : hold_row None 8 ≡ accept tt
   -- "unheld or lacks it": a stop unheld, a passing point, a held stop that is skipped, a held stop; behind the count; of no point
   pub keeps : map (keeps_hold journey) (7001 ∷ 7002 ∷ 7003 ∷ 7004 ∷ 7006 ∷ 7000 ∷ []) ≡ false ∷ false ∷ true ∷ true ∷ false ∷ false ∷ []

@@ -3,4 +3,4 @@ use mathlib.Core.Path.{refl}
 use Rattle.host.specs.Anchors.{Anchors}
 
 pub anchors : Anchors
-anchors = record { answers = refl }
+anchors = record { answers = refl; versions = refl }

@@ -42,7 +42,7 @@ pub record Anchors : Type 0 where
   pub do_not : map (fits sample) (of 301 0 0 0 0 5 0 ∷ of 0 2 0 0 0 5 0 ∷ of 0 0 3 0 0 5 0 ∷ of 0 0 0 9 0 5 0 ∷ of 0 0 0 0 0 4 0 ∷ of 0 0 0 0 0 10 0
       ∷ of 0 0 0 0 0 5 101 ∷ of 0 0 0 0 0 5 155 ∷ []) ≡ false ∷ false ∷ false ∷ false ∷ false ∷ false ∷ false ∷ false ∷ []
   pub nothing_fits : fits [] tt ≡ true
-  -- a body of fields is its layout's; one of rows has a count of one byte and that many, "NID_C, then .." each from its own position on
+  -- a body of fields is its layout's; one of rows has a count of one byte and that many rows, each from its own position on
   pub of_fields : body_bytes (fields sample) (of 300 1 2 5 0x12345678 9 0x9C) ≡ bytes sample (of 300 1 2 5 0x12345678 9 0x9C)
   pub of_rows : body_bytes (rows 3 pair) ((0x0102, (7, tt)) ∷ (300, (9, tt)) ∷ []) ≡ 2 ∷ 0x01 ∷ 0x02 ∷ 7 ∷ 0x01 ∷ 0x2C ∷ 9 ∷ []
   pub no_rows : body_bytes (rows 3 pair) [] ≡ 0 ∷ []

@@ -1,5 +1,5 @@
 -- "The packet reader returns the packet's fields": each value of a packet in the field of its name, worked out by hand from its bytes.
-use Rattle.std.specs.Prelude.{ℕ, ◌≡◌, true, false, List, [], ◌∷◌, ◌++◌, map}
+use Rattle.std.specs.Prelude.{ℕ, ◌≡◌, true, false, List, [], ◌∷◌, ◌++◌, map, take, replicate}
 use Rattle.adhesion.specs.Anchors.{north, south}
 use Rattle.packets.specs.Packet.{Packet}
 use Rattle.packets.specs.Packets.{packet_of}
@@ -45,7 +45,7 @@ pub record Anchors : Type 0 where
       ∷ []
   -- 02, Q-7: row k of a packet 64; blank from its count on, of another packet, and where the reader refuses (a byte too much)
   pub rows : map (λ k. row_view (packet_of two_rows_bytes) k) (0 ∷ 1 ∷ 2 ∷ 255 ∷ 256 ∷ []) ≡ north ∷ south ∷ blank_constraint ∷ blank_constraint ∷ blank_constraint ∷ []
-  pub no_rows : map (λ s. row_view (packet_of s) 0) (traction_brake_bytes ∷ (two_rows_bytes ++ (0 ∷ [])) ∷ [] ∷ []) ≡ blank_constraint ∷ blank_constraint ∷ blank_constraint ∷ []
+  pub no_rows : map (λ s. row_view (packet_of s) 0) (take 4 five ++ ((two_rows_bytes ++ (0 ∷ [])) ∷ [] ∷ [])) ≡ replicate 6 blank_constraint
   -- the status of a 65, as it is
   pub status : (packet_fields_view (jp_with 6)).status ≡ 6
   -- "Every refusal returns the number only"

@@ -271,7 +271,7 @@ pub record Writing : Type 0 where
   pub traction_short : map (λ m. written_count traction_brake m) (take 21 stopped_bytes ∷ take 22 stopped_bytes ∷ []) ≡ refuse 16 ∷ accept 22 ∷ []
   pub rows_short : map (λ m. written_count (adhesion_system (north ∷ [])) m) (take 33 two_rows_bytes ∷ take 34 two_rows_bytes ∷ []) ≡ refuse 16 ∷ accept 34 ∷ []
   pub rows_kept : written_memory (adhesion_system (south ∷ [])) two_rows_bytes ≡ adhesion_system_bytes 1 south_bytes ++ south_bytes
-  -- "over 31 rows": 19, with room and with none
+  -- "count (0-31)": from 32 rows on 19, before 16
   pub too_many : map (λ n. number_in (written_count (adhesion_system (replicate n north)) [])) (31 ∷ 32 ∷ 255 ∷ 256 ∷ []) ≡ 16 ∷ 19 ∷ 19 ∷ 19 ∷ []
   pub short_kept : written_memory power_on (take 18 stopped_bytes) ≡ take 18 stopped_bytes
   -- "(the writer of one packet: 19, then 16)": with room and with none

@@ -80,7 +80,7 @@ pub record Requests : Type 0 where
   pub entering : map (λ s. forgets s (Event.Mode 1) EG) states ≡ true ∷ true ∷ true ∷ true ∷ true ∷ false ∷ true ∷ true ∷ []
   pub leaving : map (forgets EG (Event.Mode 1)) states ≡ replicate 8 false
   pub elsewhere : map (forgets RE (Event.Mode 1)) states ≡ false ∷ false ∷ false ∷ false ∷ false ∷ true ∷ false ∷ false ∷ []
-  pub off : map (λ e. forgets AV e AV) kinds ≡ false ∷ false ∷ true ∷ replicate 12 false
+  pub off : map (λ s. map (λ e. forgets s e s) kinds) (AV ∷ EG ∷ []) ≡ replicate 2 (false ∷ false ∷ true ∷ replicate 12 false)
   -- kind 14 in each state: "In CO, NA, AV and RE the event is accepted and changes nothing"
   pub stored : map (λ s. remembered_after s (Event.Traction asked) s (Some (remembered 4 7))) states
       ≡ Some (remembered 4 7) ∷ Some (remembered 4 7) ∷ Some (remembered 4 7) ∷ Some (remembered 4 7) ∷ Some (remembered 4 7)

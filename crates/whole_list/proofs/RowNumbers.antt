@@ -1,7 +1,7 @@
 -- The numbers with which the rows of each place of the table refuse.
 use Rattle.std.specs.Prelude.{if◌then◌else◌, Option, Some, None}
 use mathlib.Core.Path.{◌≡◌, refl, sym, ◌∙◌, ap}
-use mathlib.Core.Logic.{inl, inr}
+use mathlib.Core.Logic.{inl, inr, ◌↔◌}
 use mathlib.Core.Bool.{Bool, true, false, not, ◌&&◌, ◌||◌}
 use mathlib.Core.List.{List, [], ◌∷◌, ◌++◌}
 use Prim.Native.Nat.{ℕ, suc, ◌+◌}
@@ -17,7 +17,7 @@ use Rattle.engine_value.specs.declared.Point.{Point}
 use Rattle.event.specs.Event.{Event}
 use Rattle.packets.specs.Packets.{joined}
 use Rattle.adhesion.specs.Constraints.{reversed}
-use Rattle.event.specs.Kinds.{Content, kind, kinds, kind_of, rows_of, Role, off, load, report, other, skip}
+use Rattle.event.specs.Kinds.{Content, kind, kinds, kind_of, event_constraints, Role, off, load, report, other, skip}
 use Rattle.event.specs.Events.{event_rows, event_with, content_among, event_of_kind, event_of}
 use Rattle.fields.specs.Parse.{Parse, read, whole}
 use Rattle.fields.specs.Parse.Parse.{bad, good}
@@ -99,7 +99,7 @@ event_refuses l =
     fields c =
         then-refuses (1 ∷ []) (2 ∷ 21 ∷ []) (row 1 (not (eqb (length l) (1 + body_size c.body (body_at c.body 1 l))))) _ (row_refuses 1 _)
         (λ u. then-refuses (2 ∷ []) (21 ∷ []) (row 2 (not (body_fits c.body (body_at c.body 1 l)))) _ (row_refuses 2 _)
-        (λ v. then-refuses (21 ∷ []) [] (row 21 (any reversed (rows_of (c.event (body_at c.body 1 l))))) _ (row_refuses 21 _) (λ w. never (c.event (body_at c.body 1 l)))))
+        (λ v. then-refuses (21 ∷ []) [] (row 21 (any reversed (event_constraints (c.event (body_at c.body 1 l))))) _ (row_refuses 21 _) (λ w. never (c.event (body_at c.body 1 l)))))
 
 power_refuses : (s : State) (k : ℕ) → Refuses (3 ∷ 4 ∷ 5 ∷ []) (power_rows s k)
 unfolding power_rows
@@ -193,6 +193,38 @@ module _ (h : History) (c : Call) where
   kind_refuses other n e = cc
   kind_refuses (skip t on) n e =
       in_right n (7 ∷ 8 ∷ 9 ∷ 10 ∷ 11 ∷ 12 ∷ 13 ∷ []) (14 ∷ 15 ∷ []) (skip_refuses h (stop_named (route_by h) t) on n e)
+
+  -- the rows behind that of the event
+  abbrev rows_behind : Event → Judged (Unit {0})
+  rows_behind e =
+      then_judge (power_rows (state_by h) (kind_of e)) (λ u.
+      then_judge (state_row (state_by h) (kind_of e)) (λ v.
+      then_judge (hold_row (held_stop_by h) (kind_of e)) (λ k.
+      then_judge (kind_rows h c) (λ w. row 16 (ltb (length c.memory) (length (joined (packets_by h c))))))))
+
+  behind_refuses : (e : Event) → Refuses (3 ∷ 4 ∷ 5 ∷ 6 ∷ 20 ∷ 7 ∷ 8 ∷ 9 ∷ 10 ∷ 11 ∷ 12 ∷ 13 ∷ 14 ∷ 15 ∷ 16 ∷ []) (rows_behind e)
+  unfolding kind_rows
+  behind_refuses e =
+      then-refuses (3 ∷ 4 ∷ 5 ∷ []) (6 ∷ 20 ∷ 7 ∷ 8 ∷ 9 ∷ 10 ∷ 11 ∷ 12 ∷ 13 ∷ 14 ∷ 15 ∷ 16 ∷ []) (power_rows (state_by h) (kind_of e)) _ (power_refuses (state_by h) (kind_of e)) (λ u.
+      then-refuses (6 ∷ []) (20 ∷ 7 ∷ 8 ∷ 9 ∷ 10 ∷ 11 ∷ 12 ∷ 13 ∷ 14 ∷ 15 ∷ 16 ∷ []) (state_row (state_by h) (kind_of e)) _ (state_refuses (state_by h) (kind_of e)) (λ v.
+      then-refuses (20 ∷ []) (7 ∷ 8 ∷ 9 ∷ 10 ∷ 11 ∷ 12 ∷ 13 ∷ 14 ∷ 15 ∷ 16 ∷ []) (hold_row (held_stop_by h) (kind_of e)) _ (held_refuses (held_stop_by h) (kind_of e)) (λ k.
+      then-refuses (7 ∷ 8 ∷ 9 ∷ 10 ∷ 11 ∷ 12 ∷ 13 ∷ 14 ∷ 15 ∷ []) (16 ∷ []) (kind_rows h c) _ (kind_refuses (role_of_call c)) (λ w.
+      row_refuses 16 (ltb (length c.memory) (length (joined (packets_by h c))))))))
+
+  -- the event's row alone refuses with 21
+  pub refused_21 : (table_by h c ≡ refuse 21) ↔ (event_of c.event ≡ refuse 21)
+  unfolding table_by
+  refused_21 = (there (event_of c.event), λ q. rw (q) refl)
+    where
+      others : List ℕ
+      others = 3 ∷ 4 ∷ 5 ∷ 6 ∷ 20 ∷ 7 ∷ 8 ∷ 9 ∷ 10 ∷ 11 ∷ 12 ∷ 13 ∷ 14 ∷ 15 ∷ 16 ∷ []
+
+      not_21 : In 21 others → ⊥
+      not_21 i = let z : true ≡ false = none_of (λ n. eqb n 21) others refl 21 i in cc
+
+      there : (j : Judged Event) → then_judge j rows_behind ≡ refuse 21 → j ≡ refuse 21
+      there (refuse n) q = let z : n ≡ 21 = cc in ap refuse z
+      there (accept e) q = absurd (not_21 (behind_refuses e 21 q))
 
   -- of any event but a load
   pub table_refuses : (role_of_call c ≡ load → ⊥) → Refuses (1 ∷ 1 ∷ 1 ∷ 2 ∷ 21 ∷ 3 ∷ 4 ∷ 5 ∷ 6 ∷ 20 ∷ 13 ∷ 14 ∷ 15 ∷ 16 ∷ []) (table_by h c)

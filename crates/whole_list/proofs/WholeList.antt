@@ -34,6 +34,8 @@ use Rattle.whole_list.specs.Table.{packets_by, accepted_by, table_by, packets_re
 use Rattle.whole_list.specs.Calls.{play, engine_after, trace, with_accepted, accepted_in, history_of, later_answer, last_answer, keep, accepted_calls}
 use Rattle.whole_list.specs.Recorded.{packets_after, rows_told, newest, last_status}
 use Rattle.whole_list.specs.Slippery.{SlipperyTold}
+use Rattle.event.proofs.Sentences.{sentences}
+use Rattle.whole_list.proofs.RowNumbers.{refused_21}
 use Rattle.whole_list.proofs.Slippery.{shows-rows, slippery_stands, slippery_rows}
 use Rattle.whole_list.specs.WholeList.{EngagedExactly, PointsStand, bytes_of_each, StatusPacket, StatusWritten, RequestWrites, Has, Slippery, JudgedByTable, WholeList, NothingAhead, NoTrace, RequestExactly}
 use Rattle.whole_list.proofs.Decoded.{zones-booked}
@@ -267,7 +269,13 @@ judged_next earlier c = claim_judged _ _ c (kept earlier).seen
 
 -- each accepted kind 15, and nothing else, writes a packet 64, with its rows
 pub each-slippery : (earlier : List Call) (c : Call) → SlipperyTold earlier c
-each-slippery earlier c = ap rows_told (judged_next earlier c).packets ∙ slippery_rows (history_of earlier) c
+each-slippery earlier c = record {
+  rows = ap rows_told (judged_next earlier c).packets ∙ slippery_rows (history_of earlier) c;
+  twenty_one = λ b.
+      let t = refused_21 (history_of earlier) c in
+      let r = sentences.twenty_one c.event b in
+      (λ q. r.0 (t.0 q), λ q. t.1 (r.1 q));
+}
 
 -- refused calls leave no trace
 left : (e : Engine) (c : Call) (n bytes : ℕ) → (step_of e c).answer ≡ refused n bytes → (step_of e c).engine ≡ e

@@ -1,9 +1,12 @@
 -- Document 02, Q-7, over every list: "Each accepted such event, and nothing else, writes packet 64 with its rows".
 use Rattle.std.specs.Prelude.{◌≡◌, List, []}
+use mathlib.Core.Logic.{◌↔◌}
+use Rattle.wire.specs.Numbers.{Bytes}
 use Rattle.wire.specs.Judged.{Judged}
 use Rattle.wire.specs.Judged.Judged.{refuse, accept}
 use Rattle.adhesion.specs.declared.TemporaryConstraint.{TemporaryConstraint}
 use Rattle.event.specs.Kinds.{carried}
+use Rattle.event.specs.Sentences.{Reversing}
 use Rattle.call_values.specs.Call.{Call}
 use Rattle.call.specs.Call.{step_of}
 use Rattle.whole_list.specs.Values.{event_of_call}
@@ -17,8 +20,9 @@ abbrev pub slippery_if : Judged (Unit {0}) → Call → List (List TemporaryCons
 slippery_if (refuse n) c = []
 slippery_if (accept t) c = listed (carried (event_of_call c)).constraints
 
--- the packets 64 of a call c, made after the calls `earlier`, as the reader gives them
-abbrev pub SlipperyTold : List Call → Call → Type 0
-SlipperyTold earlier c =
-    let r = step_of (engine_after earlier) c in
-    rows_told (packets_after r.answer r.memory) ≡ slippery_if (table_by (history_of earlier) c) c
+-- a call c, made after the calls `earlier`
+pub record SlipperyTold (earlier : List Call) (c : Call) : Type 0 where
+  -- its packets 64, as the reader gives them
+  pub rows : let r = step_of (engine_after earlier) c in rows_told (packets_after r.answer r.memory) ≡ slippery_if (table_by (history_of earlier) c) c
+  -- "21, a row whose start exceeds its end, checked after 2 and before 3": in whatever state, and no other event gets it
+  pub twenty_one : Bytes c.event → (table_by (history_of earlier) c ≡ refuse 21) ↔ Reversing c.event
