@@ -1,17 +1,18 @@
 -- Laws of a whole book: the loop over its records, which keeps the first 40, and its answer.
 use Prim.Native.Nat.{ℕ, zero, suc, ◌+◌, ◌-◌, ◌≤◌, ◌<◌}
-use mathlib.Core.Path.{◌≡◌, refl, sym, ◌∙◌, subst}
+use mathlib.Core.Path.{◌≡◌, refl, sym, ap, ◌∙◌, subst}
 use mathlib.Core.Logic.{inl, inr}
 use mathlib.Core.List.{List, [], ◌∷◌, ◌++◌, map, append_assoc, append-nil}
-use mathlib.Core.Bool.{Bool, true, false, cond, ◌||◌, or-true, or-false, false≢true}
-use lib.ListN.{length, take, length-append}
+use mathlib.Core.Bool.{Bool, true, false, cond, not, ◌||◌, or-true, or-false, false≢true}
+use lib.ListN.{length, take, set, length-append}
 use lib.Dec.{eqb, ltb}
+use mir.Val.{bool_byte}
 use native.Mathlib.Omega.{arith}
 use borrow.Author.Tests.{eq-eqb, eqb-true, ne_eqb, lt-ltb, le-ltb, ltb-false}
-use Rattle.std.specs.Prelude.{Some, option_map, find, Result, Ok, Err, IsOk, OnOk, OnErr, ◌↔◌}
-use Rattle.std.specs.Result.{is_err}
+use Rattle.std.specs.Prelude.{Some, option_map, find, min}
 use Rattle.std.proofs.lemmas.Bool.{cases_lt}
-use Rattle.std.proofs.lemmas.List.{take_all, take-append-le, length-take-le}
+use Rattle.std.proofs.lemmas.List.{take_all, take-append-le, length-take-le, length-map, map-append}
+use Rattle.std.proofs.lemmas.Grind.{take-set_at}
 use Rattle.wire.specs.Lists.{All, any, twice}
 use Rattle.wire.specs.Judged.{then_judge, row}
 use Rattle.wire.specs.Judged.Judged.{refuse, accept}
@@ -67,7 +68,7 @@ begins s = record { seen = []; more = suc (length s); enough = omega arith; whol
 
 -- a record takes a byte at least
 pub shorter : (rest : List ℕ) (g : BookSegment) (r : List ℕ) → 0 < length rest → good g r ≡ segment_record rest → length r < length rest
-shorter rest g r l e = let k : length r ≤ length rest - 1 = subst (λ (p : Parse BookSegment). Leaves (length rest - 1) p) (sym e) (segment_leaves rest) in omega arith
+shorter rest g r l e = let k : length r ≤ length rest - 11 = subst (λ (p : Parse BookSegment). Leaves (length rest - 11) p) (sym e) (segment_leaves rest) in omega arith
 
 module _ (s rest : List ℕ) (kept : List BookSegment) (over : Bool) (h : Held s rest kept over) where
   pub ends : 0 < length rest → bad ≡ segment_record rest → records (suc (length s)) s ≡ bad
@@ -158,11 +159,48 @@ module _ (s rest : List ℕ) (kept : List BookSegment) (over : Bool) (h : Held s
       let k : kept ≡ h.seen = h.first ∙ take_all max_segments h.seen (ltb-false max_segments (length h.seen) (sym h.past ∙ e)) in
       rw k (sure_of (All SegmentFits) (records (suc (length s)) s) h.seen rest read (records_fit (suc (length s)) s))
 
--- what `try_push` does
-pub pushed : {X E : Type 0} (r : Result X E) (n cap : ℕ) (P Q : Type 0) → IsOk r ↔ (n < cap) → OnOk r P → OnErr r Q
-    → (n < cap → P × (is_err r ≡ false)) × (cap ≤ n → Q × (is_err r ≡ true))
-pushed (Ok a) n cap P Q v ok err = (λ h. (ok, refl), λ h. let k = v.0 refl in absurd (omega arith))
-pushed (Err d) n cap P Q v ok err = (λ h. let k = v.1 h in absurd cc, λ h. (err, refl))
+-- the first n of the array's entries, as they are read: one more, or none where it is full
+pub record Kept (es : List Entry) (n : ℕ) (s rest : List ℕ) (over : Bool) : Type 0 where
+  pub size : length es ≡ 40
+  pub few : n ≤ 40
+  pub held : Held s rest (map entry_view (take n es)) over
+
+module _ (es : List Entry) (n : ℕ) (size : length es ≡ 40) (few : n ≤ 40) where
+  pub kept_length : length (map entry_view (take n es)) ≡ n
+  kept_length = length-map (take n es) entry_view ∙ length-take-le n es (omega (arith, size))
+
+  pub kept_more : (e : Entry) → n < 40 → map entry_view (take (n + 1) (set es n e)) ≡ map entry_view (take n es) ++ entry_view e ∷ []
+  kept_more e h = rw (take-set_at es n (n + 1) e refl (omega (arith, size))) (map-append entry_view (take n es) (e ∷ []))
+
+module _ (es : List Entry) (n : ℕ) (s rest : List ℕ) (over : Bool) (k : Kept es n s rest over) where
+  pub one_more : (e : Entry) (r : List ℕ) → 0 < length rest → good (entry_view e) r ≡ segment_record rest
+      → (after : List Entry) (there : Bool) (m : ℕ) → length after ≡ 40 → (n < 40 → (after ≡ set es n e) × (there ≡ true)) → (40 ≤ n → (after ≡ es) × (there ≡ false)) → m ≡ bool_byte there
+      → Kept after (n + m) s r (over || not there)
+  one_more e r l read after there m size room full q =
+      elim (cases_lt n 40) [
+        | inl h ↦
+            let t = room h in
+            let one : m ≡ 1 = q ∙ ap bool_byte t.1 in
+            record {
+              size = size;
+              few = omega (arith, one);
+              held =
+                  goes_on s rest (map entry_view (take n es)) over k.held (entry_view e) r l read _ _
+                  (λ x. (rw (one, t.0) (kept_more es n k.size k.few e h), rw t.1 (or-false over)))
+                  (λ x. absurd (omega (arith, x, kept_length es n k.size k.few)));
+            }
+        | inr h ↦
+            let t = full h in
+            let none : n + m ≡ n = let z : m ≡ 0 = q ∙ ap bool_byte t.1 in omega (arith, z) in
+            record {
+              size = size;
+              few = omega (arith, none, k.few);
+              held =
+                  goes_on s rest (map entry_view (take n es)) over k.held (entry_view e) r l read _ _
+                  (λ x. absurd (omega (arith, x, kept_length es n k.size k.few)))
+                  (λ x. (rw (none, t.0), rw t.1 (or-true over)));
+            }
+      ]
 
 -- a slice that is empty, or not
 pub some_left : (n : ℕ) → false ≡ eqb n 0 → 0 < n
@@ -172,6 +210,10 @@ some_left (suc n) e = omega arith
 -- the points of a record that was read are all among the first 16
 pub points_kept : (g : BookSegment) → SegmentFits g → twice (λ (p q : BookPoint). eqb p.nidtp q.nidtp) (take max_record_points g.points) ≡ nidtp_twice g
 points_kept g h = rw (take_all max_record_points g.points h.point_count) (twice-map (λ (p : BookPoint). p.nidtp) eqb g.points)
+
+-- the entries that a full count takes in
+pub taken_in : (es : List Entry) (n : ℕ) → n ≤ 40 → map entry_view (take (min 40 n) es) ≡ map entry_view (take n es)
+taken_in es n h = let e : min 40 n ≡ n = omega arith in rw e
 
 -- the tests of the row 8 on the entries that are kept
 abbrev pub segments_named : List Entry → Bool

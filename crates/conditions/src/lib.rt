@@ -4,12 +4,13 @@
 ghost use Rattle.std.specs.Prelude.{◌≡◌, map};
 ghost use Rattle.wire.specs.Numbers.{flag};
 ghost use Rattle.engine_value.specs.View.{route_view};
-ghost use Rattle.engine_value.specs.Engine.{route_in};
+ghost use Rattle.engine_value.specs.Engine.{Route, route_in};
 ghost use Rattle.status_word.specs.Word.{conditions_of};
+ghost use Rattle.position.specs.Position.{placed};
 ghost use Rattle.position.specs.Standing.{standing};
 ghost use Rattle.conditions.specs.Conditions.{end_ahead, last_ahead, profiles_there, too_far, located, route_conditions_by, route_conditions, nine, conditions};
 
-use engine_value::{Engine, Load, Position, Progress, Route, UNDEFINED};
+use engine_value::{Engine, Load, Position, Progress, UNDEFINED};
 use position::{Named, Place};
 use status_word::OperationalConditions;
 use wire::bit;
@@ -39,12 +40,12 @@ fn last_ahead(l: Load, p: Progress) -> bool
     l.valid && !position::standing_of(p, last).is_passed()
 }
 
-// The first point not passed is placed, or none is left.
+// The first point not passed is placed, which `first` tells, or none is left, at a progress.
 #[tactic(auto, using(crate::proofs::Laws::first_ahead_lem))]
-fn profiles_there(j: Route, p: Progress) -> bool
-    ensures { result ≡ profiles_there (route_view j.entry) (standing p) }
+pub fn profiles_there(l: Load, p: Progress, first: bool) -> bool
+    ensures { (j : Route) → l ≡ j.load → first ≡ placed j p.next → result ≡ profiles_there j (standing p) }
 {
-    j.load.valid && (position::points_loaded(j.load) <= p.next || position::point(j, p.next).placed)
+    l.valid && (position::points_loaded(l) <= p.next || first)
 }
 
 // An offset held from before a load and beyond its segment's new length.
@@ -77,7 +78,8 @@ pub fn route_conditions_by(s: Option<Named>, x: Position, profiles: bool) -> Rou
 pub fn route_conditions(place: Place, p: Progress) -> RouteConditions
     ensures { result ≡ route_conditions (route_view place.entry.journey) place.entry.position (standing p) }
 {
-    let profiles = profiles_there(place.journey, p);
+    let j = place.journey;
+    let profiles = profiles_there(j.load, p, position::point(j, p.next).placed);
     route_conditions_by(place.segment, place.position, profiles)
 }
 

@@ -12,6 +12,7 @@ use Rattle.trackside.specs.View.{status_at}
 use Rattle.look_up.specs.LookUp.{route_conditions_in}
 use Rattle.event_packets.specs.View.{told_hold, told_view, changes_view}
 use Rattle.event_packets.specs.declared.Told.{Told}
+use Rattle.packets.specs.View.{status_number}
 use Rattle.packets.specs.declared.PointStatus.{PointStatus}
 use Rattle.event_packets.specs.declared.Changes.{Changes}
 use Rattle.event_packets.specs.declared.Received.{Received}
@@ -55,11 +56,11 @@ no_changes = record { first = None; from = 0; to = 0; last = None; held = None }
 abbrev pub reported_changes : ℕ → Reported → Bool → Changes
 reported_changes k t held =
     record {
-      first = if t.departed then Some (record { index = k; status = PointStatus.Departed; after = progress t.from false }) else None;
+      first = if t.departed then Some (record { index = k; status = status_number PointStatus.Departed; after = progress t.from false }) else None;
       from = t.from;
       to = t.progress.next;
-      last = if t.reached then Some (record { index = t.progress.next; status = PointStatus.Stopped; after = t.progress }) else None;
-      held = if t.reached && held then Some (record { index = t.progress.next; status = PointStatus.Held; after = t.progress }) else None;
+      last = if t.reached then Some (record { index = t.progress.next; status = status_number PointStatus.Stopped; after = t.progress }) else None;
+      held = if t.reached && held then Some (record { index = t.progress.next; status = status_number PointStatus.Held; after = t.progress }) else None;
     }
 
 -- what a load of the journey j tells of the journey before it

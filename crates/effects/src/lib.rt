@@ -1,7 +1,7 @@
 // What an event does, group by group and never as an engine, and the rows of the table of numbers that refuse it.
 #![tactic(auto)]
 
-ghost use Rattle.std.specs.Prelude.{◌≡◌, ℕ, IfOk};
+ghost use Rattle.std.specs.Prelude.{◌≡◌, ℕ, Bool, IfOk};
 ghost use Rattle.wire.specs.View.{judged_by};
 ghost use Rattle.engine_value.specs.View.{route_view};
 ghost use Rattle.engine_value.specs.declared.Engine as engine;
@@ -14,7 +14,7 @@ ghost use Rattle.effects.specs.View.{reported_changes, unchanged, journey_view, 
 
 use conditions::RouteConditions;
 use engine_value::{Control, Engine, Inputs, Load, Position, Progress, Route, Train, UNDEFINED};
-use event::Event;
+use event::{Event, Role};
 use event_packets::{Change, Changes, Received, Told};
 use look_up::Occurrence;
 use packets::PointStatus;
@@ -151,16 +151,16 @@ fn changes_of(index: u8, t: Reported, held: bool) -> Changes
     };
     let departure = Change {
         index,
-        status: PointStatus::Departed,
+        status: u8::from(PointStatus::Departed),
         after,
     };
     let stop = Change {
         index: t.progress.next,
-        status: PointStatus::Stopped,
+        status: u8::from(PointStatus::Stopped),
         after: t.progress,
     };
     let hold = Change {
-        status: PointStatus::Held,
+        status: u8::from(PointStatus::Held),
         ..stop
     };
     Changes {
@@ -198,13 +198,21 @@ pub fn report<'a>(o: &Occurrence) -> Result<Effect<'a>, Refusal>
 
 // ---- driver skips
 
+// A driver skip is given, and none revoked.
+fn gives_skip(v: Event) -> bool
+    ensures { (t : ℕ) (on : Bool) → role_of (event_view v.entry) ≡ skip t on → result ≡ on }
+{
+    matches!(v.role(), Role::Skip { on: true, .. })
+}
+
 // A driver skip, or its revocation.
 #[tactic(auto, unfolding(call::specs::Effect::skip_effect, timing::specs::Changes::passings), using(crate::proofs::Laws::carries_skip))]
-pub fn skip<'a>(o: &Occurrence, on: bool) -> Result<Effect<'a>, Refusal>
-    ensures effect { (t : ℕ) → role_of (event_view o.now.event) ≡ skip t on → judged_by effect_view result ≡ skip_effect o.now.engine.now (carried (event_view o.now.event)) on o.now.looked.stop }
-    ensures beside { (t : ℕ) → role_of (event_view o.now.event) ≡ skip t on → IfOk result (λ f. Beside o.now.engine.now f) }
+pub fn skip<'a>(o: &Occurrence) -> Result<Effect<'a>, Refusal>
+    ensures effect { (t : ℕ) (on : Bool) → role_of (event_view o.now.event) ≡ skip t on → judged_by effect_view result ≡ skip_effect o.now.engine.now (carried (event_view o.now.event)) on o.now.looked.stop }
+    ensures beside { (t : ℕ) (on : Bool) → role_of (event_view o.now.event) ≡ skip t on → IfOk result (λ f. Beside o.now.engine.now f) }
 {
     let e = o.engine;
+    let on = gives_skip(o.event);
     let stop = o.looked.stop.ok_or(Refusal::NoStop)?;
     // reached or passed
     let behind = position::standing_of(e.progress, stop.at).is_behind();
@@ -218,7 +226,7 @@ pub fn skip<'a>(o: &Occurrence, on: bool) -> Result<Effect<'a>, Refusal>
     };
     let change = Change {
         index: stop.at,
-        status,
+        status: u8::from(status),
         after: e.progress,
     };
     Ok(Effect {

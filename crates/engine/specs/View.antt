@@ -1,9 +1,11 @@
 -- What the code's answers stand for.
-use Rattle.std.specs.Prelude.{ℕ, ◌≡◌, List}
+use Rattle.std.specs.Prelude.{ℕ, ◌≡◌, false, List}
 use Rattle.wire.specs.Judged.{Judged}
 use Rattle.wire.specs.Judged.Judged.{refuse, accept}
 use Rattle.engine_value.specs.Engine.{Route, no_skips}
 use Rattle.engine_value.specs.declared.Engine.{Engine}
+use Rattle.event.specs.Event.{Event}
+use Rattle.event.specs.Kinds.{is_off, is_load, role_of}
 use Rattle.call_values.specs.Call.{Call}
 use Rattle.call_values.specs.declared.Accepted.{Accepted}
 use Rattle.call.specs.Call.{Step, returned, with_packets, judged}
@@ -51,3 +53,12 @@ pub record Takes (t : Taken) (m : Engine) (a : Judged Accepted) (memory : List �
 -- a call's rows, on an engine
 abbrev pub take_of : Engine → Call → Taken
 take_of e c = taken_of e c.memory (judged e c)
+
+-- the same points and segments
+abbrev pub SameJourney : Engine → Engine → Type 0
+SameJourney e m = (m.points ≡ e.points) × (m.segments ≡ e.segments)
+
+-- an event other than power off and a load leaves both, and so does one that is not read
+abbrev pub KeepsJourney : Judged Event → Engine → Engine → Type 0
+KeepsJourney (refuse n) e m = SameJourney e m
+KeepsJourney (accept event) e m = is_off (role_of event) ≡ false → is_load (role_of event) ≡ false → SameJourney e m

@@ -21,7 +21,7 @@ ghost use Rattle.engine_value.specs.Engine.{no_route, filled, adhesion_of};
 ghost use Rattle.engine_value.specs.View.{route_view};
 ghost use Rattle.judge.specs.View.{engine_after};
 ghost use Rattle.call_values.specs.View.{answer_view};
-ghost use Rattle.engine.specs.View.{answer_of, call, with_route, Takes, take_of};
+ghost use Rattle.engine.specs.View.{answer_of, call, with_route, Takes, take_of, KeepsJourney};
 
 use adhesion::{Constraints, MAX_CONSTRAINTS, TemporaryConstraint};
 use call_values::{Accepted, Refused};
@@ -165,15 +165,15 @@ fn take(
         Role::Off => effects::power_off(),
         Role::Load => return load(e, v, journey, book, out),
         Role::Report => effects::report(&o)?,
-        Role::Skip { nidtp: _, on } => effects::skip(&o, on)?,
+        Role::Skip { .. } => effects::skip(&o)?,
         Role::Other => effects::values(&o),
     };
     let t = judge::judge(&o, &f, out.len())?;
     Ok(accept(e, &t, out))
 }
 
-// One event. A refusal leaves the engine as it was, and the memory, too, but for the packet 65 of profiles that were turned down. The slices apart, as the
-// C call hands them over.
+// One event. A refusal leaves the engine as it was, and the memory, too, but for the packet 65 of profiles that were turned down. Points and segments are
+// rewritten by an accepted load and by power off alone. The slices apart, as the C call hands them over.
 pub fn step(
     e: &mut Engine,
     event: &[u8],
@@ -184,6 +184,7 @@ pub fn step(
     ensures engine { e.new ≡ (step_of e.old (call event.now journey.now book.now out.old)).engine }
     ensures answer { answer_view result ≡ (step_of e.old (call event.now journey.now book.now out.old)).answer }
     ensures output { out.new ≡ (step_of e.old (call event.now journey.now book.now out.old)).memory }
+    ensures journey { KeepsJourney (event_of event.now) e.old e.new }
 {
     match take(e, event, journey, book, out) {
         Ok(a) => Ok(a),

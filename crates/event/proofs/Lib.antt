@@ -3,3 +3,4 @@ pub mod Known
 pub mod Accepted
 pub mod Adhesion
 pub mod Sentences
+pub mod Otherwise

@@ -2,13 +2,13 @@
 use Rattle.std.proofs.Common.{ℕ, zero, suc, ◌+◌, ◌-◌, ◌*◌, ◌≤◌, ◌<◌, ◌≡◌, refl, sym, ap, ◌∙◌, List, [], ◌∷◌, ◌++◌, map, length, arith, append_assoc, min, Option, Some, None, Bool, true, false, inl, inr}
 use Rattle.std.specs.Prelude.{option_map}
 use mathlib.Core.List.{map-append, append-nil}
-use lib.ListN.{take, drop, set, get_or, length-append, length-map, length-drop, drop_of_length-le}
-use lib.Seq.{sets, take_all}
+use lib.ListN.{drop, get_or, length-append, length-map, drop_of_length-le}
+use lib.Seq.{sets}
 use mir.Val.{bool_byte}
 use Rattle.std.specs.Option.{is_some}
 use Rattle.std.specs.Bool.{then_some}
 use Rattle.std.proofs.lemmas.Bool.{cases_lt}
-use Rattle.std.proofs.lemmas.List.{take_min, drop_min, drop_more}
+use Rattle.std.proofs.lemmas.List.{drop_more}
 use Rattle.std.proofs.Math.Nat.{min-eq_left, min-eq_right}
 use Rattle.wire.proofs.NumberLaws.{sets_more, sets_past}
 use Rattle.engine_value.specs.Engine.{Route, route_in, progress}
@@ -99,33 +99,12 @@ behind bs more l at =
       | inr within ↦ rw (min-eq_left within) (sets_more bs more l at)
     ]
 
-sets-none : (bs : List ℕ) (i : ℕ) → sets [] i bs ≡ []
-sets-none [] i = refl
-sets-none (b ∷ bs) i = sets-none bs (suc i)
-
-sets_behind : (bs : List ℕ) (x : ℕ) (l : List ℕ) (i : ℕ) → sets (x ∷ l) (suc i) bs ≡ x ∷ sets l i bs
-sets_behind [] x l i = refl
-sets_behind (b ∷ bs) x l i = sets_behind bs x (set l i b) (suc i)
-
--- stores at the front of the rest of a memory
-sets_part : (at : ℕ) (l bs : List ℕ) → take at l ++ sets (drop at l) 0 bs ≡ sets l at bs
-sets_part zero l bs = refl
-sets_part (suc at) [] bs = sets-none bs 0 ∙ sym (sets-none bs (suc at))
-sets_part (suc at) (x ∷ l) bs = ap (λ (r : List ℕ). x ∷ r) (sets_part at l bs) ∙ sym (sets_behind bs x l at)
-
--- what is lent is all from the position on, or nothing where that lies past the end
-stored_within : (at a : ℕ) (l bs : List ℕ) → a ≡ min at (length l)
-    → take a l ++ (sets (take (length l - a) (drop a l)) 0 bs ++ drop (length l - a) (drop a l)) ≡ sets l at bs
-stored_within at a l bs e =
-    let n : length (drop a l) ≤ length l - a = rw length-drop (omega arith) in
-    rw (take_all (length l - a) (drop a l) n, drop_of_length-le (drop a l) {i = length l - a} n, append-nil, e, take_min, drop_min) (sets_part at l bs)
-
-pub put_one : (o : Option code_packet.Packet) (p : code_packet.Packet) (l m : List ℕ) (at a n : ℕ) → o ≡ Some p → m ≡ sets (take (length l - a) (drop a l)) 0 (packet_bytes (packet_view p)) → a ≡ min at (length l) → n ≡ size_of (packet_view p)
-    → Put at (listed (option_map packet_view o)) l (take a l ++ (m ++ drop (length l - a) (drop a l))) (a + n)
+pub put_one : (o : Option code_packet.Packet) (p : code_packet.Packet) (l m : List ℕ) (at a n : ℕ) → o ≡ Some p → m ≡ sets l at (packet_bytes (packet_view p)) → a ≡ min at (length l) → n ≡ size_of (packet_view p)
+    → Put at (listed (option_map packet_view o)) l m (a + n)
 put_one o p l m at a n q t k z = λ more.
     let b = packet_bytes (packet_view p) in
     let i : n ≡ length b = z ∙ sym (length-packet_bytes (packet_view p)) in
-    rw (q, t, stored_within at a l b k, k, i, append-nil b) (behind b more l at)
+    rw (q, t, k, i, append-nil b) (behind b more l at)
 
 -- one more behind what is put already
 pub put_then : (a b : List Packet) (l m n : List ℕ) (i j k : ℕ) → Put i a l m j → Put j b m n k → Put i (a ++ b) l n k
@@ -179,13 +158,14 @@ module _ (e : Engine) (to k : ℕ) where
   unfolding passings
   passed_end h l more i = let z : to - k ≡ 0 = omega arith in rw z
 
-  pub passed_next : k < to → (p : code_packet.Packet) → packet_view p ≡ timing_point (route_in e) e.train.position (change_in (route_in e) (change k status_passed (progress (k + 1) false)))
+  pub passed_next : k < to → (p : code_packet.Packet) (s : ℕ) → s ≡ status_passed
+      → packet_view p ≡ timing_point (route_in e) e.train.position (change_in (route_in e) (change k s (progress (k + 1) false)))
       → (l m : List ℕ) (i j : ℕ) → Put i (packet_view p ∷ []) l m j
       → (more : List ℕ) → sets m j (joined (packets62 e (passings (to - (k + 1)) (k + 1))) ++ more) ≡ sets l i (joined (packets62 e (passings (to - k) k)) ++ more)
   unfolding passings
-  passed_next h p q l m i j t more =
+  passed_next h p s r q l m i j t more =
       let z : to - k ≡ suc (to - (k + 1)) = omega arith in
-      t (joined (packets62 e (passings (to - (k + 1)) (k + 1))) ++ more) ∙ rw (z, q) (simp (append-nil, append_assoc))
+      t (joined (packets62 e (passings (to - (k + 1)) (k + 1))) ++ more) ∙ rw (z, q, r) (simp (append-nil, append_assoc))
 
 -- ---- the points that a load tells of, from point k on
 module _ (e : Engine) (p : Progress) (l : List (Option PointStatus)) (k : ℕ) where

@@ -9,7 +9,6 @@ use Rattle.engine_value.specs.declared.Point.{Point}
 use Rattle.engine_value.specs.declared.Progress.{Progress}
 use Rattle.engine_value.specs.declared.Engine.{Engine}
 use Rattle.packets.specs.Packets.{joined}
-use Rattle.packets.specs.View.{status_number}
 use Rattle.packets.specs.Packet.{Packet}
 use Rattle.timing.specs.Changes as timing
 use Rattle.timing.specs.Changes.{change, passings, status_hold_revoked}
@@ -27,7 +26,7 @@ use Rattle.event_packets.specs.declared.Status.{Status}
 use Rattle.event_packets.specs.declared.Writes.{Writes}
 
 abbrev pub change_view : Change → timing.Change
-change_view c = change c.index (status_number c.status) c.after
+change_view c = change c.index c.status c.after
 
 abbrev pub status_view : Status → packets.Status
 status_view s = record { state = s.state; conditions = s.conditions; speed = s.speed }

@@ -13,7 +13,7 @@ ghost use Rattle.engine_value.specs.View.{route_view};
 ghost use Rattle.packets.specs.Packets.{joined};
 ghost use Rattle.timing.specs.Changes.{passings};
 ghost use Rattle.call.specs.Packets.{change_in};
-ghost use Rattle.packets.specs.View.{status_number, packet_view};
+ghost use Rattle.packets.specs.View.{packet_view};
 ghost use Rattle.position.specs.Standing.{standing};
 ghost use Rattle.conditions.specs.Conditions.{end_ahead};
 ghost use Rattle.call_values.specs.Packets.{header, country, status_due, timing_point_of, timing_point, traction_brake, adhesion_system, adhesion_systems, ato_status};
@@ -31,11 +31,12 @@ use position::Place;
 use state_codes::State;
 use status_word::OperationalConditions;
 
-// A change of the point of an index, and the progress after it.
+// A change of the point of an index, and the progress after it. The status is any number, as a packet 62 has it;
+// `PointStatus` names those that the unit writes.
 #[derive(Clone, Copy)]
 pub struct Change {
     pub index: u8,
-    pub status: PointStatus,
+    pub status: u8,
     pub after: Progress,
 }
 
@@ -102,8 +103,8 @@ pub fn header(e: &Engine) -> Header
 }
 
 // Packet 62 of a point, with the progress after its change.
-fn point_packet<'a>(e: &Engine, p: Point, status: PointStatus, after: Progress) -> Packet<'a>
-    ensures { packet_view result ≡ timing_point_of (header (route_in e.now) e.now.train.position) p (status_number status) (end_ahead e.now.load (standing after)) }
+fn point_packet<'a>(e: &Engine, p: Point, status: u8, after: Progress) -> Packet<'a>
+    ensures { packet_view result ≡ timing_point_of (header (route_in e.now) e.now.train.position) p status (end_ahead e.now.load (standing after)) }
 {
     Packet::TimingPoint(TimingPoint {
         header: header(e),
@@ -111,8 +112,8 @@ fn point_packet<'a>(e: &Engine, p: Point, status: PointStatus, after: Progress) 
         nidtp: p.nidtp,
         q_eoj_reached: u8::from(conditions::end_ahead(e.load, after)),
         alignment: p.alignment,
-        status: u8::from(status),
-        stopping: if status == PointStatus::Stopped {
+        status,
+        stopping: if status == u8::from(PointStatus::Stopped) {
             p.stopping
         } else {
             0
@@ -135,7 +136,7 @@ fn told_change(k: u8, status: Option<PointStatus>, after: Progress) -> Option<Ch
 {
     status.map(|status| Change {
         index: k,
-        status,
+        status: u8::from(status),
         after,
     })
 }
@@ -145,7 +146,7 @@ fn told_change(k: u8, status: Option<PointStatus>, after: Progress) -> Option<Ch
 fn hold_revoked<'a>(e: &Engine, p: Point) -> Packet<'a>
     ensures { packet_view result ≡ revoked_packet e.now p }
 {
-    point_packet(e, p, PointStatus::HoldRevoked, e.progress)
+    point_packet(e, p, u8::from(PointStatus::HoldRevoked), e.progress)
 }
 
 // NID_C of the position, 1,024 unless it is known.
@@ -281,7 +282,7 @@ impl<'a> Output<'a> {
             return;
         };
         let start = self.at.min(self.memory.len());
-        packet_writer::put_packet(p, &mut self.memory[start..]);
+        packet_writer::put_packet(p, self.memory, self.at);
         self.at = start + p.size();
     }
 
@@ -326,7 +327,7 @@ impl<'a> Output<'a> {
             };
             let c = Change {
                 index: k,
-                status: PointStatus::Passed,
+                status: u8::from(PointStatus::Passed),
                 after,
             };
             self.put(Some(timing_point(e, c)));

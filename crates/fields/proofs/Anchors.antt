@@ -24,7 +24,7 @@ unfolding number field many counted listed
 items = record { several = refl; counts = refl; bit_stands = refl; bit_clear = refl }
 
 answers : Answers
-answers = record { reads = refl; wholes = refl }
+answers = record { reads = refl; wholes = refl; answered = λ behind. refl }
 
 pub anchors : Anchors
 anchors = record { fields = fields; items = items; answers = answers }

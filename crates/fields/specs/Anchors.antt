@@ -1,8 +1,10 @@
 -- Values worked out by hand from document 01, which the definitions must give.
-use Rattle.std.specs.Prelude.{ℕ, ◌≡◌, true, false, List, [], ◌∷◌, map}
+use Rattle.std.specs.Prelude.{ℕ, ◌≡◌, true, false, List, [], ◌∷◌, map, Some, None}
+use Rattle.std.specs.Borrow.{Bor}
 use Rattle.wire.specs.Judged.Judged.{refuse, accept}
 use Rattle.fields.specs.Parse.{Reader, ◌>>=◌, ◌>>◌, give, must, field, free, bit_map, optional, many, counted, listed, read, whole}
 use Rattle.fields.specs.Parse.Parse.{bad, good}
+use Rattle.fields.specs.View.{parsed}
 
 -- a field of one byte from 2 to 5; and one with a free one behind it
 abbrev pub small : Reader ℕ
@@ -53,6 +55,8 @@ pub record Answers : Type 0 where
   -- "7 bad map, range or length": the row's number where nothing was read, or where a byte is left over
   pub reads : map (read {A = ℕ} 7) (bad ∷ good 5 [] ∷ good 5 (0 ∷ []) ∷ []) ≡ refuse 7 ∷ accept 5 ∷ accept 5 ∷ []
   pub wholes : map (whole {A = ℕ} 9) (bad ∷ good 5 [] ∷ good 5 (0 ∷ []) ∷ good 5 (1 ∷ 2 ∷ []) ∷ []) ≡ refuse 9 ∷ accept 5 ∷ refuse 9 ∷ refuse 9 ∷ []
+  -- the number that was read, and the bytes behind it
+  pub answered : (behind : Bor (List ℕ)) → map (parsed {A = ℕ}) (Some (258, behind) ∷ None ∷ []) ≡ good 258 behind.now ∷ bad ∷ []
 
 pub record Anchors : Type 0 where
   pub fields : Fields

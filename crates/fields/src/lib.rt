@@ -2,7 +2,7 @@
 // front of a slice, and answers the value and the bytes behind it, or nothing.
 #![tactic(auto)]
 
-ghost use Rattle.std.specs.Prelude.{◌≡◌, min};
+ghost use Rattle.std.specs.Prelude.{◌≡◌, ◌≤◌, min, max, IfSome};
 ghost use Rattle.wire.specs.Lists.{twice};
 ghost use Rattle.fields.specs.Parse.{field, optional, map_fits, bit_map, counted};
 ghost use Rattle.fields.specs.View.{parsed, parsed_by};
@@ -37,19 +37,21 @@ pub fn read_field<N: Number>(s: &[u8], low: u32, high: u32) -> Option<(N, &[u8])
     (low..=high).contains(&n.into()).then_some((n, rest))
 }
 
-// The same where its bit stands; where not, the value that an absent field means.
-#[tactic(auto, unfolding(crate::specs::Parse::optional))]
+// The same where its bit stands; where not, the value that an absent field means, whatever number that is.
+#[tactic(auto, unfolding(crate::specs::Parse::optional, crate::specs::Parse::field))]
 pub fn read_optional<N: Number>(
     s: &[u8],
     present: bool,
-    other: N,
+    other: u32,
     low: u32,
     high: u32,
-) -> Option<(N, &[u8])>
-    ensures { parsed_by N.value result ≡ optional present (N.value other) (field N.WIDTH low high) s.now }
+) -> Option<(u32, &[u8])>
+    ensures value { parsed result ≡ optional present other (field N.WIDTH low high) s.now }
+    ensures most { IfSome result (λ r. r.0 ≤ max other high) }
 {
     if present {
-        read_field(s, low, high)
+        let (n, s) = read_field::<N>(s, low, high)?;
+        Some((n.into(), s))
     } else {
         Some((other, s))
     }

@@ -39,7 +39,7 @@ fn hold_row(e: &Engine, kind: EventKind) -> Result<(), Refusal>
 pub fn rows_of_state(e: &Engine, kind: EventKind) -> Result<(), Refusal>
     ensures { judged result ≡ rows_of_state e.now (kind_number kind) }
 {
-    state_codes::state_rows(State::from(e.control.state), kind)?;
+    state_codes::state_rows(State::from(e.control.state), u8::from(kind))?;
     hold_row(e, kind)
 }
 

@@ -1,7 +1,8 @@
 // Journeys: read whole (row 9).
 #![tactic(auto)]
 
-ghost use Rattle.std.specs.Prelude.{◌≡◌};
+ghost use Rattle.std.specs.Prelude.{◌≡◌, ◌≤◌, length};
+ghost use Rattle.engine_value.specs.Engine.{max_points, max_segments};
 ghost use Rattle.wire.specs.View.{judged_by};
 ghost use Rattle.fields.specs.View.{parsed, parsed_by};
 ghost use Rattle.journey.specs.Journey.{head_record, journey_record, journey_value};
@@ -21,7 +22,7 @@ const MAX_ATOTS: u32 = 16383;
 pub const NO_ATOTS: u16 = 16384;
 
 // "alignment (1: 0 front, 1 middle, 2 rear; absent means 0)". A byte, as the engine's C layout has it: an enum would be made here and unmade there.
-const FRONT: u8 = 0;
+const FRONT: u32 = 0;
 
 const MAX_ALIGNMENT: u32 = 2;
 
@@ -58,12 +59,32 @@ pub struct Head {
     pub atots: u16,
 }
 
-// A journey that was read.
-#[derive(Drop)]
+// A journey that was read: a value that can be copied, which it could not be with an ArrayVec in it. Behind the counts stand blanks.
+#[derive(Clone, Copy)]
 pub struct Journey {
-    pub names: ArrayVec<Name, MAX_SEGMENTS>,
-    pub points: ArrayVec<JourneyPoint, MAX_POINTS>,
+    pub names: [Name; MAX_SEGMENTS],
+    pub points: [JourneyPoint; MAX_POINTS],
     pub head: Head,
+    pub name_count: u8,
+    pub point_count: u8,
+}
+
+impl Journey {
+    // The names of its segments, in order.
+    pub fn names(&self) -> &[Name]
+        ensures value { result.now ≡ (value_view self.now).names }
+        ensures fits { length result.now ≤ max_segments }
+    {
+        &self.names[..MAX_SEGMENTS.min(self.name_count as usize)]
+    }
+
+    // Its timing points, in order.
+    pub fn points(&self) -> &[JourneyPoint]
+        ensures value { result.now ≡ (value_view self.now).points }
+        ensures fits { length result.now ≤ max_points }
+    {
+        &self.points[..MAX_POINTS.min(self.point_count as usize)]
+    }
 }
 
 // A segment's name is itself; a point is named by its NID_TP.
@@ -114,13 +135,13 @@ impl Item for JourneyPoint {
         }
         let (nidtp, s) = read_field(s, 0, MAX_NIDTP)?;
         let (index, s) = read_field(s, 0, 255)?;
-        let (alignment, s) = read_optional(s, bit(map, 2), FRONT, 0, MAX_ALIGNMENT)?;
-        let (stopping, s) = read_optional(s, bit(map, 3), 0, 0, MAX_STOPPING)?;
+        let (alignment, s) = read_optional::<u8>(s, bit(map, 2), FRONT, 0, MAX_ALIGNMENT)?;
+        let (stopping, s) = read_optional::<u8>(s, bit(map, 3), 0, 0, MAX_STOPPING)?;
         let point = JourneyPoint {
             nidtp,
             index,
-            alignment,
-            stopping,
+            alignment: alignment as u8,
+            stopping: stopping as u8,
             stop: bit(map, 4),
             trackside: bit(map, 5),
             end: bit(map, 6),
@@ -136,19 +157,42 @@ fn read_head(s: &[u8]) -> Option<(Head, &[u8])>
     ensures { parsed result ≡ head_record s.now }
 {
     let (map, s) = read_map(s, &[1, 3, 4], &[5, 6, 7])?;
-    let (operational, s) = read_optional(s, bit(map, 0), NO_OPERATIONAL, 0, u32::MAX)?;
+    let (operational, s) = read_optional::<u32>(s, bit(map, 0), NO_OPERATIONAL, 0, u32::MAX)?;
     let (date, s) = read_field(s, 0, MAX_DATE)?;
     let (seconds, s) = read_field(s, 0, u32::MAX)?;
     let (counter, s) = read_field(s, 0, 255)?;
-    let (atots, s) = read_optional(s, bit(map, 2), NO_ATOTS, 0, MAX_ATOTS)?;
+    let (atots, s) = read_optional::<u16>(s, bit(map, 2), NO_ATOTS as u32, 0, MAX_ATOTS)?;
     let head = Head {
         operational,
         date,
         seconds,
         counter,
-        atots,
+        atots: atots as u16,
     };
     Some((head, s))
+}
+
+// A journey of these lists.
+fn journey_of(
+    head: Head,
+    listed: &ArrayVec<Name, MAX_SEGMENTS>,
+    visited: &ArrayVec<JourneyPoint, MAX_POINTS>,
+) -> Journey
+    ensures { value_view result ≡ record { head = head; names = listed.now.items; points = visited.now.items } }
+{
+    let name_count = listed.len();
+    let mut names = [Name::default(); MAX_SEGMENTS];
+    names[..name_count].copy_from_slice(listed.as_slice());
+    let point_count = visited.len();
+    let mut points = [JourneyPoint::default(); MAX_POINTS];
+    points[..point_count].copy_from_slice(visited.as_slice());
+    Journey {
+        names,
+        points,
+        head,
+        name_count: name_count as u8,
+        point_count: point_count as u8,
+    }
 }
 
 #[tactic(auto, unfolding(crate::specs::Journey::journey_record))]
@@ -158,14 +202,7 @@ fn read_whole(s: &[u8]) -> Option<(Journey, &[u8])>
     let (head, s) = read_head(s)?;
     let (names, s) = read_counted(s)?;
     let (points, s) = read_counted(s)?;
-    Some((
-        Journey {
-            names,
-            points,
-            head,
-        },
-        s,
-    ))
+    Some((journey_of(head, &names, &points), s))
 }
 
 // A journey to the last byte of the slice. `inline(never)`, as at each step of a load: they take the same stack in turn.

@@ -13,15 +13,15 @@ use journey::{Journey, JourneyPoint};
 pub fn name_twice(j: &Journey) -> bool
     ensures { result ≡ twice same_name (value_view j.now).names }
 {
-    fields::name_twice(j.names.as_slice())
+    fields::name_twice(j.names())
 }
 
 // "11 index beyond"
 pub fn index_beyond(j: &Journey) -> bool
     ensures { result ≡ index_beyond (value_view j.now) }
 {
-    let n = j.names.len();
-    j.points.as_slice().iter().any(|p| n <= p.index as usize)
+    let n = j.names().len();
+    j.points().iter().any(|p| n <= p.index as usize)
 }
 
 // "11 .. NID_TP twice"

@@ -18,7 +18,6 @@ use engine_value::{Control, Traction, Train};
 use event::Event;
 use event_packets::{Status, Writes};
 use look_up::Occurrence;
-use state_codes::State;
 use status_word::OperationalConditions;
 use wire::Refusal;
 
@@ -95,9 +94,8 @@ pub fn judge<'a>(
         conditions,
     );
     let due = event_packets::status_due(status_in(o), status(control, f.train, conditions));
-    let state = State::from(e.control.state);
-    let after = State::from(control.state);
-    let traction = traction::traction_after(state, v, after, e.traction);
+    let state = e.control.state;
+    let traction = traction::traction_after(state, v, control.state, e.traction);
     let shown = rows_shown(v);
     let writes = Writes {
         received: f.received,

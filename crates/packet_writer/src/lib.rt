@@ -76,8 +76,8 @@ fn put_requested(r: Requested, out: &mut [u8])
     r.m_ato_rtbrq.put(out, 20);
 }
 
-// The packet's bytes at the front, whatever its values; stores past the end store nothing. For a caller that has counted the bytes.
-pub fn put_packet(p: Packet, out: &mut [u8])
+// The packet's bytes at the front, whatever its values.
+fn put_front(p: Packet, out: &mut [u8])
     ensures { out.new ≡ sets out.old 0 (packet_bytes (packet_view p.entry)) }
 {
     put_header(p.kind(), p.header(), out);
@@ -88,6 +88,16 @@ pub fn put_packet(p: Packet, out: &mut [u8])
         Packet::TractionBrake(x) => put_requested(x.requested, out),
         Packet::AdhesionSystem(x) => x.constraints.put(out, 17),
     }
+}
+
+// The packet's bytes from a position on, whatever its values; stores past the end store nothing. For a caller that has
+// counted the bytes.
+pub fn put_packet(p: Packet, out: &mut [u8], at: usize)
+    ensures { out.new ≡ sets out.old at (packet_bytes (packet_view p.entry)) }
+{
+    let from = at.min(out.len());
+    let (_, rest) = out.split_at_mut(from);
+    put_front(p, rest);
 }
 
 // The packet at the front of the memory; the bytes behind it stay.
@@ -103,7 +113,7 @@ pub fn write_packet(p: Packet, out: &mut [u8]) -> Result<usize, Refusal>
     if out.len() < size {
         return Err(Refusal::Output);
     }
-    put_packet(p, out);
+    put_front(p, out);
     Ok(size)
 }
 

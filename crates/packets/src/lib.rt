@@ -3,7 +3,7 @@
 
 ghost use Rattle.std.specs.Prelude.{◌≡◌, ◌≤◌, ◌*◌, ◌&&◌, length};
 ghost use Rattle.adhesion.specs.View.{constraints_view};
-ghost use Rattle.packets.specs.Packets.{front_size};
+ghost use Rattle.packets.specs.Packets.{size_at, front_size};
 
 use adhesion::{CONSTRAINT_SIZE, Constraints};
 use status_word::OperationalConditions;
@@ -397,15 +397,26 @@ impl<'a> Packet<'a> {
     }
 }
 
-// The bytes of the piece in front: a packet or, where no packet has the number, all that are left.
-pub fn front_size(s: &[u8]) -> usize
-    ensures { result ≡ front_size s.now }
+// The bytes of the packet in front, by its number and what stands behind it; 0 where no packet has that number.
+pub fn size_at(s: &[u8]) -> usize
+    ensures { result ≡ size_at s.now }
 {
     let Some(number) = s.first() else {
         return 0;
     };
     match PacketKind::try_from(*number) {
-        Ok(kind) => kind.size_in(s).min(s.len()),
-        Err(_) => s.len(),
+        Ok(kind) => kind.size_in(s),
+        Err(_) => 0,
     }
+}
+
+// The bytes of the piece in front: a packet or, where no packet has the number, all that are left.
+pub fn front_size(s: &[u8]) -> usize
+    ensures { result ≡ front_size s.now }
+{
+    let size = size_at(s);
+    if size == 0 {
+        return s.len();
+    }
+    size.min(s.len())
 }

@@ -16,8 +16,8 @@ use std::{fmt, io};
 // An event with its profiles has 196,611 bytes at most (`call-there` of player_text/proofs/Room.antt), so that there is always room to read on.
 const INPUT: usize = 262144;
 
-// The bytes that are read at once, at most.
-const CHUNK: usize = 65536;
+// The bytes that are read at once, at most. They stand on the stack beside the input.
+const CHUNK: usize = 16384;
 
 // "It lends 4,096 output bytes"
 const MEMORY: usize = 4096;
@@ -87,7 +87,7 @@ impl Player {
         let mut rest = s;
         while let Some((c, behind)) = calls::read_call(rest) {
             self.out.make_room(rt);
-            player_step::play(&mut self.engine, c, &mut self.memory, &mut self.out.text);
+            player_step::play_on(&mut self.engine, c, &mut self.memory, &mut self.out.text);
             rest = behind;
         }
         rest
@@ -106,11 +106,14 @@ impl Player {
     }
 }
 
-// Reads on behind the bytes that are kept, and answers how many more there are.
-fn read_more<I: Read>(from: &mut I, input: &mut ArrayVec<u8, INPUT>) -> io::Result<usize>
+// Reads on behind the bytes that are kept, and answers how many more there are. The chunk is lent: made here it would be cleared at each read.
+fn read_more<I: Read>(
+    from: &mut I,
+    input: &mut ArrayVec<u8, INPUT>,
+    chunk: &mut [u8; CHUNK],
+) -> io::Result<usize>
     ensures { take (length input.old.items) input.new.items ≡ input.old.items }
 {
-    let mut chunk = [0; CHUNK];
     let room = input.remaining_capacity().min(CHUNK);
     let n = from.read(&mut chunk[..room])?;
     input.write(&chunk[..n])
@@ -118,6 +121,7 @@ fn read_more<I: Read>(from: &mut I, input: &mut ArrayVec<u8, INPUT>) -> io::Resu
 
 fn run<R: Print, I: Read>(rt: &R, from: &mut I) -> Result<(), Failed> {
     let mut input = ArrayVec::new();
+    let mut chunk = [0; CHUNK];
     let mut player = Player {
         engine: engine_value::fresh(),
         memory: [0; MEMORY],
@@ -128,7 +132,7 @@ fn run<R: Print, I: Read>(rt: &R, from: &mut I) -> Result<(), Failed> {
     };
     // Nothing proves that an input ends, which a `while` would need: this counts to a number that no run reaches.
     for _ in 0..u64::MAX {
-        if read_more(from, &mut input).map_err(Failed::Reading)? == 0 {
+        if read_more(from, &mut input, &mut chunk).map_err(Failed::Reading)? == 0 {
             break;
         }
         player.play_input(rt, &mut input).map_err(Failed::Writing)?;

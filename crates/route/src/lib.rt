@@ -88,9 +88,9 @@ fn load_of(j: &Journey) -> Load
     Load {
         operational: j.head.operational,
         valid: true,
-        ending: journey_rows::ending_of(j.points.as_slice()) as u8,
-        point_count: j.points.len() as u8,
-        segment_count: j.names.len() as u8,
+        ending: journey_rows::ending_of(j.points()) as u8,
+        point_count: j.points().len() as u8,
+        segment_count: j.names().len() as u8,
     }
 }
 
@@ -100,7 +100,7 @@ struct Placings<'a> {
     journey: &'a Journey,
     book: &'a Book<'a>,
     segments: ArrayVec<Placed<'a>, MAX_SEGMENTS>,
-    ghost read: { PlacingRead (book_view book.now) journey.now.names.items segments.items },
+    ghost read: { PlacingRead (book_view book.now) (value_view journey.now).names segments.items },
 }
 
 impl<'a> Placings<'a> {
@@ -113,7 +113,7 @@ impl<'a> Placings<'a> {
     {
         let mut segments = ArrayVec::new();
         let mut start = Some(0);
-        let names = journey.names.as_slice();
+        let names = journey.names();
         for name in names {
             let entry = book::find(book, name.nidc, name.nidsp);
             let segment = segment_of(name, entry.and(start), entry);
@@ -133,7 +133,7 @@ impl<'a> Placings<'a> {
         ensures { judged result ≡ points_for (book_view self.now.book.now) (value_view self.now.journey.now) }
     {
         let j = self.journey;
-        let from = j.points.as_slice();
+        let from = j.points();
         if journey_rows::index_beyond(j)
             || journey_rows::nidtp_twice(from)
             || journey_rows::ends(from) != 1
@@ -151,7 +151,7 @@ impl<'a> Placings<'a> {
 
     // The array that a load brings. Not by `filled`: its cells are `Placed`, of which one field is kept.
     fn segments(&self) -> [Segment; MAX_SEGMENTS]
-        ensures { result ≡ filled max_segments blank_segment (segments_of (book_view self.now.book.now) self.now.journey.now.names.items) }
+        ensures { result ≡ filled max_segments blank_segment (segments_of (book_view self.now.book.now) (value_view self.now.journey.now).names) }
     {
         let placed = self.segments.as_slice();
         array::from_fn(|k| placed.get(k).copied().unwrap_or_default().segment)
@@ -168,7 +168,7 @@ impl<'a> Placings<'a> {
             return Err(Refusal::SegmentTwice);
         }
         let points = self.points()?;
-        let from = j.points.as_slice();
+        let from = j.points();
         if journey_rows::index_falls(from) || !journey_rows::places_rise(&points[..from.len()]) {
             return Err(Refusal::Order);
         }

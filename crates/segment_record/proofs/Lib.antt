@@ -2,3 +2,4 @@ pub mod Takes
 pub mod Behind
 pub mod Accepted
 pub mod Anchors
+pub mod AtLeast

@@ -3,7 +3,6 @@
 
 ghost use Rattle.std.specs.Prelude.{◌≡◌};
 ghost use Rattle.wire.specs.View.{judged};
-ghost use Rattle.event.specs.View.{kind_number};
 ghost use Rattle.state_codes.specs.Codes.{code, state_at, mode_at, lever_at};
 ghost use Rattle.state_codes.specs.Numbers.{power_rows, state_row, state_rows};
 
@@ -91,37 +90,46 @@ impl From<u8> for DriverLever {
 
 // ---- the places "power" and "state" of the table of numbers
 
+// By numbers: the rows answer of every number, also of one that is no kind's.
+const POWER_ON: u8 = EventKind::PowerOn as u8;
+
+const CONFIGURED: u8 = EventKind::Configured as u8;
+
+const POWER_OFF: u8 = EventKind::PowerOff as u8;
+
+const PRESS: u8 = EventKind::Press as u8;
+
 #[tactic(auto, unfolding(crate::specs::Numbers::power_rows))]
-fn power_rows(s: State, kind: EventKind) -> Result<(), Refusal>
-    ensures { judged result ≡ power_rows s (kind_number kind) }
+fn power_rows(s: State, kind: u8) -> Result<(), Refusal>
+    ensures { judged result ≡ power_rows s kind }
 {
     match (s, kind) {
-        (State::NP, EventKind::PowerOn) => Ok(()),
+        (State::NP, POWER_ON) => Ok(()),
         (State::NP, _) => Err(Refusal::NoPower),
-        (_, EventKind::PowerOn) => Err(Refusal::Powered),
-        (State::FA, EventKind::PowerOff) => Ok(()),
+        (_, POWER_ON) => Err(Refusal::Powered),
+        (State::FA, POWER_OFF) => Ok(()),
         (State::FA, _) => Err(Refusal::Fault),
         _ => Ok(()),
     }
 }
 
 #[tactic(auto, unfolding(crate::specs::Numbers::state_row))]
-fn state_row(s: State, kind: EventKind) -> Result<(), Refusal>
-    ensures { judged result ≡ state_row s (kind_number kind) }
+fn state_row(s: State, kind: u8) -> Result<(), Refusal>
+    ensures { judged result ≡ state_row s kind }
 {
     match (s, kind) {
-        (State::CO, EventKind::Configured) => Ok(()),
-        (_, EventKind::Configured) => Err(Refusal::State),
-        (State::RE, EventKind::Press) => Ok(()),
-        (_, EventKind::Press) => Err(Refusal::State),
+        (State::CO, CONFIGURED) => Ok(()),
+        (_, CONFIGURED) => Err(Refusal::State),
+        (State::RE, PRESS) => Ok(()),
+        (_, PRESS) => Err(Refusal::State),
         _ => Ok(()),
     }
 }
 
 // Both places, one after the other.
 #[tactic(auto, unfolding(crate::specs::Numbers::state_rows))]
-pub fn state_rows(s: State, kind: EventKind) -> Result<(), Refusal>
-    ensures { judged result ≡ state_rows s (kind_number kind) }
+pub fn state_rows(s: State, kind: u8) -> Result<(), Refusal>
+    ensures { judged result ≡ state_rows s kind }
 {
     power_rows(s, kind)?;
     state_row(s, kind)

@@ -37,7 +37,7 @@ const NO_SKIPS: [bool; MAX_POINTS] = [false; MAX_POINTS];
 
 // How far behind the front the aligned part of the train is: 0 front, 1 middle, 2 rear. The point has it by number (C layout), and an enum would be
 // made only to be matched here.
-fn back(length: u32, alignment: u8) -> u32
+pub fn back(length: u32, alignment: u8) -> u32
     ensures { result ≡ back length alignment }
 {
     match alignment {
@@ -47,30 +47,24 @@ fn back(length: u32, alignment: u8) -> u32
     }
 }
 
+// A stop that neither the trackside nor the driver skips.
+pub fn unskipped(p: Point, driver: bool) -> bool
+    ensures { result ≡ unskipped p driver }
+{
+    p.stop && !p.trackside && !driver
+}
+
+pub fn margin(p: Point, driver: bool) -> u32
+    ensures { result ≡ margin p driver }
+{
+    if unskipped(p, driver) { p.reach } else { 0 }
+}
+
 // A point of the journey, and whether the driver skips it.
 #[derive(Clone, Copy)]
 struct Skippable {
     point: Point,
     skipped: bool,
-}
-
-impl Skippable {
-    // A stop that neither the trackside nor the driver skips.
-    fn unskipped(&self) -> bool
-        ensures { result ≡ unskipped self.now.point self.now.skipped }
-    {
-        self.point.stop && !self.point.trackside && !self.skipped
-    }
-
-    fn margin(&self) -> u32
-        ensures { result ≡ margin self.now.point self.now.skipped }
-    {
-        if self.unskipped() {
-            self.point.reach
-        } else {
-            0
-        }
-    }
 }
 
 // A position report with the front where its position is known.
@@ -100,7 +94,7 @@ impl<'a> Located<'a> {
     fn exceeds(&self, p: &Skippable) -> bool
         ensures { result ≡ exceeds self.now.front.at self.now.report.length p.now.point p.now.skipped }
     {
-        self.distance(&p.point) > p.margin() as i64
+        self.distance(&p.point) > margin(p.point, p.skipped) as i64
     }
 
     // d > R
@@ -114,7 +108,7 @@ impl<'a> Located<'a> {
     fn stops_at(&self, p: &Skippable) -> bool
         ensures { result ≡ stops_at self.now.front.at self.now.report.length self.now.report.place.position.speed p.now.point p.now.skipped }
     {
-        p.unskipped()
+        unskipped(p.point, p.skipped)
             && self.report.place.position.speed == 0
             && self.distance(&p.point) >= -(p.point.reach as i64)
     }

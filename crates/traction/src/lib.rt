@@ -3,6 +3,7 @@
 
 ghost use Rattle.std.specs.Prelude.{◌≡◌};
 ghost use Rattle.event.specs.View.{event_view};
+ghost use Rattle.state_codes.specs.Codes.{state_at};
 ghost use Rattle.traction.specs.Ranges.{lowest, ranges, range_after, holds_at};
 ghost use Rattle.traction.specs.Requests.{requested, driving, made, forgets, remembered_after, changed, written_content};
 ghost use Rattle.traction.specs.View.{remembered_in, traction_of};
@@ -119,12 +120,13 @@ fn requested(m: Option<Remembered>, x: TractionRequest) -> Remembered
 }
 
 // What is remembered after an event in the state `before`, which led to `after`.
-pub fn traction_after(before: State, v: Event, after: State, t: Traction) -> Traction
-    ensures { result ≡ traction_of (remembered_after before (event_view v.entry) after (remembered_in t)) }
+pub fn traction_after(before: u8, v: Event, after: u8, t: Traction) -> Traction
+    ensures { result ≡ traction_of (remembered_after (state_at before) (event_view v.entry) (state_at after) (remembered_in t)) }
 {
+    let state = State::from(before);
     let m = remembered_in(t);
-    let kept = made(before, v).map(|x| requested(m, x)).or(m);
-    if forgets(before, v, after) {
+    let kept = made(state, v).map(|x| requested(m, x)).or(m);
+    if forgets(state, v, State::from(after)) {
         Traction::default()
     } else {
         traction_of(kept)
@@ -141,16 +143,11 @@ fn changed(before: Option<Remembered>, after: Option<Remembered>) -> bool
 }
 
 // The content of the packet 61 that an event in that state writes, if it does.
-pub fn content_written(
-    state: State,
-    v: Event,
-    before: Traction,
-    after: Traction,
-) -> Option<Requested>
-    ensures { result ≡ written_content state (event_view v.entry) (remembered_in before) (remembered_in after) }
+pub fn content_written(state: u8, v: Event, before: Traction, after: Traction) -> Option<Requested>
+    ensures { result ≡ written_content (state_at state) (event_view v.entry) (remembered_in before) (remembered_in after) }
 {
     if changed(remembered_in(before), remembered_in(after)) {
-        made(state, v).map(|x| x.content)
+        made(State::from(state), v).map(|x| x.content)
     } else {
         None
     }

@@ -41,6 +41,6 @@ pub fn write(e: &Engine, row: Refusal, out: &mut [u8]) -> usize
     if !row.turns_down() || out.len() < size {
         return 0;
     }
-    packet_writer::put_packet(jp_turned_down(e), out);
+    packet_writer::put_packet(jp_turned_down(e), out, 0);
     size
 }

@@ -1,7 +1,7 @@
 -- Laws of lists: tests over them, tables, and the tests for an order in the form of a loop that knows the element before.
 use Prim.Native.Nat.{ℕ, zero, suc, ◌+◌, ◌*◌, ◌≤◌, ◌<◌}
 use mathlib.Core.Path.{◌≡◌, refl, sym, ap, ◌∙◌}
-use mathlib.Core.List.{List, [], ◌∷◌, ◌++◌}
+use mathlib.Core.List.{List, [], ◌∷◌, ◌++◌, map}
 use mathlib.Core.Bool.{Bool, true, false, ◌&&◌, ◌||◌, and-true, and-false, and_assoc, false≢true}
 use native.Mathlib.Numerals.{add-one}
 use native.Mathlib.Omega.{arith}
@@ -33,11 +33,15 @@ pub any_false : {A : Type 0} (f : A → Bool) (l : List A) → any f l ≡ false
 any_false f [] e = tt
 any_false f (x ∷ xs) e = let h = or-false (f x) (any f xs) e in (h.0, any_false f xs h.1)
 
--- tests that agree on each element
+-- tests, or values, that agree on each element
 module _ {A : Type 0} (P : A → Type 0) where
   pub any_same : (f g : A → Bool) → ((a : A) → P a → f a ≡ g a) → (l : List A) → All P l → any f l ≡ any g l
   any_same f g h [] p = refl
   any_same f g h (x ∷ xs) p = rw (h x p.0, any_same f g h xs p.1)
+
+  pub map_same : {B : Type 0} (f g : A → B) → ((a : A) → P a → f a ≡ g a) → (l : List A) → All P l → map f l ≡ map g l
+  map_same f g h [] p = refl
+  map_same f g h (x ∷ xs) p = rw (h x p.0, map_same f g h xs p.1)
 
 pub every_append : {A : Type 0} (f : A → Bool) (xs : List A) (y : A) → every f (xs ++ (y ∷ [])) ≡ (every f xs && f y)
 every_append f xs y = rw (list_all-append, and-true (f y))

@@ -50,7 +50,7 @@ returns-in_err-f-in-Skip c =
     let o = occurs (goal.at.returns-in_err-f-in-Skip c).After-role in
     let role = c.in-Skip.ensures.role in
     refused_by a.e.now k c.from_residual-in_err-f-in-Skip.result c.in_err-f-in-Skip.field-0.0 (search rules)
-    (no_effect a.e.now k c.new-o.result o (skip c.in-Skip.nidtp c.in-Skip.on) role _ (c.in_err-f-in-Skip.ensures.effect c.in-Skip.nidtp (sym role)))
+    (no_effect a.e.now k c.new-o.result o (skip c.in-Skip.nidtp c.in-Skip.on) role _ (c.in_err-f-in-Skip.ensures.effect c.in-Skip.nidtp c.in-Skip.on (sym role)))
 
 pub returns-in-Load : goal.returns-in-Load
 returns-in-Load c =
@@ -78,8 +78,8 @@ judged c o =
       )
       | in-Skip+in_ok-f-in-Skip w ↦
           let role = w.in-Skip.ensures.role in (
-            subst (λ f. Beside v.engine.now f) (sym w.f-is) (w.in_ok-f-in-Skip.ensures.beside w.in-Skip.nidtp (sym role)),
-            has_effect e k v o (skip w.in-Skip.nidtp w.in-Skip.on) role (effect_view f) (ap accept (ap effect_view w.f-is) ∙ w.in_ok-f-in-Skip.ensures.effect w.in-Skip.nidtp (sym role)),
+            subst (λ f. Beside v.engine.now f) (sym w.f-is) (w.in_ok-f-in-Skip.ensures.beside w.in-Skip.nidtp w.in-Skip.on (sym role)),
+            has_effect e k v o (skip w.in-Skip.nidtp w.in-Skip.on) role (effect_view f) (ap accept (ap effect_view w.f-is) ∙ w.in_ok-f-in-Skip.ensures.effect w.in-Skip.nidtp w.in-Skip.on (sym role)),
           )
       | in-Other w ↦ (
         subst (λ f. Beside v.engine.now f) (sym w.f-is) (w.values-f.ensures.beside (sym w.in-Other.ensures.role)),

@@ -43,7 +43,7 @@ judged c memory r k =
     let due = c.status_due-due.ensures ∙ ap₂ status_due c.status_in.ensures (ap status_view c.status.ensures) in
     by_room e (event_view o.event) memory f (judgement c) refl k shows
     (c.conditions_of-conditions.ensures ∙ ap (λ l. conditions_of (map flag (nine l f.inputs.reports f.after (standing f.progress)))) c.load.ensures)
-    (c.control_after-control.ensures ∙ ap (λ b. control_after f.inputs f.control (event_view o.event) b shows) c.is_some.ensures) (rw (c.from-state.ensures, c.from-after.ensures) at c.traction_after-traction.ensures) refl refl refl (rw c.from-state.ensures at c.content_written.ensures) c.constraints.ensures c.rows_shown-shown.ensures
+    (c.control_after-control.ensures ∙ ap (λ b. control_after f.inputs f.control (event_view o.event) b shows) c.is_some.ensures) c.traction_after-traction.ensures refl refl refl c.content_written.ensures c.constraints.ensures c.rows_shown-shown.ensures
     (c.then_some.ensures ∙ ap (λ d. then_some d shows) due) c.args.room c.size-size.result r (c.size-size.ensures (engine_after e (judgement c)))
 
 pub returns-then-room-size-clause-step : goal.returns-then-room-size-clause-step

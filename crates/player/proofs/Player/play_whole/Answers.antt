@@ -8,4 +8,4 @@ loop-c-preserved g c =
     let l = c.loop-c in
     let (k, f, e, d) = l.invariant in
     let (j, fewer, q) = run-next k l.self.engine l.self.memory _ _ _ (sym c.in-Some.ensures) f in
-    (j, fewer, rw (c.play.ensures.engine, c.play.ensures.output) (q ∙ e), end-next _ l.rest.now _ _ d (sym c.in-Some.ensures))
+    (j, fewer, rw (c.play_on.ensures.engine, c.play_on.ensures.output) (q ∙ e), end-next _ l.rest.now _ _ d (sym c.in-Some.ensures))

@@ -12,14 +12,14 @@ returns-in_err-points c =
     let p = err_from_is_err_and c.from_residual.result c.from_residual.ensures.1 in
     rw (p.1, p.2) (sym (eleven_refuses (book_view s.book.now) (value_view s.journey.now) _ (sym c.name_twice.ensures ∙ c.if-name_twice.false) (sym c.in_err-points.ensures)))
 
-most : (c : After-index_falls) → length c.args.self.now.journey.now.points.items ≤ 64
-most c = omega (arith, ap length c.as_slice-from.ensures.value, c.as_slice-from.ensures.fits)
+most : (c : After-index_falls) → length (value_view c.args.self.now.journey.now).points ≤ 64
+most c = omega (arith, ap length c.points-from.ensures.value, c.points-from.ensures.fits)
 
 pub returns-then-index_falls : goal.returns-then-index_falls
 returns-then-index_falls c =
     let o = (goal.at.returns-then-index_falls c).After-index_falls in
     let s = c.args.self.now in
-    let same = c.as_slice-from.ensures.value in
+    let same = c.points-from.ensures.value in
     let a = sym c.name_twice.ensures ∙ c.if-name_twice.false in
     elim c.then-index_falls.branch [
       | then-index_falls-via-then-index_falls w ↦
@@ -33,6 +33,6 @@ pub returns : goal.returns
 returns c =
     let o = (goal.at.returns c).After-index_falls in
     let s = c.args.self.now in
-    let same = c.as_slice-from.ensures.value in
+    let same = c.points-from.ensures.value in
     sym (loads (book_view s.book.now) (value_view s.journey.now) _ (sym c.name_twice.ensures ∙ c.if-name_twice.false) (sym c.in_ok-points.ensures) (most o) _ _
     (rw same at (sym c.index_falls.ensures ∙ c.if-index_falls.false)) (rw same at (sym c.places_rise.ensures ∙ c.if-not-places_rise.false)) c.load_of.ensures c.segments.ensures)
