@@ -10,6 +10,9 @@ ghost use Rattle.fields.specs.View.{parsed, parsed_by};
 use arrayvec::ArrayVec;
 use wire::{Number, bit};
 
+#[cfg(test)]
+mod tests;
+
 // The bits of one list stand, those of another do not.
 fn map_fits(map: u8, standing: &[u8], clear: &[u8]) -> bool
     ensures { result ≡ map_fits standing.now clear.now map }
@@ -37,9 +40,28 @@ pub fn read_field<N: Number>(s: &[u8], low: u32, high: u32) -> Option<(N, &[u8])
     (low..=high).contains(&n.into()).then_some((n, rest))
 }
 
-// The same where its bit stands; where not, the value that an absent field means, whatever number that is.
-#[tactic(auto, unfolding(crate::specs::Parse::optional, crate::specs::Parse::field))]
+// The same where its bit stands; where not, the value that an absent field means, a number of the field's width.
+#[tactic(auto, unfolding(crate::specs::Parse::optional))]
 pub fn read_optional<N: Number>(
+    s: &[u8],
+    present: bool,
+    other: N,
+    low: u32,
+    high: u32,
+) -> Option<(N, &[u8])>
+    ensures { parsed_by N.value result ≡ optional present (N.value other) (field N.WIDTH low high) s.now }
+{
+    let absent = (other, s);
+    if present {
+        read_field(s, low, high)
+    } else {
+        Some(absent)
+    }
+}
+
+// The same for an absent value of any number of four bytes, as which the value that was read is answered, too.
+#[tactic(auto, unfolding(crate::specs::Parse::optional, crate::specs::Parse::field))]
+pub fn read_optional_wide<N: Number>(
     s: &[u8],
     present: bool,
     other: u32,

@@ -10,7 +10,7 @@ ghost use Rattle.journey.specs.View.{value_view};
 
 use arrayvec::ArrayVec;
 use engine_value::{MAX_NIDC, MAX_NIDTP, MAX_POINTS, MAX_SEGMENTS, NO_OPERATIONAL};
-use fields::{Bears, Item, read_counted, read_field, read_map, read_optional};
+use fields::{Bears, Item, read_counted, read_field, read_map, read_optional_wide};
 use wire::{Refusal, bit};
 
 // "date (2, 0-32,767)"
@@ -135,8 +135,8 @@ impl Item for JourneyPoint {
         }
         let (nidtp, s) = read_field(s, 0, MAX_NIDTP)?;
         let (index, s) = read_field(s, 0, 255)?;
-        let (alignment, s) = read_optional::<u8>(s, bit(map, 2), FRONT, 0, MAX_ALIGNMENT)?;
-        let (stopping, s) = read_optional::<u8>(s, bit(map, 3), 0, 0, MAX_STOPPING)?;
+        let (alignment, s) = read_optional_wide::<u8>(s, bit(map, 2), FRONT, 0, MAX_ALIGNMENT)?;
+        let (stopping, s) = read_optional_wide::<u8>(s, bit(map, 3), 0, 0, MAX_STOPPING)?;
         let point = JourneyPoint {
             nidtp,
             index,
@@ -157,11 +157,11 @@ fn read_head(s: &[u8]) -> Option<(Head, &[u8])>
     ensures { parsed result ≡ head_record s.now }
 {
     let (map, s) = read_map(s, &[1, 3, 4], &[5, 6, 7])?;
-    let (operational, s) = read_optional::<u32>(s, bit(map, 0), NO_OPERATIONAL, 0, u32::MAX)?;
+    let (operational, s) = read_optional_wide::<u32>(s, bit(map, 0), NO_OPERATIONAL, 0, u32::MAX)?;
     let (date, s) = read_field(s, 0, MAX_DATE)?;
     let (seconds, s) = read_field(s, 0, u32::MAX)?;
     let (counter, s) = read_field(s, 0, 255)?;
-    let (atots, s) = read_optional::<u16>(s, bit(map, 2), NO_ATOTS as u32, 0, MAX_ATOTS)?;
+    let (atots, s) = read_optional_wide::<u16>(s, bit(map, 2), NO_ATOTS as u32, 0, MAX_ATOTS)?;
     let head = Head {
         operational,
         date,
