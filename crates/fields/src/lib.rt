@@ -1,5 +1,5 @@
-// Fields of layouts: numbers of a width that stand within their range, maps of bits, optional fields, lists. Each reader takes the
-// front of a slice, and answers the value and the bytes behind it, or nothing.
+// Fields of layouts: numbers of a width that stand within their range, maps of bits, optional fields, lists. Each
+// reader takes the front of a slice, and answers the value and the bytes behind it, or nothing.
 #![tactic(auto)]
 
 ghost use Rattle.std.specs.Prelude.{◌≡◌, ◌≤◌, min, max, IfSome};
@@ -29,8 +29,8 @@ pub fn read_map<'a>(s: &'a [u8], standing: &[u8], clear: &[u8]) -> Option<(u8, &
     map_fits(map, standing, clear).then_some((map, s))
 }
 
-// A number within its range. Its bounds are two numbers: a `RangeInclusive` that was iterated to its end no longer contains that end, and no
-// type keeps such a one out.
+// A number within its range. Its bounds are two numbers: a `RangeInclusive` that was iterated to its end no longer
+// contains that end, and no type keeps such a one out.
 #[tactic(auto, using(std::proofs::lemmas::Map::Keys::le_from_is_le), unfolding(crate::specs::Parse::field))]
 pub fn read_field<N: Number>(s: &[u8], low: u32, high: u32) -> Option<(N, &[u8])>
     ensures { parsed_by N.value result ≡ field N.WIDTH low high s.now }
@@ -40,7 +40,7 @@ pub fn read_field<N: Number>(s: &[u8], low: u32, high: u32) -> Option<(N, &[u8])
     (low..=high).contains(&n.into()).then_some((n, rest))
 }
 
-// The same where its bit stands; where not, the value that an absent field means, a number of the field's width.
+// The same where its bit stands; where not, the value that an absent field means, a number of the field's own width.
 #[tactic(auto, unfolding(crate::specs::Parse::optional))]
 pub fn read_optional<N: Number>(
     s: &[u8],
@@ -59,7 +59,7 @@ pub fn read_optional<N: Number>(
     }
 }
 
-// The same for an absent value of any number of four bytes, as which the value that was read is answered, too.
+// The same where an absent field may mean a number too wide for the field: both values are answered in four bytes.
 #[tactic(auto, unfolding(crate::specs::Parse::optional, crate::specs::Parse::field))]
 pub fn read_optional_wide<N: Number>(
     s: &[u8],

@@ -21,7 +21,8 @@ const MAX_ATOTS: u32 = 16383;
 
 pub const NO_ATOTS: u16 = 16384;
 
-// "alignment (1: 0 front, 1 middle, 2 rear; absent means 0)". A byte, as the engine's C layout has it: an enum would be made here and unmade there.
+// "alignment (1: 0 front, 1 middle, 2 rear; absent means 0)". A point has it as a byte, as the engine's C layout does:
+// an enum would be made here and unmade there.
 const FRONT: u32 = 0;
 
 const MAX_ALIGNMENT: u32 = 2;
@@ -59,7 +60,8 @@ pub struct Head {
     pub atots: u16,
 }
 
-// A journey that was read: a value that can be copied, which it could not be with an ArrayVec in it. Behind the counts stand blanks.
+// A journey that was read: a value that can be copied, which it could not be with an ArrayVec in it. Behind the counts
+// stand blanks.
 #[derive(Clone, Copy)]
 pub struct Journey {
     pub names: [Name; MAX_SEGMENTS],
@@ -205,7 +207,8 @@ fn read_whole(s: &[u8]) -> Option<(Journey, &[u8])>
     Some((journey_of(head, &names, &points), s))
 }
 
-// A journey to the last byte of the slice. `inline(never)`, as at each step of a load: they take the same stack in turn.
+// A journey to the last byte of the slice. `inline(never)`, as at each step of a load: they take the same stack in
+// turn.
 #[inline(never)]
 pub fn read_journey(s: &[u8]) -> Result<Journey, Refusal>
     ensures { judged_by value_view result ≡ journey_value s.now }
